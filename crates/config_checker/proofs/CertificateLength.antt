@@ -1,29 +1,16 @@
 -- How long the text of a certificate is.
-use Rattle.std.proofs.Common.{◌≡◌, ℕ, ◌+◌, ◌*◌, ◌≤◌, ◌^◌, List, [], ◌∷◌, ◌++◌, length, get_or, Ok, sym, ap, ◌∙◌, subst, arith, codes}
-use Rattle.std.specs.List.{All, zip}
-use Rattle.std.specs.Fmt.{decimal}
-use Rattle.std.proofs.lemmas.Fmt.{length-decimal-le}
-use Rattle.std.proofs.lemmas.List.{length-append, length-map}
-use Rattle.std.proofs.lemmas.List.Concat.{length-flat_map}
-use Rattle.std.proofs.lemmas.List.Sums.{sum_by-le}
-use Rattle.std.proofs.lemmas.Slice.Zip.{firsts-zip, seconds-zip}
-use Rattle.mpf_config.specs.Rows.{Rows}
-use Rattle.mpf_config.specs.Reading.{rows_at}
-use Rattle.mpf_config.proofs.RowNames.{rows_are_named, modes_are_named}
-use Rattle.mpf_config.proofs.ShortRows.{rows_are_short, rows_are_few}
-use Rattle.plan_tables.specs.PlanView.{PlanView}
-use Rattle.plan_tables.specs.declared.table.Table.TheVariants.{Switches}
-use Rattle.plan_tables.specs.Limits.{entry_names}
-use Rattle.cascade_rank.specs.Events.{weight_of}
-use Rattle.cascade_rank.specs.Weights.{greatest, switch_costs}
-use Rattle.written_machine.specs.CheckedView.{CheckedView}
-use Rattle.written_machine.specs.Accepted.{IsAccepted}
+use Rattle.std.proofs.Common.{rules, ◌≡◌, ℕ, ◌+◌, ◌*◌, ◌≤◌, ◌^◌, List, [], ◌∷◌, ◌++◌, length, get_or, Ok, sym, ap, ◌∙◌, subst, arith, codes}
+use Rattle.std.specs.{List.{All, zip}, Fmt.decimal}
+use Rattle.std.proofs.lemmas.{Fmt.length-decimal-le, Slice.Zip.{firsts-zip, seconds-zip}}
+use Rattle.std.proofs.lemmas.List.{length-append, length-map, Concat.length-flat_map, Sums.sum_by-le}
+use Rattle.mpf_config.specs.{Rows.Rows, Reading.rows_at}
+use Rattle.mpf_config.proofs.{RowNames.{rows_are_named, modes_are_named}, ShortRows.{rows_are_short, rows_are_few}}
+use Rattle.plan_tables.specs.{PlanView.PlanView, declared.table.Table.TheVariants.Switches, Limits.entry_names}
+use Rattle.cascade_rank.specs.{Events.weight_of, Weights.{greatest, switch_costs}}
+use Rattle.written_machine.specs.{CheckedView.CheckedView, Accepted.IsAccepted}
 use Rattle.config_checker.specs.CertificateText.{Numbered, numbered_line, numbered_lines, bound_line, certificate_text}
-use Rattle.config_checker.specs.Checking.{checked_at}
-use Rattle.config_checker.proofs.Names.{all_seen}
-use Rattle.config_checker.proofs.CertificateMeaning.{length-names, costs_counted}
-use Rattle.config_checker.proofs.EventWords.{events_are_few}
-use Rattle.config_checker.proofs.SwitchWords.{switches_are_few}
+use Rattle.config_checker.{specs.Checking.checked_at, proofs.CertificateMeaning.{length-names, costs_counted}}
+use Rattle.config_checker.proofs.{Names.all_seen, EventWords.events_are_few, SwitchWords.switches_are_few}
 use Rattle.config_checker.proofs.ReadBack.{costs_within, found_is_accepted, found-plan}
 
 -- a number of a certificate has at most six digits
@@ -32,21 +19,10 @@ digits-few n low = length-decimal-le 6 n (omega arith) (omega (arith, low)) (ome
 
 -- so a line with a word of six bytes, for a name of at most so many, has at most fifteen more than the name
 line-few : (word : List ℕ) (most : ℕ) (s : List ℕ × ℕ) → length word ≤ 6 → length s.0 ≤ most → s.1 ≤ greatest → length (numbered_line word s) ≤ most + 15
-line-few word most s short few low =
-    let digits = digits-few s.1 low in
-    let begun = length-append word (codes " ") in
-    let named = length-append (word ++ codes " ") s.0 in
-    let parted = length-append (word ++ codes " " ++ s.0) (codes " ") in
-    let weighed = length-append (word ++ codes " " ++ s.0 ++ codes " ") (decimal s.1) in
-    let ended = length-append (word ++ codes " " ++ s.0 ++ codes " " ++ decimal s.1) (10 ∷ []) in
-    omega (arith, short, few, digits, begun, named, parted, weighed, ended)
+line-few word most s short few low = search (rules, digits-few, length-append)
 
 bound-few : (bound : ℕ) → bound ≤ greatest → length (bound_line bound) ≤ 13
-bound-few bound low =
-    let digits = digits-few bound low in
-    let stated = length-append (codes "bound ") (decimal bound) in
-    let ended = length-append (codes "bound " ++ decimal bound) (10 ∷ []) in
-    omega (arith, digits, stated, ended)
+bound-few bound low = search (rules, digits-few, length-append)
 
 lines-few : (word : List ℕ) (most : ℕ) (names : List (List ℕ)) (numbers : List ℕ) → length word ≤ 6 → length numbers ≡ length names → All (λ name. length name ≤ most) names → All (λ n. n ≤ greatest) numbers
     → length (numbered_lines word (zip names numbers)) ≤ length names * (most + 15)

@@ -1,15 +1,11 @@
 -- What the first line of a text says, and what it leaves.
-use Rattle.std.proofs.Common.{◌≡◌, ℕ, ◌+◌, ◌-◌, ◌<◌, ◌≤◌, ◌==◌, nat_lt, Bool, true, false, cond, Option, Some, None, Err, List, [], ◌∷◌, ◌++◌, length, take, drop, position, codes, refl, sym, ap, subst, ◌∙◌, append_assoc, length-append, ◌&&◌, arith}
-use Rattle.std.specs.List.{position_or_len, join_with_byte, list_all}
-use Rattle.std.specs.Str.{bytes_eq}
-use Rattle.std.proofs.lemmas.Bool.{cond-true, ltb-true, ltb-false, ne_eqb}
-use Rattle.std.proofs.lemmas.List.{take_all, length-drop, append-nil}
+use Rattle.std.proofs.Common.{rules, ◌≡◌, ℕ, ◌+◌, ◌-◌, ◌<◌, ◌≤◌, ◌==◌, nat_lt, Bool, true, false, cond, Option, Some, None, Err, List, [], ◌∷◌, ◌++◌, length, take, drop, position, codes, refl, sym, ap, ◌∙◌, append_assoc, length-append, ◌&&◌, arith}
+use Rattle.std.specs.{List.{position_or_len, join_with_byte, list_all}, Str.bytes_eq}
+use Rattle.std.proofs.lemmas.{Bool.{cond-true, ltb-true, ltb-false, ne_eqb}, Option.cond_some}
+use Rattle.std.proofs.lemmas.List.{take_all, length-drop, append-nil, Sums.fails_before_first}
 use Rattle.std.proofs.lemmas.List.Splits.{slice_split_first, slice_split_none, length-slice_split, join_with_byte-slice_split}
-use Rattle.std.proofs.lemmas.List.Sums.{fails_before_first}
-use Rattle.std.proofs.lemmas.Option.{cond_some}
-use Rattle.config_checker.specs.CertificateText.{Numbered}
+use Rattle.config_checker.{specs.CertificateText.Numbered, proofs.Numerals.{no_number, not_in_digits}}
 use Rattle.config_checker.specs.CertificateOf.{is_in_word, number_in, parts, has_switches, bound_by, bound_in, named, numbered_by, numbered_in, with_line, front, is_end, with_bound, bound_at, with_heading, heading_at, certificate_at}
-use Rattle.config_checker.proofs.Numerals.{no_number, not_in_digits}
 
 -- ---- where a text is cut
 
@@ -18,12 +14,7 @@ module _ (end : ℕ) (text : List ℕ) where
   some_parts = omega (arith, length-slice_split (λ b. b == end) text)
 
   pub cut_at : (place : ℕ) → position (λ b. b == end) text ≡ Some place → parts end text ≡ take place text ∷ parts end (take (length text - (place + 1)) (drop (place + 1) text))
-  cut_at place h =
-      let first : ℕ = position_or_len (λ b. b == end) text in
-      let both = cond_some (nat_lt first (length text)) first place h in
-      let rest : take (length text - (place + 1)) (drop (place + 1) text) ≡ drop (place + 1) text = take_all (length text - (place + 1)) (drop (place + 1) text) (omega (arith, length-drop (place + 1) text)) in
-      subst (λ k. parts end text ≡ take k text ∷ parts end (drop (k + 1) text)) both.1 (slice_split_first (λ b. b == end) text 0 (ltb-true first (length text) both.0))
-      ∙ ap (λ (xs : List ℕ). take place text ∷ parts end xs) (sym rest)
+  cut_at place h = search (rules, cond_some, nat_lt, take_all, length-drop, slice_split_first, ltb-true)
 
   pub not_cut : position (λ b. b == end) text ≡ None → parts end text ≡ text ∷ []
   not_cut h =
@@ -31,22 +22,18 @@ module _ (end : ℕ) (text : List ℕ) where
       slice_split_none (λ b. b == end) text (λ i d l. fails_before_first (λ b. b == end) text i d (omega (arith, past)))
     where
       cond_none : (t : Bool) (n : ℕ) → cond t (Some n) None ≡ None → t ≡ false
-      cond_none true n h = cc
-      cond_none false n h = refl
+      cond_none x1 n h = search rules
 
 -- ---- lines
 
 heading-more : (line : List ℕ) (ps : List (List ℕ)) → 0 < length ps → heading_at (line ∷ ps) ≡ with_heading (has_switches line) ps
-heading-more line [] h = absurd (omega arith)
-heading-more line (next ∷ more) h = refl
+heading-more line x2 h = search rules
 
 bound-more : (version : Bool) (line : List ℕ) (ps : List (List ℕ)) → 0 < length ps → bound_at version (line ∷ ps) ≡ with_bound version (bound_in line) ps
-bound-more version line [] h = absurd (omega arith)
-bound-more version line (next ∷ more) h = refl
+bound-more version line x3 h = search rules
 
 front-more : (word line : List ℕ) (ps : List (List ℕ)) → 0 < length ps → front word (line ∷ ps) ≡ with_line (numbered_in word line) (line ∷ ps) (front word ps)
-front-more word line [] h = absurd (omega arith)
-front-more word line (next ∷ more) h = refl
+front-more word line x3 h = search rules
 
 module _ (text : List ℕ) (whole : parts 10 text ≡ text ∷ []) where
   pub no_heading : certificate_at text ≡ Err 1
@@ -65,25 +52,19 @@ module _ (text line rest : List ℕ) (first : parts 10 text ≡ line ∷ parts 1
   bound_first version = ap (bound_at version) first ∙ bound-more version line (parts 10 rest) (some_parts 10 rest)
 
   pub front_first : (word : List ℕ) → front word (parts 10 text) ≡ with_line (numbered_in word line) (parts 10 text) (front word (parts 10 rest))
-  front_first word =
-      ap (front word) first ∙ front-more word line (parts 10 rest) (some_parts 10 rest)
-      ∙ ap (λ (ps : List (List ℕ)). with_line (numbered_in word line) ps (front word (parts 10 rest))) (sym first)
+  front_first word = search (rules, front-more, some_parts)
 
 -- ---- words
 
 none_anyway : {A : Type 0} (t : Bool) → cond {A = Option A} t None None ≡ None
-none_anyway true = refl
-none_anyway false = refl
+none_anyway x1 = search rules
 
 only : (text last : List ℕ) → parts 32 text ≡ last ∷ [] → last ≡ text
 only text last e = sym (ap (join_with_byte 32) e) ∙ join_with_byte-slice_split 32 text
 
 -- a number has no blank in it
 no_number_with_blank : (word a b : List ℕ) (more : List (List ℕ)) → parts 32 word ≡ a ∷ b ∷ more → number_in word ≡ None
-no_number_with_blank word a b more e =
-    no_number word (λ n s.
-    let same = ap length (sym e ∙ slice_split_none (λ b. b == 32) word (not_in_digits 32 refl word s.number.digits)) in
-    omega (arith, same))
+no_number_with_blank word a b more e = search (rules, no_number, slice_split_none, not_in_digits)
 
 module _ (word number : List ℕ) where
   abbrev bound_of_words : Option ℕ → Option ℕ
@@ -153,6 +134,4 @@ ends_where_empty [] = refl
 ends_where_empty (b ∷ bs) = by (parts 10 (b ∷ bs)) (join_with_byte-slice_split 10 (b ∷ bs)) ∙ sym (ne_eqb (length (b ∷ bs)) 0 (λ e. omega arith))
   where
     by : (ps : List (List ℕ)) → join_with_byte 10 ps ≡ b ∷ bs → is_end ps ≡ false
-    by [] e = refl
-    by (last ∷ []) e = ne_eqb (length last) 0 (λ none. omega (arith, none, ap length e))
-    by (x ∷ y ∷ more) e = refl
+    by x1 e = search (rules, ne_eqb)

@@ -1,28 +1,20 @@
 -- What a certificate is judged to be for a plan, case by case.
-use Rattle.std.proofs.Common.{◌≡◌, ◌≢◌, ℕ, zero, suc, ◌<◌, ◌==◌, Bool, true, false, cond, List, [], ◌∷◌, length, get_or, Option, Some, None, IfSome, option_map, Vec, Global, Result, Ok, Err, inl, inr, refl, sym, ap, subst, ◌∙◌, true≢false, arith}
-use Rattle.std.specs.List.{zip}
-use Rattle.std.proofs.lemmas.Bool.{cond-true, cond-false, eqb-true, eqb-false, eq-eqb, ne_eqb}
-use Rattle.std.proofs.lemmas.List.{length-map, get_or-map}
-use Rattle.std.proofs.lemmas.Slice.Zip.{firsts-zip, seconds-zip}
-use Rattle.plan_tables.specs.PlanView.{PlanView, switch_at, no_switch}
+use Rattle.std.proofs.Common.{rules, ◌≡◌, ◌≢◌, ℕ, zero, suc, ◌<◌, ◌==◌, Bool, true, false, cond, List, [], ◌∷◌, length, get_or, Option, Some, None, IfSome, option_map, Vec, Global, Result, Ok, Err, refl, sym, ap, subst, ◌∙◌, true≢false, arith}
+use Rattle.std.{specs.List.zip, proofs.lemmas.Bool.{cond-true, cond-false, eqb-true, eqb-false, eq-eqb, ne_eqb}}
+use Rattle.std.proofs.lemmas.{List.{length-map, get_or-map}, Slice.Zip.{firsts-zip, seconds-zip}}
+use Rattle.plan_tables.specs.{PlanView.{PlanView, switch_at, no_switch}, Limits.entry_names}
 use Rattle.plan_tables.specs.declared.table.Table.TheVariants.{Switches}
-use Rattle.plan_tables.specs.Limits.{entry_names}
-use Rattle.cascade_rank.specs.Events.{weight_of}
-use Rattle.cascade_rank.specs.Cost.{switches_of}
-use Rattle.cascade_rank.specs.Weights.{switch_cost, switch_costs}
-use Rattle.cascade_rank.specs.Finding.{RankView, verified_at}
+use Rattle.cascade_rank.specs.{Events.weight_of, Cost.switches_of, Finding.{RankView, verified_at}}
+use Rattle.cascade_rank.specs.{Weights.{switch_cost, switch_costs}, Verified.{IsVerified, IsUnverified}}
 use Rattle.cascade_rank.specs.Finding as ranks
-use Rattle.cascade_rank.specs.Verified.{IsVerified, IsUnverified}
 use Rattle.cascade_rank.proofs.Switches.{length-switches, switch_of}
 use Rattle.cascade_rank.proofs.Verifying.{IsVerified-from_verified_at, IsUnverified-from_verified_at, verified_at-bound}
 use Rattle.written_machine.specs.CheckedView.{CheckedView}
-use Rattle.config_checker.specs.CertificateText.{Numbered, Certificate, text_of, certificate_of, certificate_text, IsCertificateText}
-use Rattle.config_checker.specs.CertificateOf.{IsTextOf, certificate_at}
-use Rattle.config_checker.specs.declared.certificate_reader.CertificateLines.{CertificateLines}
-use Rattle.config_checker.specs.declared.certificate_reader.Line.{Line}
-use Rattle.config_checker.specs.CertificateRead.{line_view, lines_view, certificate_lines_view}
+use Rattle.config_checker.specs.CertificateText.{Numbered, Certificate, certificate_of, certificate_text, IsCertificateText}
+use Rattle.config_checker.specs.{CertificateOf.{IsTextOf, certificate_at}, Certified.judged}
+use Rattle.config_checker.specs.declared.certificate_reader.{CertificateLines.CertificateLines, Line.Line}
+use Rattle.config_checker.specs.CertificateRead.{lines_view, certificate_lines_view}
 use Rattle.config_checker.specs.Checking.{CertificateFaultView, bad_line, other_events, other_switches, other_bound, FaultView, row, limit, cycle, bound, certificate, same_names, names_of, numbers_of, named_fault, other_names, wrong_names, first_other, wrong_cost, costed, bounded, named_as, certified, certified_plan, reported_alone}
-use Rattle.config_checker.specs.Certified.{judged}
 use Rattle.config_checker.specs.Refused.{HasItsSwitches, IsCertificateOf, HasOtherEvents, HasOtherSwitches, HasOtherCost, HasTooMuch, IsCertificateFault}
 use Rattle.config_checker.proofs.Certificates.{read-is_text, text-is_read}
 use Rattle.config_checker.proofs.Names.{same_names-is, same_names-self, zip-parts, parts-length}
@@ -86,8 +78,7 @@ first_other-none (x ∷ all) [] count e = absurd (omega (arith, count))
 first_other-none (x ∷ all) (right ∷ rights) count e = by (x.1 == right) refl (first_other-none all rights (omega (arith, count))) e
   where
     by : (t : Bool) → (x.1 == right) ≡ t → (first_other all rights ≡ None → numbers_of all ≡ rights) → cond t (first_other all rights) (Some (x.0, right)) ≡ None → x.1 ∷ numbers_of all ≡ right ∷ rights
-    by true same more e = ap (λ (n : ℕ). n ∷ numbers_of all) (eqb-true x.1 right same) ∙ ap (λ (ns : List ℕ). right ∷ ns) (more e)
-    by false differ more e = absurd cc
+    by x1 x2 more e = search (rules, eqb-true)
 
 -- where all before a place are right, and the one there is not, it is found
 pub first_other-at : (all : Numbered) (rights : List ℕ) (k : ℕ) → k < length all → k < length rights → ((n : ℕ) → n < k → get_or (numbers_of all) n 0 ≡ get_or rights n 0) → get_or (numbers_of all) k 0 ≢ get_or rights k 0
@@ -147,8 +138,7 @@ pub switches_counted : (plan : PlanView) (lines : CertificateLines) → wrong_na
 switches_counted plan lines is = by lines.switches (names-right plan (certificate_lines_view lines) is).1
   where
     by : (o : Option (Vec Line Global)) → HasItsSwitches plan (option_map (λ v. lines_view v.items) o) → IfSome o (λ v. length v.items ≡ length plan.switches)
-    by None named = tt
-    by (Some v) named = sym (length-map v.items line_view) ∙ as_many plan (lines_view v.items) named
+    by x1 named = search (rules, length-map, as_many)
 
 -- ---- what it means
 
@@ -171,11 +161,7 @@ module _ (plan : PlanView) (text : List ℕ) where
     text_is = read-is_text text c read
 
     other_events-there : same_names plan.events (names_of c.events) ≡ false → HasOtherEvents plan text
-    other_events-there other = record {
-      certificate = c;
-      text_is = text_is;
-      other = λ same. true≢false (sym (same_names-self plan.events) ∙ ap (same_names plan.events) (sym same) ∙ other);
-    }
+    other_events-there other = search (rules, other, text_is, same_names-self)
 
     other_switches-there : (switches : Numbered) → c.switches ≡ Some switches → same_names plan.events (names_of c.events) ≡ true → same_names (entry_names plan Switches) (names_of switches) ≡ false → HasOtherSwitches plan text
     other_switches-there switches stated events other = record {
@@ -218,12 +204,7 @@ module _ (plan : PlanView) (text : List ℕ) where
           events_are = sym (zip-parts c.events) ∙ ap (λ (names : List (List ℕ)). zip names weights) of_plan.events
 
           by : (o : Option Numbered) → c.switches ≡ o → HasItsSwitches plan o → wrong_cost plan weights o ≡ None → IsCertificateText (record { plan = plan; weights = weights; bound = c.bound }) text
-          by None stated named e = inr (text_is.1 ∙ ap text_of (λ i. record { bound = c.bound; switches = stated i; events = events_are i }))
-          by (Some switches) stated named e =
-              let costs : numbers_of switches ≡ switch_costs plan (weight_of weights) = first_other-none switches (switch_costs plan (weight_of weights)) (as_many plan switches named ∙ sym (length-costs plan weights)) e in
-              let switches_are : switches ≡ zip (entry_names plan Switches) (switch_costs plan (weight_of weights)) =
-              sym (zip-parts switches) ∙ ap (λ (names : List (List ℕ)). zip names (numbers_of switches)) named ∙ ap (zip (entry_names plan Switches)) costs in
-              inl (text_is.1 ∙ ap text_of (λ i. record { bound = c.bound; switches = (stated ∙ ap Some switches_are) i; events = events_are i }))
+          by x1 stated named e = search (rules, text_is, events_are, first_other-none, as_many, length-costs, zip-parts)
 
       cost-there : IsVerified plan weights c.bound → (o : Option Numbered) → c.switches ≡ o → (s : List ℕ × ℕ) → wrong_cost plan weights o ≡ Some s → HasOtherCost plan text s.0 s.1
       cost-there verified o stated s is = by o stated (subst (HasItsSwitches plan) stated of_plan.switches) is
@@ -251,8 +232,7 @@ module _ (plan : PlanView) (text : List ℕ) where
               }
 
       costed-means : IsVerified plan weights c.bound → (o : Option (List ℕ × ℕ)) → wrong_cost plan weights c.switches ≡ o → Means (costed plan c o)
-      costed-means verified None is = (verified, refl, accepted_text c.switches refl is)
-      costed-means verified (Some s) is = cost-there verified c.switches refl s is
+      costed-means verified x2 is = search (rules, accepted_text, cost-there)
 
       -- ---- the weights and the bound
 
@@ -274,8 +254,7 @@ module _ (plan : PlanView) (text : List ℕ) where
           by ranks.wrong_events h = absurd (h (parts-length c.events ∙ ap length of_plan.events))
 
     named-means : (o : Option CertificateFaultView) → wrong_names plan c ≡ o → Means (named_as plan c o)
-    named-means (Some fault) is = named-there fault is
-    named-means None is = bounded-means (named-right is) (verified_at plan (numbers_of c.events)) refl
+    named-means x1 is = search (rules, named-there, bounded-means, named-right)
 
   read-means : (read : Result Certificate ℕ) → certificate_at text ≡ read → Means (certified plan read)
   read-means (Ok c) read = named-means c read (wrong_names plan c) refl
@@ -311,8 +290,7 @@ module _ (plan : PlanView) (text : List ℕ) where
 
 -- what is accepted alone
 pub alone_ok : (answer : Result CheckedView FaultView) (c : CheckedView) → reported_alone answer ≡ Ok c → answer ≡ Ok c
-alone_ok (Ok d) c is = let same : d ≡ c = cc in ap Ok same
-alone_ok (Err fault) c is = absurd cc
+alone_ok x1 c is = search rules
 
 -- ---- a text that is read again
 
@@ -330,9 +308,7 @@ module _ (c : CheckedView) (verified : IsVerified c.plan c.weights c.bound) wher
   weights_are = seconds-zip c.plan.events c.weights verified.count
 
   names_right : wrong_names c.plan (certificate_of c) ≡ None
-  names_right =
-      cond-true _ _ _ (ap (same_names c.plan.events) (firsts-zip c.plan.events c.weights verified.count) ∙ same_names-self c.plan.events)
-      ∙ cond-true _ _ _ (ap (same_names names) (firsts-zip names costs costs_counted) ∙ same_names-self names)
+  names_right = search (rules, cond-true, firsts-zip, same_names-self, costs_counted)
 
   costs_right : wrong_cost c.plan (numbers_of (zip c.plan.events c.weights)) (Some (zip names costs)) ≡ None
   costs_right =
@@ -343,9 +319,4 @@ module _ (c : CheckedView) (verified : IsVerified c.plan c.weights c.bound) wher
   -- where its text is read as its certificate, it is accepted again
   pub certified_again : certificate_at (certificate_text c) ≡ Ok (certificate_of c) → certified_plan (certificate_text c) c.plan ≡ Ok c
   unfolding certified_plan
-  certified_again read =
-      ap (certified c.plan) read ∙ ap (named_as c.plan (certificate_of c)) names_right
-      ∙ ap (bounded c.plan (certificate_of c)) (ap (verified_at c.plan) weights_are ∙ verified_at-bound c.plan c.weights c.bound verified)
-      ∙ cond-true _ _ _ (eq-eqb c.bound c.bound refl)
-      ∙ ap (costed c.plan (certificate_of c)) costs_right
-      ∙ ap (λ (ws : List ℕ). Ok (record { plan = c.plan; weights = ws; bound = c.bound })) weights_are
+  certified_again read = search (rules, names_right, weights_are, verified_at-bound, cond-true, eq-eqb, costs_right)

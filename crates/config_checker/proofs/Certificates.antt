@@ -1,14 +1,10 @@
 -- A text is read as the one certificate that it is the text of.
-use Rattle.std.proofs.Common.{◌≡◌, ℕ, ◌+◌, ◌^◌, ◌<◌, ◌==◌, ◌&&◌, ◌||◌, not, nat_lt, Bool, true, false, cond, Option, Some, None, IfSome, Ok, Err, List, [], ◌∷◌, ◌++◌, length, get_or, codes, refl, sym, ap, subst, ◌∙◌, append_assoc, append-nil, arith}
-use Rattle.std.specs.List.{join_with_byte, list_all, All}
-use Rattle.std.specs.Char.{is_ascii_digit}
-use Rattle.std.specs.Fmt.{decimal}
-use Rattle.std.specs.Str.{bytes_eq}
+use Rattle.std.proofs.Common.{rules, ◌≡◌, ℕ, ◌+◌, ◌^◌, ◌<◌, ◌==◌, ◌&&◌, ◌||◌, not, nat_lt, Bool, true, false, cond, Option, Some, None, IfSome, Ok, Err, List, [], ◌∷◌, ◌++◌, length, get_or, codes, refl, sym, ap, subst, ◌∙◌, append_assoc, append-nil, arith}
+use Rattle.std.specs.{List.{join_with_byte, list_all, All}, Char.is_ascii_digit, Fmt.decimal, Str.bytes_eq}
 use Rattle.std.proofs.lemmas.Bool.{and_parts, or_parts, not-true, eqb-true, ltb-true, lt-ltb, cond-true}
 use Rattle.std.proofs.lemmas.List.Elements.{All-head, All-tail, All-nil, All-cons, All-append}
 use Rattle.std.proofs.lemmas.List.Splits.{slice_split_none, slice_split_at, join_with_byte-slice_split}
-use Rattle.std.proofs.lemmas.List.Sums.{AllPass-from_list_all, list_all-from_AllPass}
-use Rattle.std.proofs.lemmas.Slice.Eq.{bytes_eq-Decides}
+use Rattle.std.proofs.lemmas.{List.Sums.{AllPass-from_list_all, list_all-from_AllPass}, Slice.Eq.bytes_eq-Decides}
 use Rattle.config_checker.specs.CertificateText.{Numbered, Certificate, numbered_lines, bound_line, heading_of, switch_lines}
 use Rattle.config_checker.specs.CertificateOf.{is_in_word, IsWord, AreWritable, IsWritable, IsTextOf, number_in, parts, has_switches, bound_by, bound_in, named, numbered_by, numbered_in, with_line, front, is_end, first_event, ended, after_switches, body_at, with_bound, bound_at, with_heading, heading_at, certificate_at}
 use Rattle.config_checker.proofs.Numerals.{guard, says_number, number_said, is_written, written_says, not_in_digits}
@@ -28,10 +24,7 @@ words_of word s = word ++ codes " " ++ s.0 ++ codes " " ++ decimal s.1
 
 -- and how it is parted by its blanks
 parted : (word name digits : List ℕ) → word ++ codes " " ++ name ++ codes " " ++ digits ≡ word ++ 32 ∷ (name ++ 32 ∷ digits)
-parted word name digits =
-    append_assoc (word ++ codes " " ++ name) (codes " ") digits
-    ∙ append_assoc (word ++ codes " ") name (32 ∷ digits)
-    ∙ append_assoc word (codes " ") (name ++ 32 ∷ digits)
+parted word name digits = search (rules, name, append_assoc)
 
 record IsLineOf (word line : List ℕ) (s : List ℕ × ℕ) : Type 0 where
   text : line ≡ words_of word s
@@ -135,8 +128,7 @@ ended_then bound switches x c e = by (is_end x.1) refl e
   where
     by : (t : Bool) → is_end x.1 ≡ t → cond t (Ok (record { bound = bound; switches = switches; events = x.0 })) (Err (first_event switches + length x.0)) ≡ Ok c
         → (is_end x.1 ≡ true) × (record { bound = bound; switches = switches; events = x.0 } ≡ c)
-    by true is e = (is, cc)
-    by false is e = absurd cc
+    by x1 is e = search (rules, is)
 
 events_sound : (bound : ℕ) (switches : Option Numbered) (lines : List (List ℕ)) (c : Certificate) → ended bound switches (front (codes "event") lines) ≡ Ok c
     → (c.bound ≡ bound) × (c.switches ≡ switches) × (join_with_byte 10 lines ≡ numbered_lines (codes "event") c.events) × AreWritable c.events
@@ -214,9 +206,7 @@ one_heading line other version h k = is line version h ∙ sym (is other version
       where
         by : (a b : Bool) → bytes_eq line (codes "pinball-certificate 1") ≡ a → bytes_eq line (codes "pinball-certificate 2") ≡ b
             → cond a (Some false) (cond b (Some true) None) ≡ Some version → line ≡ heading_for version
-        by true b first second e = let same : false ≡ version = cc in word_is line (codes "pinball-certificate 1") first ∙ ap heading_for same
-        by false true first second e = let same : true ≡ version = cc in word_is line (codes "pinball-certificate 2") second ∙ ap heading_for same
-        by false false first second e = absurd cc
+        by x1 x2 first second e = search (rules, word_is)
 
 with_heading_sound : (line next : List ℕ) (more : List (List ℕ)) (o : Option Bool) (c : Certificate) → has_switches line ≡ o → with_heading o (next ∷ more) ≡ Ok c → IsTextOf c (join_with_byte 10 (line ∷ next ∷ more))
 with_heading_sound line next more None c is e = absurd cc
@@ -254,9 +244,6 @@ without-append c xs ys h k = All-append (λ b. (b == c) ≡ false) xs ys h k
 in_text : (c : ℕ) (text : List ℕ) → list_all (λ b. not (b == c)) text ≡ true → Without c text
 in_text c text h = λ i d l. not-true (get_or text i d == c) (AllPass-from_list_all (λ b. not (b == c)) text h i d l)
 
-no_blank_in : (word : List ℕ) → IsWord word → Without 32 word
-no_blank_in word h = λ i d l. let b = get_or word i d in (or_parts (b == 32) (b == 9) (or_parts (b == 32 || b == 9) (b == 10) (not-true (b == 32 || b == 9 || b == 10) (h.letters i d l))).0).0
-
 no_end_in : (word : List ℕ) → IsWord word → Without 10 word
 no_end_in word h = λ i d l. let b = get_or word i d in (or_parts (b == 32 || b == 9) (b == 10) (not-true (b == 32 || b == 9 || b == 10) (h.letters i d l))).1
 
@@ -276,26 +263,13 @@ first_line line rest h = ap (parts 10) (append_assoc line (10 ∷ []) rest) ∙ 
 -- where the word that begins it has neither a blank nor a line end
 module _ (word : List ℕ) (no_blank : list_all (λ b. not (b == 32)) word ≡ true) (no_end : list_all (λ b. not (b == 10)) word ≡ true) where
   words_are : (name : List ℕ) (number : ℕ) → IsWord name → number < 2 ^ 32 → parts 32 (words_of word (name, number)) ≡ word ∷ name ∷ decimal number ∷ []
-  words_are name number h small =
-      let first = slice_split_at (λ b. b == 32) word 32 (name ++ 32 ∷ decimal number) (in_text 32 word no_blank) refl in
-      let second = slice_split_at (λ b. b == 32) name 32 (decimal number) (no_blank_in name h) refl in
-      let third = slice_split_none (λ b. b == 32) (decimal number) (not_in_decimal 32 refl number small) in
-      ap (parts 32) (parted word name (decimal number)) ∙ first ∙ ap (λ (ps : List (List ℕ)). word ∷ ps) (second ∙ ap (λ (ps : List (List ℕ)). name ∷ ps) third)
+  words_are name number h small = search (rules, name, number, small, slice_split_at, in_text, or_parts, not-true, slice_split_none, not_in_decimal, parted)
 
   line_complete : (name : List ℕ) (number : ℕ) → IsWord name → number < 2 ^ 32 → numbered_in word (words_of word (name, number)) ≡ Some (name, number)
-  line_complete name number h small =
-      ap (numbered_by word) (words_are name number h small)
-      ∙ cond-true (bytes_eq word word) (named name (number_in (decimal number))) None ((bytes_eq-Decides word word).1 refl)
-      ∙ ap (named name) (number_said (decimal number) number (written_says number small))
-      ∙ cond-true (nat_lt 0 (length name) && list_all is_in_word name) (Some (name, number)) None (is_some_word name h)
+  line_complete name number h small = search (rules, name, number, small, words_are, cond-true, bytes_eq-Decides, number_said, written_says, nat_lt, is_some_word)
 
   words_end : (name : List ℕ) (number : ℕ) → IsWord name → number < 2 ^ 32 → Without 10 (words_of word (name, number))
-  words_end name number h small =
-      without-append 10 (word ++ codes " " ++ name ++ codes " ") (decimal number)
-      (without-append 10 (word ++ codes " " ++ name) (codes " ")
-      (without-append 10 (word ++ codes " ") name (without-append 10 word (codes " ") (in_text 10 word no_end) (in_text 10 (codes " ") refl)) (no_end_in name h))
-      (in_text 10 (codes " ") refl))
-      (not_in_decimal 10 refl number small)
+  words_end name number h small = search (rules, name, number, small, without-append, in_text, no_end_in, not_in_decimal)
 
   -- lines at the front, and what follows them
   front_complete : (all : Numbered) (behind : List ℕ) → AreWritable all → front word (parts 10 behind) ≡ ([], parts 10 behind) → front word (parts 10 (numbered_lines word all ++ behind)) ≡ (all, parts 10 behind)
@@ -356,10 +330,7 @@ body_complete bound (Some switches) events s e =
     ∙ events_complete bound (Some switches) events e
 
 bound_complete : (bound : ℕ) → bound < 2 ^ 32 → bound_in (codes "bound " ++ decimal bound) ≡ Some bound
-bound_complete bound small =
-    let first = slice_split_at (λ b. b == 32) (codes "bound") 32 (decimal bound) (in_text 32 (codes "bound") refl) refl in
-    let second = slice_split_none (λ b. b == 32) (decimal bound) (not_in_decimal 32 refl bound small) in
-    ap bound_by (first ∙ ap (λ (ps : List (List ℕ)). codes "bound" ∷ ps) second) ∙ number_said (decimal bound) bound (written_says bound small)
+bound_complete bound small = search (rules, small, slice_split_at, in_text, slice_split_none, not_in_decimal, number_said, written_says)
 
 -- the text of a certificate is read as that certificate
 pub text-is_read : (c : Certificate) (text : List ℕ) → IsTextOf c text → certificate_at text ≡ Ok c

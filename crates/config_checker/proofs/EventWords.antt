@@ -1,33 +1,23 @@
 -- The names of a plan's events are words of few bytes, where every name in its rows is one.
-use Rattle.std.proofs.Common.{◌≡◌, ◌≢◌, ℕ, ◌+◌, ◌<◌, ◌≤◌, Bool, true, ◌&&◌, ◌||◌, eqb, nat_lt, List, [], ◌∷◌, ◌++◌, length, refl, ap, arith, length-append, codes}
-use Rattle.std.specs.List.{All, list_all}
+use Rattle.std.proofs.Common.{rules, ◌≡◌, ◌≢◌, ℕ, ◌+◌, ◌<◌, ◌≤◌, Bool, true, ◌&&◌, nat_lt, List, [], ◌∷◌, ◌++◌, length, refl, ap, arith, length-append, codes}
+use Rattle.std.{specs.List.{All, list_all}, proofs.lemmas.List.Sums.AllPass-from_list_all}
 use Rattle.std.proofs.lemmas.Bool.{ne_eqb, or_from, not_from_false, and_parts, ltb-true}
 use Rattle.std.proofs.lemmas.List.Elements.{All-nil, All-cons, All-append, All-weaker, All-from_recursion}
-use Rattle.std.proofs.lemmas.List.Sums.{AllPass-from_list_all}
-use Rattle.yaml_bytes.specs.Bytes.{is_blank}
-use Rattle.mpf_config.specs.Rows.{Rows}
-use Rattle.mpf_sections.specs.Named.{IsName, IsNamed}
-use Rattle.mpf_config.specs.Named.{IsNamedMode}
-use Rattle.mpf_sections.proofs.RowNames.{name_bytes}
+use Rattle.mpf_config.specs.{Rows.Rows, Named.IsNamedMode}
+use Rattle.mpf_sections.{specs.Named.{IsName, IsNamed}, proofs.RowNames.name_bytes}
 use Rattle.plan_tables.specs.declared.entries.ModeEvent.{ModeEvent}
-use Rattle.plan_tables.specs.declared.entries.ModeEvent.TheVariants.{WillStart, Starting, Started, Stopping, Stopped}
-use Rattle.machine_definitions.specs.GameEvents.{game_event_names}
-use Rattle.machine_definitions.specs.Players.{player_event}
+use Rattle.machine_definitions.specs.{GameEvents.game_event_names, Players.player_event}
 use Rattle.plan_contributions.specs.Contributions.{event_ending, mode_event_name}
 use Rattle.row_contributions.specs.DeviceEntries.{block_event, block_endings, timer_event, timer_endings}
-use Rattle.row_contributions.specs.BallEntries.{ball_event, ball_endings}
+use Rattle.row_contributions.specs.{BallEntries.{ball_event, ball_endings}, ShotEntries.{shot_events, group_events}}
 use Rattle.row_contributions.specs.SaveEntries.{save_event, save_endings, multiball_event, multiball_endings}
-use Rattle.row_contributions.specs.ShotEntries.{shot_events, group_events}
-use Rattle.mpf_plan.specs.PlanOf.{plan_of}
-use Rattle.mpf_plan.proofs.EventNames.{event_names}
+use Rattle.mpf_plan.{specs.PlanOf.plan_of, proofs.EventNames.event_names}
 use Rattle.config_checker.specs.CertificateOf.{is_in_word, IsWord}
 
 -- ---- names are words
 
 byte-in_word : (b : ℕ) → (b ≢ 32) × (b ≢ 9) × (b ≢ 10) → is_in_word b ≡ true
-byte-in_word b (space, tab, end) =
-    let blank = or_from (eqb b 32) (eqb b 9) (ne_eqb b 32 space) (ne_eqb b 9 tab) in
-    not_from_false (is_blank b || eqb b 10) (or_from (is_blank b) (eqb b 10) blank (ne_eqb b 10 end))
+byte-in_word b x2 = search (rules, or_from, ne_eqb, not_from_false)
 
 abbrev pub AllInWord : List ℕ → Type 0
 AllInWord text = All (λ b. is_in_word b ≡ true) text
@@ -70,11 +60,7 @@ tag-word name h =
     joined-word (codes "sw_") name (omega arith) (omega (arith, few)) (AllPass-from_list_all is_in_word (codes "sw_") refl) (name-in_word name h)
 
 ending-word : (which : ModeEvent) → (length (event_ending which) ≤ 11) × AllInWord (event_ending which)
-ending-word WillStart = (omega arith, AllPass-from_list_all is_in_word (codes "_will_start") refl)
-ending-word Starting = (omega arith, AllPass-from_list_all is_in_word (codes "_starting") refl)
-ending-word Started = (omega arith, AllPass-from_list_all is_in_word (codes "_started") refl)
-ending-word Stopping = (omega arith, AllPass-from_list_all is_in_word (codes "_stopping") refl)
-ending-word Stopped = (omega arith, AllPass-from_list_all is_in_word (codes "_stopped") refl)
+ending-word x1 = search (rules, AllPass-from_list_all)
 
 mode-word : (which : ModeEvent) (name : List ℕ) → IsName name → IsEventWord (mode_event_name which name)
 mode-word which name h =

@@ -1,17 +1,12 @@
 -- The events that switches, blocks, timers, ball devices, ball saves, multiballs, shots and groups of shots post by their
 -- own names are not reserved.
-use Rattle.std.proofs.Common.{◌≡◌, ℕ, ◌+◌, ◌*◌, ◌==◌, Bool, true, false, ◌||◌, List, [], ◌∷◌, ◌++◌, slice_index, codes, refl, sym, ap, ◌∙◌, true≢false}
-use Rattle.std.specs.List.{All, list_any}
-use Rattle.std.specs.Str.{bytes_eq}
-use Rattle.std.proofs.lemmas.Bool.{eq-eqb}
-use Rattle.std.proofs.lemmas.List.Elements.{All-from_recursion}
-use Rattle.std.proofs.lemmas.Slice.Eq.{bytes_eq-Decides}
+use Rattle.std.proofs.Common.{rules, ◌≡◌, ℕ, ◌+◌, ◌*◌, ◌==◌, Bool, false, ◌||◌, List, [], ◌∷◌, ◌++◌, slice_index, codes, refl}
+use Rattle.std.specs.{List.{All, list_any}, Str.bytes_eq}
+use Rattle.std.proofs.lemmas.{Bool.eq-eqb, List.Elements.All-from_recursion, Slice.Eq.bytes_eq-Decides}
 use Rattle.yaml_subset.specs.Keys.{is_among}
 use Rattle.mpf_config.specs.Rows.{Rows}
-use Rattle.row_contributions.specs.DeviceEntries.{block_event, timer_event}
-use Rattle.row_contributions.specs.BallEntries.{ball_event}
-use Rattle.row_contributions.specs.SaveEntries.{save_event, multiball_event}
-use Rattle.row_contributions.specs.ShotEntries.{shot_events, group_events}
+use Rattle.row_contributions.specs.{DeviceEntries.{block_event, timer_event}, SaveEntries.{save_event, multiball_event}}
+use Rattle.row_contributions.specs.{BallEntries.ball_event, ShotEntries.{shot_events, group_events}}
 use Rattle.machine_definitions.specs.GameEvents.{reserved_game_events}
 use Rattle.row_faults.specs.Reserved.{events_of_modes, mode_names, is_reserved}
 
@@ -41,9 +36,7 @@ not_among bytes_of name [] h = refl
 not_among bytes_of name (e ∷ es) h = by (bytes_of e == bytes_of name) (bytes_eq e name) refl refl (not_among bytes_of name es) h
   where
     by : (same equal : Bool) → bytes_of e == bytes_of name ≡ same → bytes_eq e name ≡ equal → (list_any (λ x. bytes_of x == bytes_of name) es ≡ false → is_among es name ≡ false) → (same || list_any (λ x. bytes_of x == bytes_of name) es) ≡ false → (equal || is_among es name) ≡ false
-    by true equal p q rest r = absurd (true≢false r)
-    by false true p q rest r = absurd (true≢false (sym (eq-eqb (bytes_of e) (bytes_of name) (ap bytes_of ((bytes_eq-Decides e name).0 q))) ∙ p))
-    by false false p q rest r = rest r
+    by x1 x2 p q rest r = search (rules, eq-eqb, bytes_eq-Decides)
 
 -- ---- names with a first byte of their own
 
@@ -121,9 +114,7 @@ multiball-free name ending rows =
 module _ (two : ℕ) (no_start : (end_of (codes "rt") == two) ≡ false) (no_ing : (end_of (codes "ng") == two) ≡ false) (no_ed : (end_of (codes "ed") == two) ≡ false) where
   last-other : (ws : List (List ℕ)) → list_any (λ e. end_of e == two) (events_of_modes ws) ≡ false
   last-other [] = refl
-  last-other (w ∷ ws) =
-      rw (last_two-is w 101 95 95 119 (codes "ill_start"), last_two-is w 101 95 95 115 (codes "tarting"), last_two-is w 101 95 95 115 (codes "tarted"), last_two-is w 101 95 95 115 (codes "topping"), last_two-is w 101 95 95 115 (codes "topped"))
-      (rw (no_start, no_ing, no_ed) (last-other ws))
+  last-other (w ∷ ws) = search (rules, last_two-is, last-other ws)
 
 -- a name that ends with two bytes with which no event of a game ends, nor one of a mode
 ends-free : (rows : Rows) (name ending : List ℕ) → end_of name ≡ end_of ending → list_any (λ e. end_of e == end_of ending) reserved_game_events ≡ false
@@ -155,15 +146,10 @@ module _ (rows : Rows) where
   IsFreeName name = is_reserved rows name ≡ false
 
   pub shot-free : (name profile state : List ℕ) → All IsFreeName (shot_events name profile state)
-  shot-free name profile state =
-      All-from_recursion IsFreeName (shot_events name profile state) (
-        hit-free name rows,
-        (hit-free (name ++ codes "_" ++ profile) rows, (hit-free (name ++ codes "_" ++ profile ++ codes "_" ++ state) rows, (hit-free (name ++ codes "_" ++ state) rows, tt))),
-      )
+  shot-free name profile state = search (rules, All-from_recursion, hit-free)
 
   pub group_hit-free : (name state : List ℕ) → All IsFreeName (group_events (codes "_hit") name state)
   group_hit-free name state = All-from_recursion IsFreeName (group_events (codes "_hit") name state) (hit-free name rows, (hit-free (name ++ codes "_" ++ state) rows, tt))
 
   pub group_complete-free : (name state : List ℕ) → All IsFreeName (group_events (codes "_complete") name state)
-  group_complete-free name state =
-      All-from_recursion IsFreeName (group_events (codes "_complete") name state) (complete-free name rows, (complete-free (name ++ codes "_" ++ state) rows, tt))
+  group_complete-free name state = search (rules, All-from_recursion, complete-free)

@@ -1,43 +1,26 @@
 -- Sound rows use no name that nothing has: each coil and each switch that their contributions use is given.
-use Rattle.std.proofs.Common.{◌≡◌, ℕ, zero, suc, ◌<◌, Bool, true, false, cond, ◌||◌, if◌then◌else◌, List, [], ◌∷◌, ◌++◌, length, map, fold, get_or, refl, sym, ◌∙◌, ap, true≢false, arith}
-use Rattle.std.specs.Prelude.{Option, None, Some}
-use Rattle.std.specs.List.{list_any, flat_map}
-use Rattle.std.specs.Str.{bytes_eq}
-use Rattle.std.proofs.lemmas.Bool.{eq-eqb}
-use Rattle.std.proofs.lemmas.List.Folds.{list_any-append}
-use Rattle.std.proofs.lemmas.Slice.Eq.{bytes_eq-Decides}
+use Rattle.std.proofs.Common.{rules, ◌≡◌, ℕ, zero, suc, ◌<◌, Bool, true, false, cond, ◌||◌, if◌then◌else◌, List, [], ◌∷◌, ◌++◌, length, map, fold, get_or, refl, sym, ◌∙◌, ap, true≢false, arith}
+use Rattle.std.specs.{Prelude.{Option, Some}, List.{list_any, flat_map}, Str.bytes_eq}
+use Rattle.std.proofs.lemmas.{Bool.eq-eqb, List.Folds.list_any-append, Slice.Eq.bytes_eq-Decides}
 use Rattle.mpf_sections.specs.Rows.{Coil}
-use Rattle.mpf_sections.specs.TypedCoils.{coils_in}
 use Rattle.mpf_config.specs.Rows.{Rows}
-use Rattle.plan_tables.specs.declared.entries.CoilLimits.{CoilLimits}
-use Rattle.plan_tables.specs.declared.entries.ModeEvent.TheVariants.{WillStart}
-use Rattle.plan_tables.specs.declared.table.Table.{Table}
-use Rattle.plan_tables.specs.declared.table.Table.TheVariants.{Events, Switches, Coils, Variables}
-use Rattle.plan_tables.specs.Limits.{order_of}
+use Rattle.plan_tables.specs.declared.entries.{CoilLimits.CoilLimits, ModeEvent.TheVariants.WillStart}
+use Rattle.plan_tables.specs.{declared.table.Table.{Table, TheVariants.{Events, Coils, Variables}}, Limits.order_of}
 use Rattle.machine_definitions.specs.Definitions.{latest_coil, coil_called}
-use Rattle.plan_contributions.specs.Effects.{Effect, posts, works, changes, enters}
-use Rattle.row_contributions.specs.CoilEntries.{limits_of_coil}
+use Rattle.plan_contributions.specs.{Effects.Effect, UsedNames.{used, given, name_in_table, given_names}}
+use Rattle.row_contributions.specs.{CoilEntries.limits_of_coil, Contributions.contributions_of}
 use Rattle.plan_contributions.specs.Contributions.{Contribution, gives, active, inactive, mode, mode_event, mode_event_name, binds, does, does_in, listens, mentions, unknown, coil, under}
-use Rattle.row_contributions.specs.Contributions.{contributions_of}
-use Rattle.row_contributions.specs.Doing.{IsMention, Does}
-use Rattle.row_contributions.specs.Facts.{given_coil}
-use Rattle.plan_contributions.specs.UsedNames.{used, given, name_in_table, given_names}
-use Rattle.row_contributions.proofs.CoilsGiven.{coils_given}
-use Rattle.row_contributions.proofs.SwitchesGiven.{switches_given}
-use Rattle.row_contributions.proofs.RowEffects.{all_do}
-use Rattle.mpf_plan.specs.Uses.{is_unknown, lacks_name}
-use Rattle.mpf_plan.specs.ByName.{IsGiven, AreGiven}
-use Rattle.mpf_plan.proofs.Judged.{nothing_lacks}
+use Rattle.row_contributions.specs.{Doing.{IsMention, Does}, Facts.given_coil}
+use Rattle.row_contributions.proofs.{CoilsGiven.coils_given, SwitchesGiven.switches_given, RowEffects.all_do}
+use Rattle.mpf_plan.{specs.{Uses.{is_unknown, lacks_name}, ByName.{IsGiven, AreGiven}}, proofs.Judged.nothing_lacks}
 use Rattle.row_faults.specs.Sound.{IsSound}
 use Rattle.config_checker.proofs.RowsDoing.{IsUnreserved, IsFine, IsThere, rows_doing}
 
 or_first : (a b : Bool) → a ≡ true → (a || b) ≡ true
-or_first true b is = refl
-or_first false b is = absurd (true≢false (sym is))
+or_first x1 b is = search rules
 
 or_second : (a b : Bool) → b ≡ true → (a || b) ≡ true
-or_second true b is = refl
-or_second false b is = is
+or_second x1 b is = search rules
 
 same_bytes : (n : List ℕ) → bytes_eq n n ≡ true
 same_bytes n = (bytes_eq-Decides n n).1 refl
@@ -49,12 +32,8 @@ own_name t n = ap (λ b. list_any (bytes_eq n) (cond b (n ∷ []) [])) (eq-eqb (
 
 given_there : (cs : List Contribution) (i : ℕ) (d c : Contribution) (t : Table) (n : List ℕ) → i < length cs → get_or cs i d ≡ c → given c ≡ Some (t, n) → list_any (bytes_eq n) (given_names t cs) ≡ true
 given_there [] i d c t n within at is = absurd (omega arith)
-given_there (x ∷ cs) zero d c t n within at is =
-    list_any-append (bytes_eq n) (name_in_table t (given x)) (given_names t cs)
-    ∙ or_first (list_any (bytes_eq n) (name_in_table t (given x))) (list_any (bytes_eq n) (given_names t cs)) (ap (λ o. list_any (bytes_eq n) (name_in_table t o)) (ap given at ∙ is) ∙ own_name t n)
-given_there (x ∷ cs) (suc i) d c t n within at is =
-    list_any-append (bytes_eq n) (name_in_table t (given x)) (given_names t cs)
-    ∙ or_second (list_any (bytes_eq n) (name_in_table t (given x))) (list_any (bytes_eq n) (given_names t cs)) (given_there cs i d c t n (omega arith) at is)
+given_there (x ∷ cs) zero d c t n within at is = search (rules, list_any-append, or_first, own_name)
+given_there (x ∷ cs) (suc i) d c t n within at is = search (rules, list_any-append, or_second, given_there cs i d c t n (omega arith) at is)
 
 -- ---- coils
 
@@ -69,18 +48,11 @@ module _ (n : List ℕ) where
   found_step : (c x : Coil) (cs : List Coil) (o : Option Coil) (b : Bool)
       → (fold (latest_coil n) o cs ≡ Some c → ((y : Coil) → o ≡ Some y → list_any is_called cs ≡ true) → list_any is_called cs ≡ true)
       → fold (latest_coil n) (if b then Some x else o) cs ≡ Some c → ((y : Coil) → o ≡ Some y → (b || list_any is_called cs) ≡ true) → (b || list_any is_called cs) ≡ true
-  found_step c x cs o true rest is old = refl
-  found_step c x cs o false rest is old = rest is old
+  found_step c x cs o x5 rest is old = search rules
 
   found_any : (c : Coil) (cs : List Coil) (o : Option Coil) → fold (latest_coil n) o cs ≡ Some c → ((y : Coil) → o ≡ Some y → list_any is_called cs ≡ true) → list_any is_called cs ≡ true
   found_any c [] o is old = old c is
   found_any c (x ∷ cs) o is old = found_step c x cs o (is_called x) (found_any c cs o) is old
-
-  found_there : (cs : List Coil) (c : Coil) → fold (latest_coil n) None cs ≡ Some c → list_any is_called cs ≡ true
-  found_there cs c is = found_any c cs None is (λ x some. absurd (apart x some))
-    where
-      apart : (x : Coil) → None ≡ Some x → ⊥
-      apart x e = cc
 
   abbrev as_given : Coil → List ℕ × CoilLimits
   as_given c = (c.name.text, limits_of_coil c)
@@ -95,21 +67,14 @@ module _ (n : List ℕ) where
   coil-named (c ∷ cs) is = by c (coil-named cs) is
     where
       own : (b : Bool) → (list_any is_it (flat_map given_coil cs) ≡ true → list_any (bytes_eq n) (given_names Coils cs) ≡ true) → (b || list_any is_it (flat_map given_coil cs)) ≡ true → (b || list_any (bytes_eq n) (given_names Coils cs)) ≡ true
-      own true rest h = refl
-      own false rest h = rest h
+      own x1 rest h = search rules
 
       by : (c : Contribution) → (list_any is_it (flat_map given_coil cs) ≡ true → list_any (bytes_eq n) (given_names Coils cs) ≡ true) → list_any is_it (given_coil c ++ flat_map given_coil cs) ≡ true
           → list_any (bytes_eq n) (name_in_table Coils (given c) ++ given_names Coils cs) ≡ true
-      by (coil x limits) rest h = own (bytes_eq n x) rest h
-      by (gives t x) rest h =
-          list_any-append (bytes_eq n) (name_in_table Coils (Some (t, x))) (given_names Coils cs)
-          ∙ or_second (list_any (bytes_eq n) (name_in_table Coils (Some (t, x)))) (list_any (bytes_eq n) (given_names Coils cs)) (rest h)
-      by _ rest h = rest h
+      by x1 rest h = search (rules, own, list_any-append, or_second)
 
   coil_given : (rows : Rows) (c : Coil) → coil_called rows.machine n ≡ Some c → list_any (bytes_eq n) (given_names Coils (contributions_of rows)) ≡ true
-  coil_given rows c is =
-      coil-named (contributions_of rows)
-      (ap (list_any is_it) (coils_given rows) ∙ sym (as_given-any (flat_map coils_in rows.machine)) ∙ found_there (flat_map coils_in rows.machine) c is)
+  coil_given rows c is = search (rules, coil-named, coils_given, as_given-any, found_any)
 
 -- ---- all contributions
 
@@ -124,21 +89,14 @@ module _ (rows : Rows) (sound : IsSound rows) where
   never_variable n needed = absurd (true≢false (sym needed))
 
   effect-given : (e : Effect) → IsFine rows e → IsGiven cs (used (does e))
-  effect-given (posts n) h = never n
-  effect-given (works n deed) h = λ needed. coil_given n rows h.coil h.called
-  effect-given (changes v action n) h = never_variable v
-  effect-given (enters n drain) h = never n
-  effect-given _ h = tt
+  effect-given x1 h = search (rules, never, coil_given, never_variable)
 
   -- what a setting names
   mention-given : (t : Table) (n : List ℕ) → IsMention (IsFine rows) (IsUnreserved rows) (IsThere rows) t n → IsGiven cs (Some (t, n))
-  mention-given Events n h = never n
-  mention-given Switches n h = λ needed. switches_given rows n h
-  mention-given _ n h = absurd h
+  mention-given x1 n h = search (rules, never, switches_given)
 
   is_known : (c : Contribution) → Does (IsFine rows) (IsUnreserved rows) (IsThere rows) c → is_unknown c ≡ false
-  is_known unknown h = absurd h
-  is_known _ h = refl
+  is_known x1 h = search rules
 
   is_given : (i : ℕ) (d c : Contribution) → i < length cs → get_or cs i d ≡ c → Does (IsFine rows) (IsUnreserved rows) (IsThere rows) c → IsGiven cs (used c)
   is_given i d (gives t n) within at h = λ needed. given_there cs i d (gives t n) t n within at refl

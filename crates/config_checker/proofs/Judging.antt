@@ -1,57 +1,31 @@
 -- What rows are judged to be, case by case.
-use Rattle.std.proofs.Common.{◌≡◌, ℕ, List, [], ◌∷◌, map, Option, Some, None, option_map, Result, Ok, Err, refl, sym, ap, ◌∙◌, subst, inl, inr}
+use Rattle.std.proofs.Common.{rules, ◌≡◌, ℕ, List, [], ◌∷◌, map, Option, Some, None, option_map, Result, Ok, Err, refl, sym, ap, ◌∙◌, subst, inl, inr}
 use Rattle.mpf_config.specs.Rows.{Rows}
 use Rattle.plan_tables.specs.PlanView.{PlanView}
-use Rattle.mpf_plan.specs.PlanOf.{plan_at, plan_of}
-use Rattle.mpf_plan.proofs.Judged.{plan_at-Ok, plan_at-exceeded}
-use Rattle.config_checker.proofs.Given.{lacks_nothing}
-use Rattle.config_checker.proofs.PlanFree.{rows_sound}
-use Rattle.cascade_rank.specs.Events.{weight_of}
-use Rattle.cascade_rank.specs.Weights.{bound_of}
-use Rattle.cascade_rank.specs.Finding.{RankView, found_at}
-use Rattle.cascade_rank.specs.Finding as ranks
-use Rattle.cascade_rank.specs.View.{IfReported}
-use Rattle.cascade_rank.specs.Found.{IsUnfound}
-use Rattle.config_checker.specs.declared.report.Report.{Report}
-use Rattle.config_checker.specs.declared.report.Report.TheVariants.{NoMemory, Faults}
+use Rattle.mpf_plan.{specs.PlanOf.{plan_at, plan_of}, proofs.Judged.{plan_at-Ok, plan_at-exceeded}}
+use Rattle.config_checker.proofs.{Given.lacks_nothing, PlanFree.rows_sound}
+use Rattle.cascade_rank.specs.{Events.weight_of, Weights.bound_of}
+use Rattle.cascade_rank.specs.{Finding.{RankView, found_at}, View.IfReported, Found.IsUnfound}
+use Rattle.config_checker.specs.declared.report.Report.{Report, TheVariants.{NoMemory, Faults}}
 use Rattle.written_machine.specs.CheckedView.{CheckedView}
-use Rattle.config_checker.specs.Checking.{FaultView, row, limit, cycle, bound, certificate, named_fault, weighed, weighed_plan, certified_plan, reported_alone, faults_of_rows, faults_first, checked, checked_at, checked_with_at}
+use Rattle.config_checker.specs.Checking.{FaultView, bound, named_fault, weighed, weighed_plan, certified_plan, reported_alone, faults_of_rows, faults_first, checked, checked_at, checked_with_at}
 use Rattle.config_checker.specs.View.{GivesChecked, ReportsFault, fault_view}
-use Rattle.config_checker.specs.Refused.{IsLimitFault, IsFaultOf, IsFaultWith, IsReport, Reports, ReportsOne, AreOwn, ReportsOwn, ReportsNoPlan}
+use Rattle.config_checker.specs.Refused.{IsLimitFault, IsFaultOf, IsFaultWith, IsReport, Reports, ReportsOne, ReportsOwn, ReportsNoPlan}
 use Rattle.config_checker.proofs.CertificateMeaning.{IsFaultOfText, fault_is_there}
 
 -- ---- what a report lists
 
 pub reports-there : (rows : Rows) (there : FaultView → Type 0) (report : Report) (fault : FaultView) → faults_of_rows rows ≡ [] → ReportsFault report fault → there fault → Reports there rows report
-reports-there rows there NoMemory fault none h is = tt
-reports-there rows there (Faults faults) fault none h is = subst (λ (own : List FaultView). IsReport there own (map fault_view faults.items)) (sym none) (fault, h, is)
+reports-there rows there x3 fault none h is = search rules
 
 -- one fault is there, and is reported
 pub one-there : (P : FaultView → Type 0) (report : Report) (fault : FaultView) → ReportsFault report fault → P fault → ReportsOne P report
-one-there P NoMemory fault h is = tt
-one-there P (Faults faults) fault h is = (fault, h, is)
-
-pub reports-one : (rows : Rows) (P Q : FaultView → Type 0) (report : Report) → faults_of_rows rows ≡ [] → ReportsOne P report → ((fault : FaultView) → P fault → Q fault) → Reports Q rows report
-reports-one rows P Q NoMemory none h weaker = tt
-reports-one rows P Q (Faults faults) none (fault, listed, there) weaker = subst (λ (own : List FaultView). IsReport Q own (map fault_view faults.items)) (sym none) (fault, listed, weaker fault there)
+one-there P x2 fault h is = search rules
 
 -- ---- faults of the rows
 
-are_own : (own faults : List FaultView) (P : FaultView → Type 0) → AreOwn own faults → IsReport P own faults
-are_own [] faults P h = absurd h
-are_own (f ∷ fs) faults P h = h
-
-pub own-reports : (rows : Rows) (P : FaultView → Type 0) (report : Report) → ReportsOwn rows report → Reports P rows report
-own-reports rows P NoMemory h = tt
-own-reports rows P (Faults faults) h = are_own (faults_of_rows rows) (map fault_view faults.items) P h
-
-first-own : (own faults : List FaultView) (answer : Result CheckedView (List FaultView)) → AreOwn own faults → faults_first own answer ≡ Err faults
-first-own [] faults answer h = absurd h
-first-own (f ∷ fs) faults answer h = ap Err (sym h)
-
 own-gives : (rows : Rows) (report : Report) (answer : Result CheckedView (List FaultView)) → ReportsOwn rows report → GivesChecked (Err report) (faults_first (faults_of_rows rows) answer)
-own-gives rows NoMemory answer h = tt
-own-gives rows (Faults faults) answer h = first-own (faults_of_rows rows) (map fault_view faults.items) answer h
+own-gives rows x2 answer h = search rules
 
 pub own-found : (rows : Rows) (report : Report) → ReportsOwn rows report → GivesChecked (Err report) (checked_at rows)
 unfolding checked_at
@@ -65,12 +39,10 @@ own-given rows text report h = own-gives rows report (checked (certified_plan te
 
 -- why there is no plan
 pub no-plan-own : (rows : Rows) (report : Report) → ReportsOwn rows report → ReportsNoPlan rows report
-no-plan-own rows NoMemory h = tt
-no-plan-own rows (Faults faults) h = inl h
+no-plan-own rows x2 h = search rules
 
 pub no-plan-limit : (rows : Rows) (report : Report) → faults_of_rows rows ≡ [] → ReportsOne (IsLimitFault rows) report → ReportsNoPlan rows report
-no-plan-limit rows NoMemory none h = tt
-no-plan-limit rows (Faults faults) none h = inr (none, h)
+no-plan-limit rows x2 none h = search rules
 
 first-none : (rows : Rows) (answer : Result CheckedView (List FaultView)) → faults_of_rows rows ≡ [] → faults_first (faults_of_rows rows) answer ≡ answer
 first-none rows answer none = ap (λ (own : List FaultView). faults_first own answer) none
@@ -79,12 +51,10 @@ first-none rows answer none = ap (λ (own : List FaultView). faults_first own an
 
 -- the answer is what is reported
 pub reports-gives : (report : Report) (fault : FaultView) (answer : Result CheckedView (List FaultView)) → ReportsFault report fault → answer ≡ Err (fault ∷ []) → GivesChecked (Err report) answer
-reports-gives NoMemory fault answer h is = tt
-reports-gives (Faults faults) fault answer h is = is ∙ ap Err (sym h)
+reports-gives x1 fault answer h is = search rules
 
 pub one-gives : (P : FaultView → Type 0) (report : Report) (answer : Result CheckedView (List FaultView)) → ReportsOne P report → ((fault : FaultView) → P fault → answer ≡ Err (fault ∷ [])) → GivesChecked (Err report) answer
-one-gives P NoMemory answer h gives = tt
-one-gives P (Faults faults) answer (fault, listed, there) gives = gives fault there ∙ ap Err (sym listed)
+one-gives P x2 answer x4 gives = search rules
 
 some_same : (x y : FaultView) → Some x ≡ Some y → x ≡ y
 some_same x y e = cc
@@ -99,8 +69,7 @@ none-some x e = absurd (apart e)
 
 module _ (rows : Rows) where
   limit-checked : faults_of_rows rows ≡ [] → (judge : PlanView → Result CheckedView FaultView) (fault : FaultView) → IsLimitFault rows fault → checked judge (plan_at rows) ≡ Err (fault ∷ [])
-  limit-checked none judge (limit t) h = ap (checked judge) (plan_at-exceeded rows (lacks_nothing rows (rows_sound rows none)) t h)
-  limit-checked none judge _ h = absurd h
+  limit-checked none judge x3 h = search (rules, plan_at-exceeded, lacks_nothing, rows_sound)
 
   pub limit-found : faults_of_rows rows ≡ [] → (fault : FaultView) → IsLimitFault rows fault → checked_at rows ≡ Err (fault ∷ [])
   unfolding checked_at
@@ -111,18 +80,14 @@ module _ (rows : Rows) where
   limit-given none text fault h = first-none rows (checked (certified_plan text) (plan_at rows)) none ∙ limit-checked none (certified_plan text) fault h
 
   pub limit-fault : (fault : FaultView) → IsLimitFault rows fault → IsFaultOf rows fault
-  limit-fault (limit t) h = h
-  limit-fault _ h = absurd h
+  limit-fault x1 h = search rules
 
   pub limit-fault_with : (text : List ℕ) (fault : FaultView) → IsLimitFault rows fault → IsFaultWith rows text fault
-  limit-fault_with text (limit t) h = h
-  limit-fault_with text _ h = absurd h
+  limit-fault_with text x2 h = search rules
 
   -- what is reported where there is no plan is what the checker reports
   pub no-plan-found : (report : Report) → ReportsNoPlan rows report → GivesChecked (Err report) (checked_at rows)
-  no-plan-found NoMemory h = tt
-  no-plan-found (Faults faults) (inl own) = own-found rows (Faults faults) own
-  no-plan-found (Faults faults) (inr (none, one)) = one-gives (IsLimitFault rows) (Faults faults) (checked_at rows) one (limit-found none)
+  no-plan-found x1 x2 = search (rules, own-found, one-gives, limit-found)
 
   pub no-plan-given : (text : List ℕ) (report : Report) → ReportsNoPlan rows report → GivesChecked (Err report) (checked_with_at rows text)
   no-plan-given text NoMemory h = tt
@@ -130,16 +95,10 @@ module _ (rows : Rows) where
   no-plan-given text (Faults faults) (inr (none, one)) = one-gives (IsLimitFault rows) (Faults faults) (checked_with_at rows text) one (limit-given none text)
 
   pub no-plan-reports : (there : FaultView → Type 0) (report : Report) → ((fault : FaultView) → IsLimitFault rows fault → there fault) → ReportsNoPlan rows report → Reports there rows report
-  no-plan-reports there NoMemory weaker h = tt
-  no-plan-reports there (Faults faults) weaker (inl own) = own-reports rows there (Faults faults) own
-  no-plan-reports there (Faults faults) weaker (inr (none, one)) = reports-one rows (IsLimitFault rows) there (Faults faults) none one weaker
+  no-plan-reports there x2 weaker x4 = search rules
 
   text-fault_with : (text : List ℕ) (fault : FaultView) → IsFaultOfText (plan_of rows) text fault → IsFaultWith rows text fault
-  text-fault_with text (row f) h = absurd h
-  text-fault_with text (limit t) h = absurd h
-  text-fault_with text (cycle names) h = absurd h
-  text-fault_with text bound h = h
-  text-fault_with text (certificate fault) h = h
+  text-fault_with text x2 h = search rules
 
 module _ (rows : Rows) (none : faults_of_rows rows ≡ []) (plan : PlanView) (made : plan_at rows ≡ Ok plan) where
   of_rows : plan ≡ plan_of rows
@@ -167,10 +126,7 @@ module _ (rows : Rows) (none : faults_of_rows rows ≡ []) (plan : PlanView) (ma
       subst (IsFaultOf rows) (some_same (named_fault plan reported) fault named) (subst (λ (p : PlanView). IsUnfound p reported → IsFaultOf rows (named_fault p reported)) (sym of_rows) (by reported) h)
     where
       by : (reported : RankView) → IsUnfound (plan_of rows) reported → IsFaultOf rows (named_fault (plan_of rows) reported)
-      by (ranks.cycle events) h = record { events = events; reason = h; names_are = refl }
-      by ranks.bound_too_large h = h
-      by (ranks.short event needed) h = absurd h
-      by ranks.wrong_events h = absurd h
+      by x1 h = search rules
 
   -- ---- a certificate
 
@@ -188,8 +144,4 @@ module _ (rows : Rows) (none : faults_of_rows rows ≡ []) (plan : PlanView) (ma
   given-fault text (Faults faults) h = by (certified_plan text plan) refl h
     where
       by : (judged : Result CheckedView FaultView) → certified_plan text plan ≡ judged → reported_alone judged ≡ Err (map fault_view faults.items) → IsReport (IsFaultWith rows text) (faults_of_rows rows) (map fault_view faults.items)
-      by (Ok c) is e = absurd cc
-      by (Err fault) is e =
-          let listed : fault ∷ [] ≡ map fault_view faults.items = cc in
-          let there = text-fault_with rows text fault (subst (λ (p : PlanView). IsFaultOfText p text fault) of_rows (fault_is_there plan text fault is)) in
-          subst (λ (own : List FaultView). IsReport (IsFaultWith rows text) own (map fault_view faults.items)) (sym none) (fault, sym listed, there)
+      by x1 is e = search (rules, text-fault_with, of_rows, fault_is_there)

@@ -1,12 +1,9 @@
 -- Names that are compared, and lists of names with weights.
-use Rattle.std.proofs.Common.{◌≡◌, ◌≢◌, ℕ, ◌<◌, true, false, not, List, [], ◌∷◌, length, map, get_or, refl, sym, ap, ◌∙◌, subst, true≢false, arith}
-use Rattle.std.specs.List.{All, zip}
-use Rattle.std.specs.Str.{bytes_eq}
+use Rattle.std.proofs.Common.{rules, ◌≡◌, ◌≢◌, ℕ, ◌<◌, true, false, not, List, [], ◌∷◌, length, map, get_or, refl, sym, ap, ◌∙◌, subst, true≢false, arith}
+use Rattle.std.specs.{List.{All, zip}, Str.bytes_eq}
 use Rattle.std.proofs.lemmas.Bool.{and_parts, and_from, false_from_ne_true, not-true, not-false}
-use Rattle.std.proofs.lemmas.List.{length-map, get_or-map, ext_get_or}
-use Rattle.std.proofs.lemmas.Slice.Eq.{bytes_eq-Decides}
-use Rattle.config_checker.specs.declared.certificate_reader.Line.{Line}
-use Rattle.config_checker.specs.CertificateRead.{line_view, lines_view}
+use Rattle.std.proofs.lemmas.{List.{length-map, get_or-map, ext_get_or}, Slice.Eq.bytes_eq-Decides}
+use Rattle.config_checker.specs.{declared.certificate_reader.Line.Line, CertificateRead.{line_view, lines_view}}
 use Rattle.config_checker.specs.Checking.{same_names, names_of, numbers_of}
 
 pub same_names-is : (xs ys : List (List ℕ)) → same_names xs ys ≡ true → xs ≡ ys
@@ -50,9 +47,7 @@ module _ (lines : List Line) where
     -- whether the name is that of the entry
     module _ (names : List (List ℕ)) (name : List ℕ) (is : name ≡ get_or names k []) where
       pub place-other : not (bytes_eq name (get_or lines k d).name.now) ≡ true → get_or names k [] ≢ get_or (names_of (lines_view lines)) k []
-      place-other h same =
-          let equal : name ≡ (get_or lines k d).name.now = is ∙ same ∙ name_at in
-          true≢false (sym ((bytes_eq-Decides name (get_or lines k d).name.now).1 equal) ∙ not-true (bytes_eq name (get_or lines k d).name.now) h)
+      place-other h same = search (rules, get_or, name_at, bytes_eq-Decides, not-true)
 
       pub place-same : not (bytes_eq name (get_or lines k d).name.now) ≡ false → get_or names k [] ≡ get_or (names_of (lines_view lines)) k []
       place-same h = sym is ∙ (bytes_eq-Decides name (get_or lines k d).name.now).0 (not-false (bytes_eq name (get_or lines k d).name.now) h) ∙ sym name_at

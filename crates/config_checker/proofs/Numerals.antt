@@ -1,13 +1,9 @@
 -- Numbers of a certificate are read as they are written.
-use Rattle.std.proofs.Common.{◌≡◌, ℕ, zero, suc, ◌^◌, ◌<◌, ◌==◌, ◌||◌, not, nat_lt, Bool, true, false, cond, Option, Some, None, option_and_then, Result, Ok, Err, List, length, get_or, refl, sym, ap, subst, ◌∙◌, arith}
-use Rattle.std.specs.List.{All}
-use Rattle.std.specs.Char.{is_ascii_digit}
-use Rattle.std.specs.Fmt.{decimal}
-use Rattle.std.specs.Result.{result_ok, OkIff}
+use Rattle.std.proofs.Common.{rules, ◌≡◌, ℕ, ◌^◌, ◌<◌, ◌==◌, ◌||◌, not, nat_lt, Bool, true, false, cond, Option, Some, None, option_and_then, Result, List, length, get_or, refl, sym, ap, subst, ◌∙◌, arith}
+use Rattle.std.specs.{List.All, Char.is_ascii_digit, Fmt.decimal, Result.{result_ok, OkIff}}
 use Rattle.std.proofs.lemmas.Bool.{or_right, eqb-true, eq-eqb, ne_eqb, ltb-true, lt-ltb, not-false, cond-true}
 use Rattle.std.proofs.lemmas.Fmt.{decimal_nonempty, decimal_digit, first_decimal, digits_decimal, digits_value-decimal, decimal-digits_value}
-use Rattle.std.proofs.lemmas.List.Sums.{AllPass-from_list_all}
-use Rattle.std.proofs.lemmas.Option.{cond_some, option_and_then_some}
+use Rattle.std.proofs.lemmas.{List.Sums.AllPass-from_list_all, Option.{cond_some, option_and_then_some}}
 use Rattle.yaml_bytes.specs.Numbers.{value_of_digits, AreDigits, IsNumber, number_at}
 use Rattle.yaml_bytes.proofs.AllBytes.{Are-from_list_all, list_all-from_Are}
 use Rattle.yaml_bytes.proofs.WrittenNumbers.{own, number_sound, number_complete, none_of}
@@ -16,8 +12,7 @@ use Rattle.config_checker.specs.CertificateOf.{is_plain, within_32_bits, number_
 -- ---- what a word is that says a number
 
 pub guard : {A : Type 0} (t : Bool) (o : Option A) (x : A) → cond t o None ≡ Some x → (t ≡ true) × (o ≡ Some x)
-guard true o x e = (refl, e)
-guard false o x e = absurd cc
+guard x1 o x e = search rules
 
 pub record SaysNumber (word : List ℕ) (n : ℕ) : Type 0 where
   pub number : IsNumber word n
@@ -42,8 +37,7 @@ pub not_in_digits : (c : ℕ) → is_ascii_digit c ≡ false → (word : List �
 not_in_digits c other word h = λ i d l. ne_eqb (get_or word i d) c (λ e. none_is_both (is_ascii_digit (get_or word i d)) (AllPass-from_list_all is_ascii_digit word (list_all-from_Are is_ascii_digit word h.each) i d l) (ap is_ascii_digit e ∙ other))
   where
     none_is_both : (t : Bool) → t ≡ true → t ≡ false → ⊥
-    none_is_both true h k = cc
-    none_is_both false h k = cc
+    none_is_both x1 h k = search rules
 
 -- ---- a number, and how it is written
 
@@ -51,9 +45,7 @@ alone : (word : List ℕ) → is_plain word ≡ true → get_or word 0 0 ≡ 48 
 alone word plain e = eqb-true (length word) 1 (first_of (length word == 1) (get_or word 0 0 == 48) plain (eq-eqb (get_or word 0 0) 48 e))
   where
     first_of : (x y : Bool) → (x || not y) ≡ true → y ≡ true → x ≡ true
-    first_of true y h e = refl
-    first_of false true h e = h
-    first_of false false h e = e
+    first_of x1 x2 h e = search rules
 
 pub is_written : (word : List ℕ) (n : ℕ) → SaysNumber word n → word ≡ decimal n
 is_written word n h =
@@ -62,10 +54,7 @@ is_written word n h =
     sym (decimal-digits_value own word (list_all-from_Are is_ascii_digit word is.digits.each) is.digits.some (alone word h.plain) small) ∙ ap decimal is.value
 
 decimal_is_plain : (n : ℕ) → n < 2 ^ 64 → is_plain (decimal n) ≡ true
-decimal_is_plain zero small = ap is_plain (decimal_digit 0 (omega arith))
-decimal_is_plain (suc n) small =
-    or_right (length (decimal (suc n)) == 1) (not (get_or (decimal (suc n)) 0 0 == 48))
-    (ap not (ne_eqb (get_or (decimal (suc n)) 0 0) 48 (λ e. omega (arith, first_decimal (suc n) (omega arith) small))))
+decimal_is_plain x1 small = search (rules, small, decimal_digit, or_right, get_or, ne_eqb, first_decimal)
 
 pub written_says : (n : ℕ) → n < 2 ^ 32 → SaysNumber (decimal n) n
 written_says n small =
@@ -82,5 +71,4 @@ pub plain_number : (word : List ℕ) (o : Option ℕ) → false ≡ not (is_plai
 plain_number word o plain e = cond-true (is_plain word) (option_and_then within_32_bits (number_at word)) None (not-false (is_plain word) (sym plain)) ∙ ap (option_and_then within_32_bits) (sym e)
 
 pub narrowed : {E : Type 0} (r : Result ℕ E) (n : ℕ) → OkIff r (n < 2 ^ 32) n → result_ok r ≡ within_32_bits n
-narrowed (Ok m) n h = rw (lt-ltb n (2 ^ 32) h.0, h.1) refl
-narrowed (Err e) n h = sym (none_of (within_32_bits n) (λ m k. h (ltb-true n (2 ^ 32) (cond_some (nat_lt n (2 ^ 32)) n m k).0)))
+narrowed x1 n h = search (rules, lt-ltb, none_of, ltb-true, cond_some, nat_lt)

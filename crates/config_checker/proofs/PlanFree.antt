@@ -1,121 +1,66 @@
 -- The plan of rows without faults of their own: nothing posts an event at which the machine itself does something, acts
 -- are on rows of their own owner, each command to a coil is within the limits of the coil, and what is done with balls is
 -- right.
-use Rattle.std.proofs.Common.{◌≡◌, ◌≢◌, ℕ, zero, suc, ◌<◌, Bool, true, false, ◌||◌, if◌then◌else◌, List, [], ◌∷◌, length, map, fold, get_or, Contains, ◌⊎◌, inl, inr, refl, sym, ap, ◌∙◌, subst, true≢false, arith}
-use Rattle.std.specs.Prelude.{Ok, Option, Some, None, option_map}
-use Rattle.std.specs.Str.{bytes_eq}
-use Rattle.std.specs.List.{All, flat_map}
-use Rattle.std.proofs.lemmas.List.{get_or-map}
+use Rattle.std.proofs.Common.{rules, ◌≡◌, ◌≢◌, ℕ, zero, suc, ◌<◌, Bool, true, false, ◌||◌, List, [], ◌∷◌, length, map, fold, get_or, Contains, ◌⊎◌, refl, sym, ap, ◌∙◌, true≢false, arith}
+use Rattle.std.specs.{Prelude.{Ok, Option, Some, None, option_map}, Str.bytes_eq, List.{All, flat_map}}
+use Rattle.std.proofs.lemmas.{List.{get_or-map, Folds.list_any-append}, Slice.Eq.bytes_eq-Decides}
 use Rattle.std.proofs.lemmas.List.Elements.{All-nil, All-cons, All-weaker, Contains-append_right}
-use Rattle.std.proofs.lemmas.List.Folds.{list_any-append}
-use Rattle.std.proofs.lemmas.Slice.Eq.{bytes_eq-Decides}
 use Rattle.yaml_subset.specs.Keys.{is_among}
-use Rattle.mpf_sections.specs.Rows.{Written, Coil}
-use Rattle.mpf_sections.specs.Typed.{listed_modes}
-use Rattle.mpf_sections.specs.TypedCoils.{coils_in}
-use Rattle.mpf_config.specs.Rows.{ModeRows, Rows}
-use Rattle.mpf_config.specs.Short.{AreListsShort}
-use Rattle.mpf_config.specs.FewModes.{AreFewModes}
-use Rattle.plan_tables.specs.declared.entries.EventId.{EventId}
-use Rattle.plan_tables.specs.declared.entries.ModeEvent.{ModeEvent}
-use Rattle.plan_tables.specs.declared.entries.ModeEvent.TheVariants.{WillStart, Starting, Started, Stopping, Stopped}
-use Rattle.plan_tables.specs.declared.entries.Action.{Action}
-use Rattle.plan_tables.specs.declared.entries.Action.TheVariants.{Post, Pulse, Enable, Change as ChangeVariable, Enter}
-use Rattle.plan_tables.specs.declared.entries.CoilId.{CoilId}
-use Rattle.plan_tables.specs.declared.entries.CoilLimits.{CoilLimits}
-use Rattle.plan_tables.specs.declared.entries.Owner.{Owner}
-use Rattle.plan_tables.specs.declared.entries.Target.{Target}
-use Rattle.plan_tables.specs.declared.entries.Target.TheVariants.{Act}
-use Rattle.plan_tables.specs.declared.devices.RowId.{RowId}
-use Rattle.plan_tables.specs.declared.devices.Act.{Act as ActOfDevice}
+use Rattle.mpf_sections.specs.{Rows.{Written, Coil}, Typed.listed_modes, TypedCoils.coils_in}
+use Rattle.mpf_config.specs.{Rows.{ModeRows, Rows}, Short.AreListsShort, FewModes.AreFewModes}
+use Rattle.plan_tables.specs.declared.entries.{EventId.EventId, Action.Action, CoilId.CoilId, Owner.Owner}
+use Rattle.plan_tables.specs.declared.entries.{ModeEvent.ModeEvent, CoilLimits.CoilLimits}
+use Rattle.plan_tables.specs.declared.entries.Target.{Target, TheVariants.Act}
+use Rattle.plan_tables.specs.declared.devices.{RowId.RowId, Act.Act as ActOfDevice}
 use Rattle.plan_tables.specs.PlanView.{PlanCoil, no_coil, PlanView, name_of_event, coil_at, row_at}
-use Rattle.plan_tables.specs.Valid.{IsActionWithin}
+use Rattle.plan_tables.specs.{Valid.IsActionWithin, BallRows.BookingsAreRight}
 use Rattle.cascade_rank.specs.Verified.{IsVerified}
-use Rattle.coil_guard.specs.Asked.{limits_of}
-use Rattle.coil_guard.specs.Limits.{no_limits, limits_at}
-use Rattle.machine_definitions.specs.Definitions.{latest_coil, coil_called}
-use Rattle.row_contributions.specs.CoilEntries.{limits_of_coil}
+use Rattle.coil_guard.specs.{Asked.limits_of, Limits.{no_limits, limits_at}}
+use Rattle.machine_definitions.specs.{Definitions.{latest_coil, coil_called}, GameEvents.reserved_game_events}
+use Rattle.row_contributions.specs.{CoilEntries.limits_of_coil, Contributions.contributions_of}
 use Rattle.plan_contributions.specs.Contributions.{mode_event_name}
-use Rattle.row_contributions.specs.Contributions.{contributions_of}
-use Rattle.row_contributions.proofs.BallRows.{doing_heard_once}
-use Rattle.row_contributions.proofs.CoilsGiven.{coils_given}
-use Rattle.row_contributions.proofs.RowEffects.{all_do}
-use Rattle.mpf_plan.specs.PlanOf.{plan_at}
-use Rattle.mpf_plan.specs.ByName.{IsByVariable, IsDone, effect_of, latest_limits, limits_called}
-use Rattle.mpf_plan.proofs.DoneNames.{by_variable, done-named}
-use Rattle.mpf_plan.proofs.ModeEventNames.{free-by_name}
+use Rattle.row_contributions.proofs.{BallRows.doing_heard_once, CoilsGiven.coils_given, RowEffects.all_do}
+use Rattle.mpf_plan.specs.{PlanOf.plan_at, ByName.{IsByVariable, IsDone, effect_of, latest_limits, limits_called}}
+use Rattle.mpf_plan.proofs.{DoneNames.{by_variable, done-named}, ModeEventNames.free-by_name}
 use Rattle.mpf_plan.proofs.ValidPlan.{HasEntries-plan_at, own-plan_at, listeners-plan_at, limits-plan_at, IsValid-plan_at}
 use Rattle.mpf_plan.proofs.WithBalls.{ball_devices_own-plan_at, right_with_balls-plan_at}
 use Rattle.written_machine.specs.CoilActions.{KeepsLimits, ActionsKeepLimits}
-use Rattle.written_machine.specs.Accepted.{IsAccepted}
-use Rattle.plan_tables.specs.BallRows.{BookingsAreRight}
-use Rattle.written_machine.specs.CheckedView.{CheckedView}
-use Rattle.written_machine.specs.Devices.{ActsAreOwn, IsOwnAct}
+use Rattle.written_machine.specs.{Accepted.IsAccepted, CheckedView.CheckedView, Devices.{ActsAreOwn, IsOwnAct}}
 use Rattle.written_machine.specs.FreePosts.{IsFree, IsFreeWork, IsFreeAction, IsFreeSwitch, PostsAreFree}
-use Rattle.row_faults.specs.Reserved.{mode_events, events_of_modes, mode_names, is_reserved}
-use Rattle.machine_definitions.specs.GameEvents.{reserved_game_events}
-use Rattle.row_faults.specs.RowFaults.{row_faults}
-use Rattle.row_faults.specs.Sound.{IsSound}
-use Rattle.row_faults.proofs.Sound.{no_faults_sound}
-use Rattle.row_faults.proofs.None.{map-none}
-use Rattle.config_checker.specs.FaultView.{row}
-use Rattle.config_checker.specs.Checking.{faults_of_rows}
+use Rattle.row_faults.specs.{Reserved.{events_of_modes, mode_names, is_reserved}, RowFaults.row_faults, Sound.IsSound}
+use Rattle.row_faults.proofs.{Sound.no_faults_sound, None.map-none}
+use Rattle.config_checker.specs.{FaultView.row, Checking.faults_of_rows}
 use Rattle.config_checker.proofs.RowsDoing.{IsUnreserved, IsFine, IsThere, rows_doing}
 
 -- ---- the events of a mode are reserved
 
 among-later : (a b : Bool) → b ≡ true → (a || b) ≡ true
-among-later true b is = refl
-among-later false b is = is
+among-later x1 b is = search rules
 
 among-first : (a b : Bool) → a ≡ true → (a || b) ≡ true
-among-first true b is = refl
-among-first false b is = absurd (true≢false (sym is))
+among-first x1 b is = search rules
 
 same_bytes : (name : List ℕ) → bytes_eq name name ≡ true
 same_bytes name = (bytes_eq-Decides name name).1 refl
 
 -- one of five that passes
 one-passes : (a b c d e : Bool) → (a ≡ true) ⊎ ((b ≡ true) ⊎ ((c ≡ true) ⊎ ((d ≡ true) ⊎ (e ≡ true)))) → (a || (b || (c || (d || (e || false))))) ≡ true
-one-passes a b c d e (inl is) = among-first a (b || (c || (d || (e || false)))) is
-one-passes a b c d e (inr (inl is)) = among-later a (b || (c || (d || (e || false)))) (among-first b (c || (d || (e || false))) is)
-one-passes a b c d e (inr (inr (inl is))) = among-later a (b || (c || (d || (e || false)))) (among-later b (c || (d || (e || false))) (among-first c (d || (e || false)) is))
-one-passes a b c d e (inr (inr (inr (inl is)))) =
-    among-later a (b || (c || (d || (e || false)))) (among-later b (c || (d || (e || false))) (among-later c (d || (e || false)) (among-first d (e || false) is)))
-one-passes a b c d e (inr (inr (inr (inr is)))) =
-    among-later a (b || (c || (d || (e || false)))) (among-later b (c || (d || (e || false))) (among-later c (d || (e || false)) (among-later d (e || false) (among-first e false is))))
+one-passes a b c d e x6 = search (rules, among-first, among-later)
 
 module _ (name : List ℕ) where
   abbrev is_event : ModeEvent → List ℕ → Bool
   is_event which other = bytes_eq (mode_event_name which name) other
 
-  passes-any : (q : List ℕ) → (is_event WillStart q ≡ true) ⊎ ((is_event Starting q ≡ true) ⊎ ((is_event Started q ≡ true) ⊎ ((is_event Stopping q ≡ true) ⊎ (is_event Stopped q ≡ true)))) → is_among (mode_events name) q ≡ true
-  passes-any q h = one-passes (is_event WillStart q) (is_event Starting q) (is_event Started q) (is_event Stopping q) (is_event Stopped q) h
-
-  mode-among : (which : ModeEvent) → is_among (mode_events name) (mode_event_name which name) ≡ true
-  mode-among WillStart = passes-any (mode_event_name WillStart name) (inl (same_bytes (mode_event_name WillStart name)))
-  mode-among Starting = passes-any (mode_event_name Starting name) (inr (inl (same_bytes (mode_event_name Starting name))))
-  mode-among Started = passes-any (mode_event_name Started name) (inr (inr (inl (same_bytes (mode_event_name Started name)))))
-  mode-among Stopping = passes-any (mode_event_name Stopping name) (inr (inr (inr (inl (same_bytes (mode_event_name Stopping name))))))
-  mode-among Stopped = passes-any (mode_event_name Stopped name) (inr (inr (inr (inr (same_bytes (mode_event_name Stopped name))))))
-
 modes-among : (names : List (List ℕ)) (name : List ℕ) (which : ModeEvent) → Contains names name → is_among (events_of_modes names) (mode_event_name which name) ≡ true
 modes-among [] name which (k, l, is) = absurd (omega arith)
-modes-among (n ∷ names) name which (zero, l, is) =
-    list_any-append (λ k. bytes_eq k (mode_event_name which name)) (mode_events n) (events_of_modes names)
-    ∙ among-first (is_among (mode_events n) (mode_event_name which name)) (is_among (events_of_modes names) (mode_event_name which name))
-    (subst (λ (m : List ℕ). is_among (mode_events m) (mode_event_name which name) ≡ true) (sym is) (mode-among name which))
-modes-among (n ∷ names) name which (suc k, l, is) =
-    list_any-append (λ k. bytes_eq k (mode_event_name which name)) (mode_events n) (events_of_modes names)
-    ∙ among-later (is_among (mode_events n) (mode_event_name which name)) (is_among (events_of_modes names) (mode_event_name which name)) (modes-among names name which (k, omega arith, is))
+modes-among (n ∷ names) name which (zero, l, is) = search (rules, list_any-append, among-first, one-passes, same_bytes)
+modes-among (n ∷ names) name which (suc k, l, is) = search (rules, list_any-append, among-later, modes-among names name which (k, omega arith, is))
 
 first-false : (a b : Bool) → (a || b) ≡ false → a ≡ false
-first-false true b h = absurd (true≢false h)
-first-false false b h = refl
+first-false x1 b h = search rules
 
 second-false : (a b : Bool) → (a || b) ≡ false → b ≡ false
-second-false true b h = absurd (true≢false h)
-second-false false b h = h
+second-false x1 b h = search rules
 
 -- ---- the plan
 
@@ -134,10 +79,7 @@ module _ (rows : Rows) (none : faults_of_rows rows ≡ []) (plan : PlanView) (is
   -- what is not among names is none of them
   apart-all : (names : List (List ℕ)) (n : List ℕ) → is_among names n ≡ false → All (λ name. n ≢ name) names
   apart-all [] n h = All-nil (λ name. n ≢ name)
-  apart-all (x ∷ names) n h =
-      All-cons (λ name. n ≢ name) x names
-      (λ same. true≢false (sym (among-first (bytes_eq x n) (is_among names n) ((bytes_eq-Decides x n).1 (sym same))) ∙ h))
-      (apart-all names n (second-false (bytes_eq x n) (is_among names n) h))
+  apart-all (x ∷ names) n h = search (rules, All-cons, among-first, bytes_eq-Decides, second-false, apart-all names n (second-false (bytes_eq x n) (is_among names n) h))
 
   -- an event whose name is not reserved is none of a mode's, and of the game's at most that of the start button
   event-free : (e : EventId) → IsUnreserved rows (name_of_event plan e) → IsFree plan e
@@ -150,10 +92,7 @@ module _ (rows : Rows) (none : faults_of_rows rows ≡ []) (plan : PlanView) (is
       IsFreeWork tt refl
 
   action-free : (a : Action) → IsByVariable plan a → IsFine rows (effect_of plan a) → IsFreeAction plan a
-  action-free (Post e) by h = event-free e h
-  action-free (ChangeVariable v action n e) by h = event-free e (subst (IsUnreserved rows) (sym by) h)
-  action-free (Enter r e drain) by h = event-free e h
-  action-free _ by h = tt
+  action-free x1 by h = search (rules, by, event-free)
 
   abbrev IsNamedFree : EventId → Type 0
   IsNamedFree e = IsUnreserved rows (name_of_event plan e)
@@ -173,11 +112,7 @@ module _ (rows : Rows) (none : faults_of_rows rows ≡ []) (plan : PlanView) (is
   -- the latest limits that are given for a name are those of the coil that is called so
   called_limits : (name : List ℕ) (cs : List Coil) (o : Option Coil) → fold (latest_limits name) (option_map limits_of_coil o) (map (λ c. (c.name.text, limits_of_coil c)) cs) ≡ option_map limits_of_coil (fold (latest_coil name) o cs)
   called_limits name [] o = refl
-  called_limits name (c ∷ cs) o = ap (λ found. fold (latest_limits name) found (map (λ c. (c.name.text, limits_of_coil c)) cs)) (by (bytes_eq name c.name.text)) ∙ called_limits name cs (latest_coil name o c)
-    where
-      by : (b : Bool) → (if b then Some (limits_of_coil c) else option_map limits_of_coil o) ≡ option_map limits_of_coil (if b then Some c else o)
-      by true = refl
-      by false = refl
+  called_limits name (c ∷ cs) o = search (rules, called_limits name cs (latest_coil name o c))
 
   same_Some : (a b : CoilLimits) → Some a ≡ Some b → a ≡ b
   same_Some a b e = cc
@@ -192,15 +127,7 @@ module _ (rows : Rows) (none : faults_of_rows rows ≡ []) (plan : PlanView) (is
       get_or-map (λ (p : PlanCoil). p.limits) plan.coils c.0 no_coil no_limits within ∙ same_Some (coil_at plan c).limits (limits_of_coil x) (sym given ∙ own)
 
   action-keeps_limits : (a : Action) → IsActionWithin plan a → IsFine rows (effect_of plan a) → KeepsLimits plan a
-  action-keeps_limits (Pulse c ms power) within h =
-      let same = limits_are c within h.coil h.called in
-      let pulse = h.such in
-      (pulse.shortest, omega (arith, pulse.longest, ap (λ (l : CoilLimits). l.max_pulse_ms) same), omega (arith, pulse.greatest, ap (λ (l : CoilLimits). l.max_pulse_power) same))
-  action-keeps_limits (Enable c power) within h =
-      let same = limits_are c within h.coil h.called in
-      let hold = h.such in
-      (ap (λ (l : CoilLimits). l.may_hold) same ∙ hold.allowed, omega (arith, hold.greatest, ap (λ (l : CoilLimits). l.max_hold_power) same))
-  action-keeps_limits _ within h = tt
+  action-keeps_limits x1 within h = search (rules, limits_are)
 
   plan_keeps_limits : ActionsKeepLimits plan
   plan_keeps_limits =
@@ -211,22 +138,18 @@ module _ (rows : Rows) (none : faults_of_rows rows ≡ []) (plan : PlanView) (is
 -- a binding acts on a device of its own owner, and a device that listens is the machine's, and so is a ball device
 plan_own : (rows : Rows) → AreListsShort rows → (plan : PlanView) → plan_at rows ≡ Ok plan → ActsAreOwn plan
 plan_own rows short plan is = record {
-  bindings = All-weaker (λ b. (r : RowId) (act : ActOfDevice) → b.target ≡ Act r act → (row_at plan r).owner ≡ b.owner) (λ b. IsOwnAct plan b.owner b.target) (λ b h. own b.owner b.target h) plan.bindings
-      (own-plan_at rows plan is);
+  bindings = search (rules, All-weaker, own, own-plan_at);
   listeners = listeners-plan_at rows plan is;
   balls = ball_devices_own-plan_at rows short plan is;
 }
   where
     own : (owner : Owner) (t : Target) → ((r : RowId) (act : ActOfDevice) → t ≡ Act r act → (row_at plan r).owner ≡ owner) → IsOwnAct plan owner t
-    own owner (Act r act) h = h r act refl
-    own owner _ h = tt
+    own owner x2 h = search rules
 
 -- ---- balls
 
 plan_bookings : (rows : Rows) → AreListsShort rows → faults_of_rows rows ≡ [] → (plan : PlanView) → plan_at rows ≡ Ok plan → BookingsAreRight plan
-plan_bookings rows short none plan is =
-    let once = doing_heard_once (IsFine rows) (IsUnreserved rows) (IsThere rows) rows (rows_doing rows (rows_sound rows none)) in
-    right_with_balls-plan_at rows short once plan is
+plan_bookings rows short none plan is = search (rules, doing_heard_once, rows_doing, rows_sound, right_with_balls-plan_at)
 
 -- ---- what is accepted
 

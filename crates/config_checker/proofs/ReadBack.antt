@@ -1,54 +1,30 @@
 -- What was accepted is accepted again with the text of its certificate.
 use mathlib.Core.Bool.{Bool-set}
-use Rattle.std.proofs.Common.{◌≡◌, ℕ, ◌<◌, ◌≤◌, ◌^◌, Bool, true, false, if◌then◌else◌, List, [], ◌∷◌, length, get_or, Option, Some, None, Result, Ok, Err, inl, inr, refl, sym, ap, ◌∙◌, subst, arith}
-use Rattle.std.specs.List.{All, zip}
-use Rattle.std.proofs.Math.Logic.{∥∥₁_elim}
-use Rattle.std.proofs.lemmas.Bool.{not-false}
-use Rattle.std.proofs.lemmas.List.{get_or-map}
-use Rattle.std.proofs.lemmas.List.Elements.{All-weaker}
-use Rattle.std.proofs.lemmas.Slice.Zip.{firsts-zip, seconds-zip}
+use Rattle.std.proofs.Common.{rules, ◌≡◌, ℕ, ◌<◌, ◌≤◌, ◌^◌, Bool, true, if◌then◌else◌, List, [], length, get_or, Option, Some, None, Result, Ok, Err, inl, inr, refl, sym, ap, ◌∙◌, subst, arith}
+use Rattle.std.{specs.List.{All, zip}, proofs.lemmas.{Bool.not-false, Slice.Zip.{firsts-zip, seconds-zip}}}
+use Rattle.std.proofs.{Math.Logic.∥∥₁_elim, lemmas.List.{get_or-map, Elements.All-weaker}}
 use Rattle.mpf_sections.specs.Named.{IsNamed}
-use Rattle.mpf_config.specs.declared.config.Config.{Config}
-use Rattle.mpf_config.specs.Rows.{Rows}
-use Rattle.mpf_config.specs.View.{rows_view}
-use Rattle.mpf_config.specs.Named.{IsNamedMode}
-use Rattle.mpf_config.specs.FewModes.{AreFewModes}
-use Rattle.mpf_config.specs.Short.{AreListsShort}
-use Rattle.mpf_config.specs.Reading.{rows_at}
+use Rattle.mpf_config.specs.{declared.config.Config.Config, Rows.Rows, View.rows_view}
+use Rattle.mpf_config.specs.{Named.IsNamedMode, FewModes.AreFewModes, Short.AreListsShort, Reading.rows_at}
 use Rattle.mpf_config.proofs.RowNames.{rows_are_named, modes_are_named}
-use Rattle.plan_tables.specs.PlanView.{PlanView}
-use Rattle.plan_tables.specs.declared.entries.EventId.{EventId}
-use Rattle.plan_tables.specs.declared.table.Table.TheVariants.{Switches}
-use Rattle.plan_tables.specs.Limits.{entry_names}
-use Rattle.mpf_plan.specs.PlanOf.{plan_at, plan_of, PlanRefusal, no_such_name, above_limit}
-use Rattle.mpf_plan.proofs.Judged.{plan_at-Ok}
-use Rattle.plan_tables.specs.Valid.{HasEntries}
-use Rattle.mpf_plan.proofs.ValidPlan.{HasEntries-plan_at}
-use Rattle.cascade_rank.specs.Events.{weight_of}
-use Rattle.cascade_rank.specs.Cost.{switches_of}
+use Rattle.plan_tables.specs.{PlanView.PlanView, Limits.entry_names, Valid.HasEntries}
+use Rattle.plan_tables.specs.declared.{entries.EventId.EventId, table.Table.TheVariants.Switches}
+use Rattle.mpf_plan.specs.PlanOf.{plan_at, plan_of, PlanRefusal}
+use Rattle.mpf_plan.proofs.{Judged.plan_at-Ok, ValidPlan.HasEntries-plan_at}
+use Rattle.cascade_rank.specs.{Events.weight_of, Cost.switches_of, Ranks.ranks, Cycle.first_open}
 use Rattle.cascade_rank.specs.Weights.{IsLeastFitting, bound_of, switch_cost, switch_costs, greatest}
-use Rattle.cascade_rank.specs.LeadsTo.{grounded, is_open}
-use Rattle.cascade_rank.specs.Ranks.{ranks}
-use Rattle.cascade_rank.specs.Cycle.{first_open}
+use Rattle.cascade_rank.specs.{LeadsTo.{grounded, is_open}, Verified.IsVerified}
 use Rattle.cascade_rank.specs.Finding.{RankView, bound_too_large, is_within_limit, found_past, found_at}
-use Rattle.cascade_rank.specs.Verified.{IsVerified}
-use Rattle.cascade_rank.proofs.FirstEvent.{first_event-None}
+use Rattle.cascade_rank.proofs.{FirstEvent.first_event-None, Verifying.IsWithinLimit-from_test, Finds.ranks_least}
 use Rattle.cascade_rank.proofs.Switches.{length-switches, switch_of, switch-within_bound}
-use Rattle.cascade_rank.proofs.Verifying.{IsWithinLimit-from_test}
-use Rattle.cascade_rank.proofs.Finds.{ranks_least}
-use Rattle.written_machine.specs.CheckedView.{CheckedView}
-use Rattle.written_machine.specs.Accepted.{IsAccepted}
-use Rattle.config_checker.proofs.PlanFree.{plan_accepted}
+use Rattle.written_machine.specs.{CheckedView.CheckedView, Accepted.IsAccepted}
+use Rattle.config_checker.proofs.{PlanFree.plan_accepted, Names.all_seen}
 use Rattle.config_checker.specs.CertificateText.{certificate_of, certificate_text, IsCertificateText}
-use Rattle.config_checker.specs.CertificateOf.{IsWord, AreWritable, IsWritable}
+use Rattle.config_checker.specs.{CertificateOf.{IsWord, AreWritable, IsWritable}, ReadAgain.{IsReadAgain, IsAcceptedOf}}
 use Rattle.config_checker.specs.Checking.{FaultView, weighed, weighed_plan, certified_plan, reported_alone, faults_of_rows, faults_first, checked, checked_at, checked_with_at}
-use Rattle.config_checker.specs.ReadAgain.{IsReadAgain, IsAcceptedOf}
-use Rattle.config_checker.proofs.Certificates.{text-is_read}
+use Rattle.config_checker.proofs.{Certificates.text-is_read, Judging.certified-checked}
 use Rattle.config_checker.proofs.CertificateMeaning.{length-costs, costs_counted, accepted_is_certified, certified_again}
-use Rattle.config_checker.proofs.Names.{all_seen}
-use Rattle.config_checker.proofs.EventWords.{events_are_words}
-use Rattle.config_checker.proofs.SwitchWords.{switches_are_words}
-use Rattle.config_checker.proofs.Judging.{certified-checked}
+use Rattle.config_checker.proofs.{EventWords.events_are_words, SwitchWords.switches_are_words}
 
 ok_same : {X E : Type 0} (x y : X) → ◌≡◌ {A = Result X E} (Ok x) (Ok y) → x ≡ y
 ok_same x y e = cc
@@ -58,8 +34,7 @@ err_not_ok e x is = cc
 
 -- a test that was passed
 chosen : {X E : Type 0} (b : Bool) (r : Result X E) (e : E) (x : X) → (if b then r else Err e) ≡ Ok x → (b ≡ true) × (r ≡ Ok x)
-chosen true r e x is = (refl, is)
-chosen false r e x is = absurd (err_not_ok e x is)
+chosen x1 r e x is = search (rules, err_not_ok)
 
 -- ---- weights that were found
 
@@ -73,9 +48,7 @@ module _ (plan : PlanView) (valid : HasEntries plan) (ws : List ℕ) where
 
   found-verified : found_at plan ≡ Ok ws → IsVerified plan ws (bound_of plan (weight_of ws))
   unfolding found_at
-  found-verified found =
-      let both = past_found (first_open plan) refl found in
-      record { count = both.0.count; fits = both.0.fits; limit = IsWithinLimit-from_test plan ws both.1; bound_is = refl }
+  found-verified found = search (rules, past_found, IsWithinLimit-from_test)
 
 -- a verified certificate whose names are words can be written
 module _ (c : CheckedView) (verified : IsVerified c.plan c.weights c.bound) where
@@ -97,13 +70,7 @@ module _ (c : CheckedView) (verified : IsVerified c.plan c.weights c.bound) wher
       omega (arith, here, low, verified.limit.bound_within)
 
   verified-writable : All IsWord c.plan.events → All IsWord (entry_names c.plan Switches) → IsWritable (certificate_of c)
-  verified-writable events switches =
-      let below = verified.limit.bound_within in
-      record {
-        bound = omega (arith, below, verified.bound_is);
-        switches = writable (entry_names c.plan Switches) (switch_costs c.plan (weight_of c.weights)) (costs_counted c verified) switches costs_within;
-        events = writable c.plan.events c.weights verified.count events verified.limit.weights_within;
-      }
+  verified-writable events switches = search (rules, writable, costs_counted, costs_within)
 
 -- the names of its events and of its switches are words
 abbrev IsWorded : PlanView → Type 0
@@ -118,8 +85,7 @@ module _ (rows : Rows) where
 
   -- rows that are accepted have no faults of their own
   first-ok : (own : List FaultView) (answer : Result CheckedView (List FaultView)) (c : CheckedView) → faults_first own answer ≡ Ok c → (own ≡ []) × (answer ≡ Ok c)
-  first-ok [] answer c is = (refl, is)
-  first-ok (f ∷ fs) answer c is = absurd (err_not_ok _ c is)
+  first-ok x1 answer c is = search (rules, err_not_ok)
 
   pub found-none : (c : CheckedView) → checked_at rows ≡ Ok c → faults_of_rows rows ≡ []
   unfolding checked_at
@@ -129,22 +95,13 @@ module _ (rows : Rows) where
   unfolding checked_with_at
   given-none text c is = (first-ok (faults_of_rows rows) (checked (certified_plan text) (plan_at rows)) c is).0
 
-  alone_same : (r : Result CheckedView FaultView) (c : CheckedView) → reported_alone r ≡ Ok c → r ≡ Ok c
-  alone_same (Ok x) c is = ap Ok (ok_same x c is)
-  alone_same (Err e) c is = absurd (err_not_ok _ c is)
-
   checked-plan : (judge : PlanView → Result CheckedView FaultView) (planned : Result PlanView PlanRefusal) (c : CheckedView) → checked judge planned ≡ Ok c → (plan : PlanView) × (planned ≡ Ok plan) × (judge plan ≡ Ok c)
-  checked-plan judge (Ok plan) c is = (plan, refl, alone_same (judge plan) c is)
-  checked-plan judge (Err no_such_name) c is = absurd (err_not_ok _ c is)
-  checked-plan judge (Err (above_limit t)) c is = absurd (err_not_ok _ c is)
+  checked-plan judge x2 c is = search (rules, ok_same, err_not_ok)
 
   -- what was accepted has the plan of the rows, and weights that serve
   weighed-verified : (plan : PlanView) (found : Result (List ℕ) RankView) (c : CheckedView) → plan_at rows ≡ Ok plan → found_at plan ≡ found → weighed plan found ≡ Ok c
       → (plan_at rows ≡ Ok c.plan) × IsVerified c.plan c.weights c.bound
-  weighed-verified plan (Ok ws) c made found is =
-      let accepted : CheckedView = record { plan = plan; weights = ws; bound = bound_of plan (weight_of ws) } in
-      subst (λ (v : CheckedView). (plan_at rows ≡ Ok v.plan) × IsVerified v.plan v.weights v.bound) (ok_same accepted c is) (made, found-verified plan (HasEntries-plan_at rows plan made) ws found)
-  weighed-verified plan (Err fault) c made found is = absurd (err_not_ok _ c is)
+  weighed-verified plan x2 c made found is = search (rules, ok_same, found-verified, HasEntries-plan_at, err_not_ok)
 
   found_is_verified : (c : CheckedView) → checked_at rows ≡ Ok c → (plan_at rows ≡ Ok c.plan) × IsVerified c.plan c.weights c.bound
   unfolding checked_at weighed_plan

@@ -1,53 +1,42 @@
 -- What sound rows do: they post nothing reserved, by a variable neither, each deed is within the limits of its coil,
 -- each switch to which a device listens or which a shot has is defined, and so is each profile, each shot that a group
 -- lists, and each target of a ball device; and no ball device has a ball switch twice.
-use Rattle.std.proofs.Common.{rules, ◌≡◌, ◌≢◌, ℕ, suc, Bool, true, false, ◌||◌, if◌then◌else◌, List, [], ◌∷◌, ◌++◌, map, fold, get_or, codes, refl, sym, ◌∙◌, ap, subst, true≢false, arith, length-append}
-use Rattle.std.specs.Prelude.{Option, Some, None, IfSome, is_some}
-use Rattle.std.specs.Str.{bytes_eq}
-use Rattle.std.specs.List.{All, AllPairs, flat_map, list_any}
-use Rattle.std.proofs.lemmas.List.{get_or_append_left}
+use Rattle.std.proofs.Common.{rules, ◌≡◌, ◌≢◌, ℕ, suc, Bool, true, false, ◌||◌, if◌then◌else◌, List, [], ◌∷◌, ◌++◌, map, fold, get_or, codes, refl, sym, true≢false, arith, length-append}
+use Rattle.std.{specs.Prelude.{Option, Some, None, IfSome, is_some}, proofs.lemmas.List.get_or_append_left}
+use Rattle.std.specs.{Str.bytes_eq, List.{All, AllPairs, flat_map, list_any}}
 use Rattle.std.proofs.lemmas.List.Elements.{All-nil, All-cons, All-head, All-tail, All-append, All-map, All-weaker, All-from_get_or, All-from_recursion}
-use Rattle.mpf_sections.specs.Rows.{Written, Entry, Switch, CoilPlayer, VariablePlayer, BlockEvents, Rule, CoilRule, flipper, Shot, ShotGroup, BallDevice, SectionRows}
-use Rattle.mpf_sections.specs.TypedGame.{variable_players_in}
-use Rattle.machine_definitions.specs.Players.{player_event, is_set_by_game}
-use Rattle.row_contributions.specs.VariableEntries.{item_change}
+use Rattle.mpf_sections.specs.Rows.{Written, Entry, Switch, CoilPlayer, VariablePlayer, BlockEvents, CoilRule, Shot, ShotGroup, BallDevice, SectionRows}
+use Rattle.mpf_sections.specs.{TypedGame.variable_players_in, TypedBalls.ball_devices_in}
+use Rattle.machine_definitions.specs.{Players.player_event, Shots.Profile}
 use Rattle.mpf_config.specs.Rows.{Rows}
 use Rattle.mpf_sections.specs.Typed.{counters_name, accruals_name, sequences_name, timers_name, counter_of, step_block_of, timer_of, entries_in, switches_in, event_players_in, counters_in, accruals_in, sequences_in}
-use Rattle.mpf_sections.specs.TypedCoils.{coil_players_in, coil_rule_of}
-use Rattle.mpf_sections.specs.TypedShots.{shots_in, shot_groups_in}
-use Rattle.mpf_sections.specs.TypedBalls.{playfield, ball_devices_in}
+use Rattle.mpf_sections.specs.{TypedCoils.{coil_players_in, coil_rule_of}, TypedShots.{shots_in, shot_groups_in}}
 use Rattle.mpf_sections.specs.TypedSaves.{ball_saves_name, multiballs_name, ball_save_of, multiball_of}
 use Rattle.machine_settings.specs.declared.settings.StepSettings.{StepSettings}
 use Rattle.plan_tables.specs.declared.devices.Settings.{Settings}
 use Rattle.plan_tables.specs.declared.devices.Settings.TheVariants as kinds
 use Rattle.machine_definitions.specs.Definitions.{has_switch, ball_devices_of, latest_ball_device}
-use Rattle.machine_definitions.specs.Shots.{Profile, profile_of_name}
 use Rattle.plan_contributions.specs.Effects.{Effect, posts, works, changes, enters, leaves, loses, arrives}
-use Rattle.row_contributions.specs.DeviceEntries.{Device, counter_device, step_device, step_settings, timer_device, device_of, block_event, or_own, block_lists, timer_event, timer_endings, timer_lists}
-use Rattle.row_contributions.specs.CoilEntries.{defaults_called, own_pulse, item_effect, rule_device, rule_device_of}
+use Rattle.row_contributions.specs.DeviceEntries.{Device, counter_device, step_device, step_settings, timer_device, device_of, block_event, or_own, block_lists, timer_lists}
+use Rattle.row_contributions.specs.{CoilEntries.{item_effect, rule_device_of}, Contributions.{texts, tag_event}}
 use Rattle.row_contributions.specs.BallEntries.{drains, ball_event, eject_pulse, ball_lists}
 use Rattle.row_contributions.specs.SaveEntries.{save_device, multiball_device, save_device_of}
 use Rattle.row_contributions.specs.ShotEntries.{shot_events, group_events, shot_lists, state_lists, group_lists}
 use Rattle.plan_rows.specs.Members.{members_of}
-use Rattle.row_contributions.specs.Contributions.{texts, tag_event}
-use Rattle.row_contributions.specs.Doing.{IsSwitchDoing, IsPlayerDoing, IsDeviceDoing, IsEntryDoing, IsCoilPlayerDoing, IsVariablePlayerDoing, IsShotDoing, IsShotGroupDoing, has_target, IsBallDeviceDoing, IsDoing, IsMachineDoing, AreDoing}
-use Rattle.row_contributions.proofs.Before.{All-flat_map}
-use Rattle.row_contributions.proofs.SaveFacts.{all_save, all_multiball}
+use Rattle.row_contributions.specs.Doing.{IsSwitchDoing, IsPlayerDoing, IsEntryDoing, IsCoilPlayerDoing, IsVariablePlayerDoing, IsShotDoing, IsShotGroupDoing, has_target, IsBallDeviceDoing, IsDoing, IsMachineDoing, AreDoing}
+use Rattle.row_contributions.proofs.{Before.All-flat_map, SaveFacts.{all_save, all_multiball}}
 use Rattle.row_faults.specs.Reserved.{is_reserved, switch_posts, player_posts, counter_posts, step_posts, posts_in, posts_of}
 use Rattle.row_faults.specs.Sound.{ChangesNothingBarred, IsChangeFree, IsItemSound, IsCoilSound, IsCoilSuch, IsCoilPlayerSound, IsRuleSound, IsShotSound, IsShotGroupSound, IsBallDeviceSound, IsSectionSound, IsSound}
-use Rattle.row_faults.specs.Routes.{switch_names}
+use Rattle.row_faults.specs.{Routes.switch_names, BallFaults.is_place}
 use Rattle.row_faults.proofs.AsWritten.{switch-posts, counter-posts, step-posts}
-use Rattle.row_faults.specs.BallFaults.{is_place}
 use Rattle.config_checker.proofs.FreeNames.{active-free, inactive-free, tag-free, block-free, timer-free, ball-free, save-free, multiball-free, shot-free, group_hit-free, group_complete-free}
-use Rattle.config_checker.proofs.CoilDeeds.{IsDeedSound, item_deed, pulse_deed, flipper_doing}
+use Rattle.config_checker.proofs.CoilDeeds.{IsDeedSound, item_deed}
 
 -- ---- parts of lists
 
 all-parts : {X : Type 0} (P : X → Type 0) (xs ys : List X) → All P (xs ++ ys) → All P xs × All P ys
 all-parts P [] ys h = (All-nil P, h)
-all-parts P (x ∷ xs) ys h =
-    let rest = all-parts P xs ys (All-tail P x (xs ++ ys) h) in
-    (All-cons P x xs (All-head P x (xs ++ ys) h) rest.0, rest.1)
+all-parts P (x ∷ xs) ys h = search (rules, All-tail, All-cons, All-head, all-parts P xs ys (All-tail P x (xs ++ ys) h))
 
 all-each : {X Y : Type 0} (P : Y → Type 0) (f : X → List Y) (xs : List X) → All P (flat_map f xs) → All (λ x. All P (f x)) xs
 all-each P f [] h = All-nil (λ x. All P (f x))
@@ -57,10 +46,7 @@ all-each P f (x ∷ xs) h =
 
 -- two of the items that are made of one are two of all
 first-pairs : {X : Type 0} (R : X → X → Type 0) (xs ys : List X) → AllPairs R (xs ++ ys) → AllPairs R xs
-first-pairs R xs ys h i j d less within =
-    let both = length-append xs ys in
-    subst (λ x. R x (get_or xs j d)) (get_or_append_left xs ys d i (omega (arith, less, within)))
-    (subst (R (get_or (xs ++ ys) i d)) (get_or_append_left xs ys d j within) (h i j d less (omega (arith, within, both))))
+first-pairs R xs ys h i j d less within = search (rules, length-append, get_or, get_or_append_left)
 
 rest-pairs : {X : Type 0} (R : X → X → Type 0) (xs ys : List X) → AllPairs R (xs ++ ys) → AllPairs R ys
 rest-pairs R [] ys h = h
@@ -119,13 +105,10 @@ module _ (rows : Rows) where
   -- ---- variables
 
   second-false : (a b : Bool) → (a || b) ≡ false → b ≡ false
-  second-false true b h = absurd (true≢false h)
-  second-false false b h = h
+  second-false x1 b h = search rules
 
   variable_player-doing : (p : VariablePlayer) → All (IsChangeFree rows) p.items → IsVariablePlayerDoing IsFine IsUnreserved IsThere p
-  variable_player-doing p h =
-      All-weaker (IsChangeFree rows) (λ item. IsFine (item_change item))
-      (λ item free. second-false (is_set_by_game item.variable.text) (is_reserved rows (player_event item.variable.text)) free) p.items h
+  variable_player-doing p h = search (rules, All-weaker, second-false)
 
   -- ---- devices
 
@@ -147,9 +130,7 @@ module _ (rows : Rows) where
       own_or (w ∷ ws) own free h = All-map IsFine posts (texts (w ∷ ws)) (written-free (w ∷ ws) h)
 
   timer-all : (name : List ℕ) → All (All IsFine) (timer_lists name)
-  timer-all name =
-      All-map (All IsFine) (λ ending. posts (timer_event name ending) ∷ []) timer_endings
-      (λ i d within. one (posts (timer_event name (get_or timer_endings i d))) (timer-free name (get_or timer_endings i d) rows))
+  timer-all name = search (rules, All-map, one, get_or, timer-free)
 
   where_free : {X : Type 0} (posts_by : X → List Written) (f : Entry → X) (b : Bool) (es : List Entry) → All IsFreePost (flat_map posts_by (map f (if b then es else []))) → b ≡ true → All (λ e. All IsFreePost (posts_by (f e))) es
   where_free posts_by f true es h is = from_map (λ x. All IsFreePost (posts_by x)) f es (all-each IsFreePost posts_by (map f es) h)
@@ -164,12 +145,8 @@ module _ (rows : Rows) where
   saves-doing section e = by (bytes_eq section ball_saves_name) (bytes_eq section multiballs_name)
     where
       by : (b m : Bool) → IsEntry (if b then Some (save_device (ball_save_of e)) else (if m then Some (multiball_device (multiball_of e)) else None))
-      by true m =
-          let name = (ball_save_of e).name.text in
-          record { lists = all_save IsFine name (λ ending. save-free name ending rows) tt; listens = All-nil IsThere }
-      by false true =
-          let balls = multiball_of e in
-          record { lists = all_multiball IsFine balls.name.text balls.settings.balls (λ ending. multiball-free balls.name.text ending rows) tt; listens = All-nil IsThere }
+      by true m = search (rules, all_save, save-free, All-nil)
+      by false true = search (rules, all_multiball, multiball-free, All-nil)
       by false false = tt
 
   -- the devices of a section that stand in any text
@@ -195,25 +172,19 @@ module _ (rows : Rows) where
           else (if a then Some (step_device (kinds.Accrual (step_settings (step_block_of e))) (step_block_of e))
           else (if q then Some (step_device (kinds.Sequence (step_settings (step_block_of e))) (step_block_of e))
           else (if t then Some (timer_device (timer_of e)) else save_device_of s.name e))))) es
-      by true a q t hc ha hq =
-          All-weaker (λ e. All IsFreePost (counter_posts (counter_of e))) _ counter es (hc refl)
+      by true a q t hc ha hq = search (rules, All-weaker, counter, es)
       by false true q t hc ha hq = All-weaker (λ e. All IsFreePost (step_posts (step_block_of e))) _ (steps kinds.Accrual) es (ha refl)
       by false false true t hc ha hq = All-weaker (λ e. All IsFreePost (step_posts (step_block_of e))) _ (steps kinds.Sequence) es (hq refl)
       by false false false true hc ha hq = λ i d within. record { lists = timer-all (timer_of (get_or es i d)).name.text; listens = All-nil IsThere }
       by false false false false hc ha hq = λ i d within. saves-doing s.name (get_or es i d)
 
-  rule-doing : (settings : Settings) (r : Rule) (lists : List (List Effect)) → IsThere r.switch.text → All (All IsFine) lists → IsDeviceDoing IsFine IsUnreserved IsThere (rule_device settings r lists)
-  rule-doing settings r lists there all = record { lists = all; listens = All-cons IsThere r.switch.text [] there (All-nil IsThere) }
-
   rules-doing : (o : Option CoilRule) → IsRuleSound rows.machine o → IsEntryDoing IsFine IsUnreserved IsThere (rule_device_of rows.machine o)
-  rules-doing (Some (flipper f)) h = rule-doing kinds.Flipper f.rule _ h.switch (flipper_doing rows.machine IsFine (λ name deed sound. sound) f h)
-  rules-doing _ h = search rules depth 8
+  rules-doing x1 h = search (rules, All-cons, All-nil, one)
 
   -- ---- ball devices
 
   eject-doing : (o : Option Written) → IfSome o (λ w. IsCoilSuch rows.machine w.text IsCoilSound) → All IsFine (eject_pulse rows.machine o)
-  eject-doing None h = All-nil IsFine
-  eject-doing (Some w) h = one (works w.text (own_pulse (defaults_called rows.machine w.text))) (pulse_deed rows.machine w.text h)
+  eject-doing x1 h = search (rules, All-nil, one)
 
   ball-lists : (d : BallDevice) → IsBallDeviceSound rows.machine d → All (All IsFine) (ball_lists rows.machine d)
   ball-lists d h =
@@ -246,31 +217,13 @@ module _ (rows : Rows) where
   -- a ball device that is called so is one of them
   called-any : (name : List ℕ) (ds : List BallDevice) (o : Option BallDevice) → is_some (fold (latest_ball_device name) o ds) ≡ (list_any (λ (d : BallDevice). bytes_eq name d.name.text) ds || is_some o)
   called-any name [] o = refl
-  called-any name (d ∷ ds) o =
-      called-any name ds (latest_ball_device name o d) ∙ by (bytes_eq name d.name.text) (list_any (λ (x : BallDevice). bytes_eq name x.name.text) ds)
-    where
-      by : (b c : Bool) → (c || is_some (if b then Some d else o)) ≡ ((b || c) || is_some o)
-      by true true = refl
-      by true false = refl
-      by false c = refl
-
-  no_other : (a b : Bool) → (a || (b || false)) ≡ (a || b)
-  no_other true b = refl
-  no_other false true = refl
-  no_other false false = refl
+  called-any name (d ∷ ds) o = search (rules, called-any name ds (latest_ball_device name o d))
 
   target-there : (name : List ℕ) → is_place rows.machine name ≡ true → has_target rows.machine name ≡ true
-  target-there name is =
-      let ds = ball_devices_of rows.machine in
-      sym (no_other (bytes_eq name playfield) (list_any (λ (d : BallDevice). bytes_eq name d.name.text) ds)) ∙ ap (λ b. bytes_eq name playfield || b) (sym (called-any name ds None)) ∙ is
+  target-there name is = search (rules, called-any)
 
   ball_device-doing : (d : BallDevice) → HasApart d → IsBallDeviceSound rows.machine d → IsBallDeviceDoing IsFine IsUnreserved IsThere rows d
-  ball_device-doing d apart h = record {
-    lists = ball-lists d h;
-    listens = All-map IsThere (λ (w : Written). w.text) d.switches h.switches;
-    apart = apart;
-    target = target-there d.target.text h.target;
-  }
+  ball_device-doing d apart h = search (rules, ball-lists, All-map, target-there)
 
   -- ---- shots and groups of them
 
@@ -284,11 +237,7 @@ module _ (rows : Rows) where
   shot-lists p name = each_state p (shot_events name p.name) (shot-free rows name p.name)
 
   shot-doing : (s : Shot) → IsShotSound rows s → IsShotDoing IsFine IsUnreserved IsThere rows s
-  shot-doing s h = record {
-    switch = h.switch;
-    profile = h.profile;
-    lists = shot-lists (profile_of_name rows s.profile.text) s.name.text;
-  }
+  shot-doing s h = search (rules, shot-lists)
 
   group-lists : (p : Profile) (name : List ℕ) (shots : List (List ℕ)) → All (All IsFine) (group_lists p name shots)
   group-lists p name shots =

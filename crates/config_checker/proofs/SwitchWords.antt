@@ -1,20 +1,13 @@
 -- The names of a plan's switches are names, where every name in its rows is one.
-use Rattle.std.proofs.Common.{ℕ, ◌≤◌, List, length, sym, subst, ap, arith}
+use Rattle.std.proofs.{Common.{ℕ, ◌≤◌, List, length, sym, subst, ap, arith}, lemmas.List.Elements.All-weaker}
 use Rattle.std.specs.List.{All}
-use Rattle.std.proofs.lemmas.List.Elements.{All-weaker}
-use Rattle.mpf_config.specs.Rows.{Rows}
-use Rattle.mpf_config.specs.Named.{IsNamedMode}
+use Rattle.mpf_config.specs.{Rows.Rows, Named.IsNamedMode}
 use Rattle.mpf_sections.specs.Named.{IsName, IsNamed}
-use Rattle.plan_tables.specs.declared.table.Table.TheVariants.{Switches}
-use Rattle.plan_tables.specs.Limits.{entry_names}
-use Rattle.row_contributions.specs.Contributions.{contributions_of}
+use Rattle.plan_tables.specs.{declared.table.Table.TheVariants.Switches, Limits.entry_names}
+use Rattle.row_contributions.{specs.Contributions.contributions_of, proofs.EventNames.used_switches}
 use Rattle.plan_contributions.specs.UsedNames.{uses}
-use Rattle.row_contributions.proofs.EventNames.{used_switches}
-use Rattle.mpf_plan.specs.PlanOf.{plan_of}
-use Rattle.mpf_plan.proofs.Apart.{All-first_by}
-use Rattle.mpf_plan.proofs.Tables.{plan-names}
-use Rattle.config_checker.specs.CertificateOf.{IsWord}
-use Rattle.config_checker.proofs.EventWords.{name-in_word}
+use Rattle.mpf_plan.{specs.PlanOf.plan_of, proofs.{Apart.All-first_by, Tables.plan-names}}
+use Rattle.config_checker.{specs.CertificateOf.IsWord, proofs.EventWords.name-in_word}
 
 name-word : (name : List ℕ) → IsName name → IsWord name
 name-word name h = let some = h.some in record { some = λ none. omega (arith, some, ap length none); letters = name-in_word name h }

@@ -1,18 +1,13 @@
 -- A text that is written piece by piece.
-use Rattle.std.proofs.Common.{◌≡◌, ℕ, ◌+◌, ◌<◌, ◌≤◌, List, [], ◌∷◌, ◌++◌, length, map, take, get_or, Option, Result, Ok, Err, OnOk, sym, ap, subst, ◌∙◌, append-nil, arith}
-use Rattle.std.specs.List.{flat_map, zip}
-use Rattle.std.specs.Io.KnownBytes.{Appends}
-use Rattle.std.proofs.KnownBytes.{Appends-trans}
-use Rattle.std.proofs.lemmas.List.{take_more, take_all}
-use Rattle.std.proofs.lemmas.Grind.{flat_map-append}
-use Rattle.std.proofs.lemmas.List.Folds.{flat_map-map}
-use Rattle.std.proofs.lemmas.Slice.Zip.{get_or-zip, length-zip}
+use Rattle.std.proofs.Common.{rules, ◌≡◌, ℕ, ◌+◌, ◌<◌, ◌≤◌, List, [], ◌∷◌, ◌++◌, length, map, take, get_or, Option, Result, OnOk, sym, ap, subst, ◌∙◌, append-nil, arith}
+use Rattle.std.specs.{List.{flat_map, zip}, Io.KnownBytes.Appends}
+use Rattle.std.proofs.{KnownBytes.Appends-trans, lemmas.List.{take_more, take_all, Folds.flat_map-map}}
+use Rattle.std.proofs.lemmas.{Grind.flat_map-append, Slice.Zip.{get_or-zip, length-zip}}
 use Rattle.config_checker.specs.CertificateText.{numbered_line}
 
 -- a last piece, which may fail
 pub written-last : {T E : Type 0} (r : Result T E) (a b c : Option (List ℕ)) (x y z : List ℕ) → x ++ y ≡ z → Appends a b x → OnOk r (Appends b c y) → OnOk r (Appends a c z)
-written-last (Ok u) a b c x y z e h k = subst (Appends a c) e (Appends-trans a b c x y h k)
-written-last (Err f) a b c x y z e h k = tt
+written-last x1 a b c x y z e h k = search (rules, Appends-trans)
 
 -- the pieces of a list, one more
 pub written-more : {X : Type 0} (piece : X → List ℕ) (xs : List X) (i : ℕ) (d : X) (a b c : Option (List ℕ)) → i < length xs

@@ -1,9 +1,7 @@
 -- The certificate that a text is.
 use Rattle.std.specs.Prelude.{◌≡◌, ◌≢◌, ℕ, ◌+◌, ◌<◌, ◌^◌, nat_lt, ◌==◌, Bool, true, false, ◌&&◌, ◌||◌, not, if◌then◌else◌, Option, Some, None, IfSome, option_map, option_and_then, Result, Ok, Err, List, [], ◌∷◌, length, slice_index, codes}
-use Rattle.std.specs.List.{All, list_all, slice_split}
-use Rattle.std.specs.Str.{bytes_eq}
-use Rattle.yaml_bytes.specs.Bytes.{is_blank}
-use Rattle.yaml_bytes.specs.Numbers.{number_at}
+use Rattle.std.specs.{List.{All, list_all, slice_split}, Str.bytes_eq}
+use Rattle.yaml_bytes.specs.{Bytes.is_blank, Numbers.number_at}
 use Rattle.config_checker.specs.CertificateText.{Numbered, Certificate, text_of}
 
 -- ---- what it is

@@ -1,19 +1,15 @@
 -- What contracts see of a certificate that was read.
 use Rattle.std.specs.Prelude.{◌≡◌, ℕ, Bool, Option, Some, MatchOption, option_map, Result, Ok, Err, List, [], map}
-use Rattle.std.specs.Borrow.{Bor}
-use Rattle.std.specs.Global.{Vec}
+use Rattle.std.specs.{Borrow.Bor, Global.Vec}
 use Rattle.plan_tables.specs.PlanView.{PlanView}
-use Rattle.cascade_rank.specs.Events.{weight_of}
-use Rattle.cascade_rank.specs.Weights.{switch_costs}
+use Rattle.cascade_rank.specs.{Events.weight_of, Weights.switch_costs}
 use Rattle.written_machine.specs.CheckedView.{CheckedView}
 use Rattle.config_checker.specs.declared.certificate_reader.CertificateLines.{CertificateLines}
-use Rattle.config_checker.specs.declared.certificate_reader.Line.{Line}
-use Rattle.config_checker.specs.declared.certificate_reader.ReadFault.{ReadFault}
+use Rattle.config_checker.specs.declared.certificate_reader.{Line.Line, ReadFault.ReadFault}
 use Rattle.config_checker.specs.declared.certificate_reader.ReadFault.TheVariants as faults
-use Rattle.config_checker.specs.CertificateText.{Numbered, Certificate}
+use Rattle.config_checker.specs.{CertificateText.{Numbered, Certificate}, Certified.judged}
 use Rattle.config_checker.specs.CertificateOf.{lines, with_line, front, bound_at, body_at, certificate_at}
 use Rattle.config_checker.specs.Checking.{CertificateFaultView, FaultView, names_of, numbers_of, wrong_names, first_other}
-use Rattle.config_checker.specs.Certified.{judged}
 
 abbrev pub line_view : Line → List ℕ × ℕ
 line_view line = (line.name.now, line.number)

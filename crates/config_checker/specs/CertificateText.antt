@@ -1,11 +1,8 @@
 -- The text of a certificate.
 use Rattle.std.specs.Prelude.{◌≡◌, ◌⊎◌, ℕ, Option, None, Some, List, [], ◌∷◌, ◌++◌, codes}
-use Rattle.std.specs.List.{zip, flat_map}
-use Rattle.std.specs.Fmt.{decimal}
-use Rattle.plan_tables.specs.declared.table.Table.TheVariants.{Switches}
-use Rattle.plan_tables.specs.Limits.{entry_names}
-use Rattle.cascade_rank.specs.Events.{weight_of}
-use Rattle.cascade_rank.specs.Weights.{switch_costs}
+use Rattle.std.specs.{List.{zip, flat_map}, Fmt.decimal}
+use Rattle.plan_tables.specs.{declared.table.Table.TheVariants.Switches, Limits.entry_names}
+use Rattle.cascade_rank.specs.{Events.weight_of, Weights.switch_costs}
 use Rattle.written_machine.specs.CheckedView.{CheckedView}
 
 -- names, each with a number

@@ -1,11 +1,9 @@
 -- What contracts see of a certificate that was judged for a plan.
 use Rattle.std.specs.Prelude.{ℕ, List, Result, Ok, Err}
 use Rattle.plan_tables.specs.PlanView.{PlanView}
-use Rattle.cascade_rank.specs.declared.verdict.Bound.{Bound}
-use Rattle.cascade_rank.specs.Finding.{verified_at}
+use Rattle.cascade_rank.specs.{declared.verdict.Bound.Bound, Finding.verified_at}
 use Rattle.written_machine.specs.CheckedView.{CheckedView}
-use Rattle.config_checker.specs.declared.report.Report.{Report}
-use Rattle.config_checker.specs.CertificateText.{Certificate}
+use Rattle.config_checker.specs.{declared.report.Report.Report, CertificateText.Certificate}
 use Rattle.config_checker.specs.Checking.{FaultView, numbers_of, bounded}
 
 -- the plan with the weights and the bound, where they serve

@@ -2,19 +2,16 @@
 use Rattle.std.specs.Prelude.{ℕ, ◌==◌, ◌&&◌, Bool, true, false, if◌then◌else◌, Option, None, Some, List, [], ◌∷◌, map, Result, Ok, Err}
 use Rattle.std.specs.Str.{bytes_eq}
 use Rattle.mpf_config.specs.Rows.{Rows}
-use Rattle.plan_tables.specs.PlanView.{PlanView, name_of_event}
+use Rattle.plan_tables.specs.{PlanView.{PlanView, name_of_event}, Limits.entry_names}
 use Rattle.plan_tables.specs.declared.table.Table.TheVariants.{Switches}
-use Rattle.plan_tables.specs.Limits.{entry_names}
 use Rattle.mpf_plan.specs.PlanOf.{plan_at, PlanRefusal, no_such_name, above_limit}
-use Rattle.cascade_rank.specs.Events.{weight_of}
-use Rattle.cascade_rank.specs.Weights.{bound_of, switch_costs}
+use Rattle.cascade_rank.specs.{Events.weight_of, Weights.{bound_of, switch_costs}}
 use Rattle.cascade_rank.specs.Finding.{RankView, found_at, verified_at}
 use Rattle.cascade_rank.specs.Finding as ranks
 use Rattle.written_machine.specs.CheckedView.{CheckedView}
 pub use Rattle.config_checker.specs.FaultView.{CertificateFaultView, bad_line, other_events, other_switches, short, other_bound, other_cost, FaultView, row, limit, cycle, bound, certificate}
 use Rattle.row_faults.specs.RowFaults.{row_faults}
-use Rattle.config_checker.specs.CertificateText.{Numbered, Certificate}
-use Rattle.config_checker.specs.CertificateOf.{certificate_at}
+use Rattle.config_checker.specs.{CertificateText.{Numbered, Certificate}, CertificateOf.certificate_at}
 
 -- what is wrong, by the names of the events
 abbrev pub named_fault : PlanView → RankView → FaultView

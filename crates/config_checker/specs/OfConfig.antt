@@ -1,13 +1,11 @@
 -- What checking gives of a configuration as the program has it.
 use Rattle.std.specs.Prelude.{◌≡◌, ℕ, List, [], Result, Ok}
-use Rattle.mpf_config.specs.declared.config.Config.{Config}
-use Rattle.mpf_config.specs.View.{rows_view}
+use Rattle.mpf_config.specs.{declared.config.Config.Config, View.rows_view}
 use Rattle.plan_tables.specs.PlanView.{PlanView}
 use Rattle.mpf_plan.specs.PlanOf.{plan_at}
 use Rattle.written_machine.specs.CheckedView.{CheckedView}
-use Rattle.config_checker.specs.declared.report.Report.{Report}
+use Rattle.config_checker.specs.{declared.report.Report.Report, View.GivesChecked}
 use Rattle.config_checker.specs.Checking.{faults_of_rows, checked_at, checked_with_at}
-use Rattle.config_checker.specs.View.{GivesChecked}
 use Rattle.config_checker.specs.Refused.{IsFaultOf, IsFaultWith, Reports, ReportsNoPlan}
 
 -- the answer is what checking the configuration gives, unless memory ran out

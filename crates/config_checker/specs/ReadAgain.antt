@@ -1,12 +1,8 @@
 -- A certificate that is written is read again.
 use Rattle.std.specs.Prelude.{◌≡◌, ◌⊎◌, ℕ, List, Ok}
-use Rattle.mpf_config.specs.declared.config.Config.{Config}
-use Rattle.mpf_config.specs.Rows.{Rows}
-use Rattle.mpf_config.specs.View.{rows_view}
-use Rattle.mpf_config.specs.Reading.{rows_at}
+use Rattle.mpf_config.specs.{declared.config.Config.Config, Rows.Rows, View.rows_view, Reading.rows_at}
 use Rattle.written_machine.specs.CheckedView.{CheckedView}
-use Rattle.config_checker.specs.CertificateText.{certificate_text}
-use Rattle.config_checker.specs.Checking.{checked_at, checked_with_at}
+use Rattle.config_checker.specs.{CertificateText.certificate_text, Checking.{checked_at, checked_with_at}}
 
 -- With the text of its certificate what was accepted is accepted again, with the same weights and the same bound.
 abbrev pub IsReadAgain : Rows → CheckedView → Type 0

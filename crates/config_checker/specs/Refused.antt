@@ -1,22 +1,16 @@
 -- Why a configuration or a certificate is refused.
 use Rattle.std.specs.Prelude.{◌⊎◌, ◌≡◌, ◌≢◌, ℕ, ◌<◌, Option, None, Some, List, [], ◌∷◌, length, map, slice_index}
 use Rattle.mpf_config.specs.Rows.{Rows}
-use Rattle.plan_tables.specs.PlanView.{PlanView, name_of_event, switch_at}
-use Rattle.plan_tables.specs.declared.table.Table.TheVariants.{Switches}
-use Rattle.plan_tables.specs.Limits.{entry_names}
-use Rattle.plan_tables.specs.declared.entries.EventId.{EventId}
+use Rattle.plan_tables.specs.{PlanView.{PlanView, name_of_event, switch_at}, Limits.entry_names}
+use Rattle.plan_tables.specs.declared.{table.Table.TheVariants.Switches, entries.EventId.EventId}
 use Rattle.mpf_plan.specs.PlanOf.{plan_of, IsExceeded}
-use Rattle.cascade_rank.specs.Events.{weight_of}
-use Rattle.cascade_rank.specs.Weights.{switch_cost}
+use Rattle.cascade_rank.specs.{Events.weight_of, Weights.switch_cost, Found.IsUnfound}
 use Rattle.cascade_rank.specs.Finding as ranks
-use Rattle.cascade_rank.specs.Found.{IsUnfound}
 use Rattle.cascade_rank.specs.Verified.{IsVerified, IsFirstShort, IsUnverified}
-use Rattle.config_checker.specs.declared.report.Report.{Report}
+use Rattle.config_checker.specs.{declared.report.Report.Report, CertificateOf.IsTextOf, View.fault_view}
 use Rattle.config_checker.specs.declared.report.Report.TheVariants as reports
 use Rattle.config_checker.specs.CertificateText.{Numbered, Certificate}
-use Rattle.config_checker.specs.CertificateOf.{IsTextOf}
 use Rattle.config_checker.specs.Checking.{CertificateFaultView, bad_line, other_events, other_switches, short, other_bound, other_cost, FaultView, row, limit, cycle, bound, certificate, names_of, numbers_of, faults_of_rows}
-use Rattle.config_checker.specs.View.{fault_view}
 
 -- the names are those of events that lead to each other: of the cycle that is reported
 pub record IsCycleOf (plan : PlanView) (names : List (List ℕ)) : Type 0 where

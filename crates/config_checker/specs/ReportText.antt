@@ -1,7 +1,5 @@
 -- The text of a report.
-use Rattle.std.specs.Prelude.{ℕ, List, [], ◌∷◌, ◌++◌, codes}
-use Rattle.std.specs.List.{flat_map}
-use Rattle.std.specs.Fmt.{decimal}
+use Rattle.std.specs.{Prelude.{ℕ, List, [], ◌∷◌, ◌++◌, codes}, List.flat_map, Fmt.decimal}
 use Rattle.plan_tables.specs.Limits.{table_name}
 use Rattle.mpf_config.specs.FaultLine.{spaced}
 use Rattle.row_faults.specs.FaultText.{row_fault_line}

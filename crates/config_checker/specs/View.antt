@@ -1,18 +1,13 @@
 -- What contracts see of an answer.
 use Rattle.std.specs.Prelude.{◌≡◌, ℕ, ◌<◌, Option, Some, option_map, List, [], ◌∷◌, length, map, Result, Ok, Err}
 use Rattle.std.specs.List.{All}
-use Rattle.row_faults.specs.declared.fault.RowFault.{RowFault}
-use Rattle.row_faults.specs.View.{row_fault_view, row_faults_view}
+use Rattle.row_faults.specs.{declared.fault.RowFault.RowFault, View.{row_fault_view, row_faults_view}}
 use Rattle.plan_tables.specs.PlanView.{PlanView}
-use Rattle.cascade_rank.specs.declared.fault.RankFault.{RankFault}
-use Rattle.cascade_rank.specs.View.{rank_view}
-use Rattle.cascade_rank.specs.Finding.{RankView}
+use Rattle.cascade_rank.specs.{declared.fault.RankFault.RankFault, View.rank_view, Finding.RankView}
 use Rattle.cascade_rank.specs.Finding as ranks
-use Rattle.config_checker.specs.declared.report.CertificateFault.{CertificateFault}
+use Rattle.config_checker.specs.declared.report.{CertificateFault.CertificateFault, Fault.Fault, Report.Report}
 use Rattle.config_checker.specs.declared.report.CertificateFault.TheVariants as certificates
-use Rattle.config_checker.specs.declared.report.Fault.{Fault}
 use Rattle.config_checker.specs.declared.report.Fault.TheVariants as faults
-use Rattle.config_checker.specs.declared.report.Report.{Report}
 use Rattle.config_checker.specs.declared.report.Report.TheVariants as reports
 use Rattle.written_machine.specs.CheckedView.{CheckedView}
 use Rattle.config_checker.specs.Checking.{CertificateFaultView, bad_line, other_events, other_switches, short, other_bound, other_cost, FaultView, row, limit, cycle, bound, certificate, named_fault}

@@ -1,7 +1,6 @@
 use Rattle.std.proofs.Common.{◌≡◌, ℕ, List, [], ◌∷◌, ◌++◌, Option, Some, Result, OnOk, codes, refl, subst}
-use Rattle.std.specs.Io.KnownBytes.{Appends}
+use Rattle.std.{specs.Io.KnownBytes.Appends, proofs.KnownBytes.Appends-trans}
 use Rattle.config_checker.specs.CertificateText.{Numbered, bound_line, numbered_lines, text_of, certificate_of}
-use Rattle.std.proofs.KnownBytes.{Appends-trans}
 use Rattle.config_checker.proofs.Writing.{written-last}
 use Rattle.config_checker.proofs.certificate.write_certificate.Goals as goal
 

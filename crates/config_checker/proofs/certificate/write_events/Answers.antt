@@ -1,6 +1,4 @@
-use Rattle.std.proofs.Common.{rules, List, ℕ, slice_get, length, codes, sym, ap, ◌∙◌, arith}
-use Rattle.std.proofs.lemmas.Option.{get_or_from_slice_get}
-use Rattle.plan_tables.specs.PlanView.{PlanView, name_of_event}
+use Rattle.std.proofs.{Common.{rules, slice_get}, lemmas.Option.get_or_from_slice_get}
 use Rattle.config_checker.proofs.Writing.{line_more, lines_all}
 use Rattle.config_checker.proofs.certificate.write_events.Goals as goal
 

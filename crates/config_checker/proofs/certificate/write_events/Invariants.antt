@@ -1,6 +1,4 @@
-use Rattle.std.proofs.Common.{take, codes}
-use Rattle.std.specs.List.{zip, flat_map}
-use Rattle.std.specs.Io.KnownBytes.{Appends}
+use Rattle.std.{proofs.Common.{take, codes}, specs.{List.{zip, flat_map}, Io.KnownBytes.Appends}}
 use Rattle.config_checker.specs.CertificateText.{numbered_line}
 use Rattle.config_checker.proofs.certificate.write_events.Given as goal
 

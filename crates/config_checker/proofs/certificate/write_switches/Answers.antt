@@ -1,9 +1,4 @@
-use Rattle.std.proofs.Common.{rules, List, ℕ, ◌<◌, length, codes, sym, ap, ◌∙◌, arith}
-use Rattle.plan_tables.specs.PlanView.{PlanView, switch_at}
-use Rattle.plan_tables.specs.declared.table.Table.TheVariants.{Switches}
-use Rattle.plan_tables.specs.Limits.{entry_names}
-use Rattle.cascade_rank.specs.Events.{weight_of}
-use Rattle.cascade_rank.specs.Weights.{switch_cost, switch_costs}
+use Rattle.std.proofs.Common.{rules}
 use Rattle.config_checker.proofs.CertificateMeaning.{costs_counted, cost_at, length-names, switch_name_at}
 use Rattle.config_checker.proofs.Writing.{line_more, lines_all}
 use Rattle.config_checker.proofs.certificate.write_switches.Goals as goal

@@ -1,10 +1,6 @@
-use Rattle.std.proofs.Common.{take, codes}
-use Rattle.std.specs.List.{zip, flat_map}
-use Rattle.std.specs.Io.KnownBytes.{Appends}
-use Rattle.plan_tables.specs.declared.table.Table.TheVariants.{Switches}
-use Rattle.plan_tables.specs.Limits.{entry_names}
-use Rattle.cascade_rank.specs.Events.{weight_of}
-use Rattle.cascade_rank.specs.Weights.{switch_costs}
+use Rattle.std.{proofs.Common.{take, codes}, specs.{List.{zip, flat_map}, Io.KnownBytes.Appends}}
+use Rattle.plan_tables.specs.{declared.table.Table.TheVariants.Switches, Limits.entry_names}
+use Rattle.cascade_rank.specs.{Events.weight_of, Weights.switch_costs}
 use Rattle.config_checker.specs.CertificateText.{numbered_line}
 use Rattle.config_checker.proofs.certificate.write_switches.Given as goal
 

@@ -1,5 +1,4 @@
-use Rattle.std.proofs.Common.{arith}
-use Rattle.std.proofs.lemmas.List.{length-map, map_push}
+use Rattle.std.proofs.{Common.arith, lemmas.List.{length-map, map_push}}
 use Rattle.config_checker.specs.CertificateRead.{line_view, lines_view}
 use Rattle.config_checker.proofs.CertificateLines.{read_none, read_more, read_all}
 use Rattle.config_checker.proofs.certificate_reader.front.Goals as goal

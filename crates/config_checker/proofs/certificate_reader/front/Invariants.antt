@@ -1,6 +1,5 @@
 use Rattle.std.proofs.Common.{length}
-use Rattle.config_checker.specs.CertificateRead.{lines_view}
-use Rattle.config_checker.proofs.CertificateLines.{IsReadTo}
+use Rattle.config_checker.{specs.CertificateRead.lines_view, proofs.CertificateLines.IsReadTo}
 use Rattle.config_checker.proofs.certificate_reader.front.Given as goal
 
 abbrev pub invariant-loop-line : goal.invariant-loop-line

@@ -1,6 +1,5 @@
 use Rattle.std.proofs.Common.{sym, ap, ◌∙◌}
-use Rattle.config_checker.specs.CertificateOf.{parts, with_bound}
-use Rattle.config_checker.proofs.CertificateLines.{bound_first}
+use Rattle.config_checker.{specs.CertificateOf.{parts, with_bound}, proofs.CertificateLines.bound_first}
 use Rattle.config_checker.proofs.certificate_reader.next_bound.Goals as goal
 
 pub returns : goal.returns

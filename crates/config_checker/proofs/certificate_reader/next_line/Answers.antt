@@ -1,6 +1,5 @@
 use Rattle.std.proofs.Common.{rules, Option, ℕ, List, sym, ap, option_map, ◌∙◌}
-use Rattle.config_checker.specs.CertificateOf.{parts, with_line, front}
-use Rattle.config_checker.specs.CertificateRead.{line_view}
+use Rattle.config_checker.specs.{CertificateOf.{parts, with_line, front}, CertificateRead.line_view}
 use Rattle.config_checker.proofs.CertificateLines.{no_front, front_first}
 use Rattle.config_checker.proofs.certificate_reader.next_line.Goals as goal
 

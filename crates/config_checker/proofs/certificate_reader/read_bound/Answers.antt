@@ -1,8 +1,5 @@
-use Rattle.std.proofs.Common.{None, codes, sym, ◌∙◌}
-use Rattle.std.specs.Str.{bytes_eq}
-use Rattle.std.proofs.lemmas.Bool.{cond-true}
-use Rattle.config_checker.specs.CertificateOf.{number_in}
-use Rattle.config_checker.proofs.CertificateLines.{bound_of_two}
+use Rattle.std.{proofs.{Common.{None, codes, sym, ◌∙◌}, lemmas.Bool.cond-true}, specs.Str.bytes_eq}
+use Rattle.config_checker.{specs.CertificateOf.number_in, proofs.CertificateLines.bound_of_two}
 use Rattle.config_checker.proofs.certificate_reader.read_bound.Goals as goal
 
 pub returns-then-eq : goal.returns-then-eq

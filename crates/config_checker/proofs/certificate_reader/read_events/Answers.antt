@@ -1,9 +1,6 @@
-use Rattle.std.proofs.Common.{rules, ◌≡◌, ℕ, ◌+◌, ◌==◌, false, List, length, Option, Ok, Err, option_map, codes, sym, ap, ◌∙◌, arith}
-use Rattle.std.proofs.lemmas.Bool.{cond-false}
-use Rattle.std.proofs.lemmas.List.{length-map}
-use Rattle.config_checker.specs.CertificateText.{Numbered}
-use Rattle.config_checker.specs.CertificateOf.{parts, front, is_end, first_event, ended}
-use Rattle.config_checker.specs.CertificateRead.{line_view, lines_view}
+use Rattle.std.proofs.Common.{rules, ◌≡◌, ℕ, ◌+◌, ◌==◌, false, List, length, Option, Err, option_map, codes}
+use Rattle.std.proofs.lemmas.{Bool.cond-false, List.length-map}
+use Rattle.config_checker.specs.{CertificateText.Numbered, CertificateOf.{parts, front, first_event, ended}}
 use Rattle.config_checker.proofs.CertificateLines.{ends_where_empty}
 use Rattle.config_checker.proofs.certificate_reader.read_events.Goals as goal
 

@@ -1,6 +1,4 @@
-use Rattle.std.proofs.Common.{rules, sym, ◌∙◌}
-use Rattle.std.specs.Str.{bytes_eq}
-use Rattle.std.proofs.lemmas.Bool.{not-false}
+use Rattle.std.proofs.{Common.rules, lemmas.Bool.not-false}
 use Rattle.config_checker.proofs.CertificateLines.{numbered_read, numbered_unread}
 use Rattle.config_checker.proofs.certificate_reader.read_line.Goals as goal
 

@@ -1,5 +1,5 @@
-use Rattle.std.proofs.Common.{rules, None, Some, sym, ◌∙◌}
-use Rattle.config_checker.proofs.Numerals.{plain_number, narrowed}
+use Rattle.std.proofs.Common.{rules}
+use Rattle.config_checker.proofs.Numerals.{plain_number}
 use Rattle.config_checker.proofs.certificate_reader.read_number.Goals as goal
 
 pub returns-in_err-number : goal.returns-in_err-number

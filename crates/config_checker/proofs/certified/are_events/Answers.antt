@@ -1,6 +1,4 @@
-use Rattle.std.proofs.Common.{rules, sym, ◌∙◌, below_more, arith}
-use Rattle.config_checker.specs.CertificateRead.{lines_view}
-use Rattle.config_checker.specs.Checking.{names_of}
+use Rattle.std.proofs.Common.{rules, below_more}
 use Rattle.config_checker.proofs.Names.{same_names-count, same_names-other, same_names-all, length-names_of, place-other, place-same}
 use Rattle.config_checker.proofs.certified.are_events.Goals as goal
 

@@ -1,6 +1,5 @@
 use Rattle.std.proofs.Common.{◌≡◌, ℕ, ◌<◌, [], get_or}
-use Rattle.config_checker.specs.CertificateRead.{lines_view}
-use Rattle.config_checker.specs.Checking.{names_of}
+use Rattle.config_checker.specs.{CertificateRead.lines_view, Checking.names_of}
 use Rattle.config_checker.proofs.certified.are_events.Given as goal
 
 -- the names so far are those of the events

@@ -1,8 +1,6 @@
 use Rattle.std.proofs.Common.{rules, sym, ◌∙◌, below_more, arith}
-use Rattle.plan_tables.specs.declared.table.Table.TheVariants.{Switches}
-use Rattle.plan_tables.specs.Limits.{entry_names}
-use Rattle.config_checker.specs.CertificateRead.{lines_view}
-use Rattle.config_checker.specs.Checking.{names_of}
+use Rattle.plan_tables.specs.{declared.table.Table.TheVariants.Switches, Limits.entry_names}
+use Rattle.config_checker.specs.{CertificateRead.lines_view, Checking.names_of}
 use Rattle.config_checker.proofs.CertificateMeaning.{length-names, switch_name_at}
 use Rattle.config_checker.proofs.Names.{same_names-count, same_names-other, same_names-all, length-names_of, place-other, place-same}
 use Rattle.config_checker.proofs.certified.are_switches.Goals as goal

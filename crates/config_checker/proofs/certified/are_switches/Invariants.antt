@@ -1,8 +1,6 @@
 use Rattle.std.proofs.Common.{◌≡◌, ℕ, ◌<◌, [], get_or}
-use Rattle.plan_tables.specs.declared.table.Table.TheVariants.{Switches}
-use Rattle.plan_tables.specs.Limits.{entry_names}
-use Rattle.config_checker.specs.CertificateRead.{lines_view}
-use Rattle.config_checker.specs.Checking.{names_of}
+use Rattle.plan_tables.specs.{declared.table.Table.TheVariants.Switches, Limits.entry_names}
+use Rattle.config_checker.specs.{CertificateRead.lines_view, Checking.names_of}
 use Rattle.config_checker.proofs.certified.are_switches.Given as goal
 
 -- the names so far are those of the switches

@@ -1,10 +1,8 @@
 use Rattle.std.proofs.Common.{sym, ap, subst}
-use Rattle.config_checker.specs.CertificateRead.{certificate_lines_view}
-use Rattle.config_checker.specs.Certified.{as_checked}
+use Rattle.config_checker.specs.{CertificateRead.certificate_lines_view, Certified.as_checked}
 use Rattle.config_checker.specs.Checking.{certificate, bad_line, certified_plan, reported_alone}
 use Rattle.config_checker.specs.View.{GivesChecked, certificate_fault_view}
-use Rattle.config_checker.proofs.CertificateMeaning.{misread, misnamed, is_judged}
-use Rattle.config_checker.proofs.Judging.{reports-gives}
+use Rattle.config_checker.proofs.{CertificateMeaning.{misread, misnamed, is_judged}, Judging.reports-gives}
 use Rattle.config_checker.proofs.certified.certified.Goals as goal
 
 pub returns-in-Err-Line : goal.returns-in-Err-Line

@@ -1,10 +1,8 @@
-use Rattle.std.proofs.Common.{rules, ◌≡◌, ◌≢◌, ℕ, ◌<◌, List, [], length, get_or, Some, sym, ap, ◌∙◌, below_more, arith}
+use Rattle.std.proofs.Common.{rules, ◌≡◌, ℕ, List, [], length, get_or, sym, ap, ◌∙◌, below_more, arith}
 use Rattle.std.proofs.lemmas.List.{length-map, ext_get_or}
-use Rattle.cascade_rank.specs.Events.{weight_of}
-use Rattle.cascade_rank.specs.Weights.{switch_costs}
+use Rattle.cascade_rank.specs.{Events.weight_of, Weights.switch_costs}
 use Rattle.config_checker.specs.declared.certificate_reader.Line.{Line}
-use Rattle.config_checker.specs.CertificateRead.{line_view, lines_view}
-use Rattle.config_checker.specs.Checking.{numbers_of, first_other}
+use Rattle.config_checker.specs.{CertificateRead.lines_view, Checking.{numbers_of, first_other}}
 use Rattle.config_checker.proofs.CertificateMeaning.{cost_at, length-costs, first_other-at, first_other-same}
 use Rattle.config_checker.proofs.Names.{name_at, number_at, length-numbers_of}
 use Rattle.config_checker.proofs.certified.first_other.Goals as goal

@@ -1,8 +1,6 @@
 use Rattle.std.proofs.Common.{◌≡◌, ℕ, ◌<◌, get_or}
-use Rattle.cascade_rank.specs.Events.{weight_of}
-use Rattle.cascade_rank.specs.Weights.{switch_costs}
-use Rattle.config_checker.specs.CertificateRead.{lines_view}
-use Rattle.config_checker.specs.Checking.{numbers_of}
+use Rattle.cascade_rank.specs.{Events.weight_of, Weights.switch_costs}
+use Rattle.config_checker.specs.{CertificateRead.lines_view, Checking.numbers_of}
 use Rattle.config_checker.proofs.certified.first_other.Given as goal
 
 -- the costs so far are right

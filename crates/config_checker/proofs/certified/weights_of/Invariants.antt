@@ -1,6 +1,5 @@
 use Rattle.std.proofs.Common.{◌≡◌, take}
-use Rattle.config_checker.specs.CertificateRead.{lines_view}
-use Rattle.config_checker.specs.Checking.{numbers_of}
+use Rattle.config_checker.specs.{CertificateRead.lines_view, Checking.numbers_of}
 use Rattle.config_checker.proofs.certified.weights_of.Given as goal
 
 -- the numbers so far

@@ -1,14 +1,8 @@
-use Rattle.std.proofs.Common.{rules, Err, Ok, Result, IfErr, sym, ap, ◌∙◌, subst}
-use Rattle.std.proofs.lemmas.Result.{err_from_is_err_and}
+use Rattle.std.proofs.{Common.{rules, Ok, sym, ap, ◌∙◌, subst}, lemmas.Result.err_from_is_err_and}
 use Rattle.mpf_config.specs.View.{rows_view}
 use Rattle.cascade_rank.specs.View.{rank_view}
-use Rattle.config_checker.specs.declared.report.Report.{Report}
-use Rattle.written_machine.specs.CheckedView.{CheckedView}
-use Rattle.written_machine.specs.GoodRun.{IsGood}
-use Rattle.config_checker.specs.View.{GivesChecked, fault_view}
-use Rattle.config_checker.specs.Checking.{checked_at}
-use Rattle.config_checker.specs.Refused.{IsFaultOf, Reports}
-use Rattle.written_machine.proofs.Good.{every_run_is_good}
+use Rattle.written_machine.{specs.GoodRun.IsGood, proofs.Good.every_run_is_good}
+use Rattle.config_checker.specs.{View.fault_view, Checking.checked_at, Refused.IsFaultOf}
 use Rattle.config_checker.proofs.PlanFree.{plan_accepted}
 use Rattle.config_checker.proofs.Judging.{reports-gives, reports-there, no-plan-found, no-plan-reports, limit-fault, unfound-checked, unfound-fault, found-accepted}
 use Rattle.config_checker.proofs.checker.check.Goals as goal

@@ -1,16 +1,8 @@
-use Rattle.std.proofs.Common.{rules, Err, Ok, Result, IfErr, sym, ap, ◌∙◌, subst}
-use Rattle.std.proofs.lemmas.Result.{err_from_is_err_and}
+use Rattle.std.proofs.{Common.{rules, sym, subst}, lemmas.Result.err_from_is_err_and}
 use Rattle.mpf_config.specs.View.{rows_view}
-use Rattle.config_checker.specs.declared.report.Report.{Report}
-use Rattle.written_machine.specs.CheckedView.{CheckedView}
-use Rattle.written_machine.specs.GoodRun.{IsGood}
+use Rattle.written_machine.{specs.{CheckedView.CheckedView, GoodRun.IsGood}, proofs.Good.every_run_is_good}
 use Rattle.config_checker.specs.CertificateText.{IsCertificateText}
-use Rattle.config_checker.specs.View.{GivesChecked}
-use Rattle.config_checker.specs.Checking.{checked_with_at}
-use Rattle.config_checker.specs.Refused.{IsFaultWith, Reports}
-use Rattle.written_machine.proofs.Good.{every_run_is_good}
-use Rattle.config_checker.proofs.PlanFree.{plan_accepted}
-use Rattle.config_checker.proofs.CertificateMeaning.{alone_ok, accepted_is_certified}
+use Rattle.config_checker.proofs.{PlanFree.plan_accepted, CertificateMeaning.{alone_ok, accepted_is_certified}}
 use Rattle.config_checker.proofs.Judging.{no-plan-given, no-plan-reports, limit-fault_with, certified-checked, given-checked, given-fault}
 use Rattle.config_checker.proofs.checker.check_with.Goals as goal
 

@@ -1,11 +1,8 @@
-use Rattle.std.proofs.Common.{rules, ◌≡◌, refl, ◌++◌, List, [], ◌∷◌, length, map, ap, sym, ◌∙◌, append_assoc, arith}
+use Rattle.std.proofs.Common.{rules, ◌≡◌, refl, ◌++◌, List, [], ◌∷◌, length, map, append_assoc, arith}
 use Rattle.std.proofs.lemmas.List.{map-append, append-nil}
-use Rattle.row_faults.specs.declared.fault.RowFault.{RowFault}
-use Rattle.row_faults.specs.View.{row_fault_view, row_faults_view}
-use Rattle.config_checker.specs.declared.report.Fault.{Fault}
+use Rattle.row_faults.specs.{declared.fault.RowFault.RowFault, View.row_faults_view}
+use Rattle.config_checker.specs.{declared.report.Fault.Fault, FaultView.{FaultView, row}, View.faults_view}
 use Rattle.config_checker.specs.declared.report.Fault.TheVariants as faults
-use Rattle.config_checker.specs.FaultView.{FaultView, row}
-use Rattle.config_checker.specs.View.{fault_view, faults_view}
 use Rattle.config_checker.proofs.checker.faults_of.Goals as goal
 
 -- a fault that was left is there now

@@ -1,8 +1,6 @@
-use Rattle.std.proofs.Common.{◌≡◌, ◌++◌, map}
-use Rattle.std.specs.Vec.Iter.{into_iter_items}
+use Rattle.std.{proofs.Common.{◌≡◌, ◌++◌, map}, specs.Vec.Iter.into_iter_items}
 use Rattle.row_faults.specs.View.{row_faults_view}
-use Rattle.config_checker.specs.FaultView.{row}
-use Rattle.config_checker.specs.View.{faults_view}
+use Rattle.config_checker.specs.{FaultView.row, View.faults_view}
 use Rattle.config_checker.proofs.checker.faults_of.Given as goal
 
 -- the faults so far, and those that are left

@@ -1,9 +1,7 @@
-use Rattle.std.proofs.Common.{◌≡◌, [], subst}
-use Rattle.std.specs.Prelude.{Ok, IfOk, OnOk, IfErr}
+use Rattle.std.{proofs.Common.{◌≡◌, [], subst}, specs.Prelude.{Ok, IfOk, OnOk, IfErr}}
 use Rattle.mpf_config.specs.Rows.{Rows}
 use Rattle.mpf_plan.specs.PlanOf.{plan_at}
-use Rattle.config_checker.specs.Checking.{faults_of_rows}
-use Rattle.config_checker.specs.Refused.{ReportsNoPlan}
+use Rattle.config_checker.specs.{Checking.faults_of_rows, Refused.ReportsNoPlan}
 use Rattle.config_checker.proofs.checker.plan_of.Goals as goal
 
 pub returns-clause-none : goal.returns-clause-none

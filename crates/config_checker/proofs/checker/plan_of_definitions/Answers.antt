@@ -1,9 +1,4 @@
-use Rattle.std.proofs.Common.{rules, sym, ap, subst, ◌∙◌}
-use Rattle.std.specs.Prelude.{Result, Ok, Err, IfErr, OnOk}
-use Rattle.std.proofs.lemmas.Result.{err_from_is_err_and, IfErr-weaker}
-use Rattle.plan_tables.specs.PlanView.{PlanView}
-use Rattle.config_checker.specs.declared.report.Report.{Report}
-use Rattle.config_checker.specs.Refused.{ReportsNoPlan}
+use Rattle.std.{proofs.{Common.rules, lemmas.Result.{err_from_is_err_and, IfErr-weaker}}, specs.Prelude.{Result, OnOk}}
 use Rattle.config_checker.proofs.Judging.{no-plan-own, no-plan-limit}
 use Rattle.config_checker.proofs.checker.plan_of_definitions.Goals as goal
 

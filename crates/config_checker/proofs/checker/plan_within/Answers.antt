@@ -1,10 +1,7 @@
 use Rattle.std.proofs.Common.{sym, ◌∙◌, true≢false}
 use Rattle.mpf_plan.proofs.Judged.{plan_at-Err, plan_at-named}
-use Rattle.config_checker.specs.Checking.{limit}
-use Rattle.config_checker.specs.Refused.{IsLimitFault}
-use Rattle.config_checker.proofs.Judging.{one-there}
-use Rattle.config_checker.proofs.Given.{lacks_nothing}
-use Rattle.config_checker.proofs.PlanFree.{rows_sound}
+use Rattle.config_checker.specs.{Checking.limit, Refused.IsLimitFault}
+use Rattle.config_checker.proofs.{Judging.one-there, Given.lacks_nothing, PlanFree.rows_sound}
 use Rattle.config_checker.proofs.checker.plan_within.Goals as goal
 
 pub returns-in-Err-Limit-clause-limit : goal.returns-in-Err-Limit-clause-limit

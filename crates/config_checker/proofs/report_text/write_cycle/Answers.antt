@@ -1,8 +1,6 @@
 use Rattle.std.proofs.Common.{ℕ, ◌≤◌, List, [], ◌∷◌, ◌++◌, length, map, take, Vec, Global, Option, Result, OnOk, codes, refl}
-use Rattle.std.specs.List.{flat_map}
-use Rattle.std.specs.Io.KnownBytes.{Appends}
+use Rattle.std.{specs.{List.flat_map, Io.KnownBytes.Appends}, proofs.KnownBytes.Appends-trans}
 use Rattle.mpf_config.specs.FaultLine.{spaced}
-use Rattle.std.proofs.KnownBytes.{Appends-trans}
 use Rattle.config_checker.proofs.Writing.{written-last, written-more, written-all, written-seen}
 use Rattle.config_checker.proofs.report_text.write_cycle.Goals as goal
 

@@ -1,6 +1,4 @@
-use Rattle.std.proofs.Common.{take}
-use Rattle.std.specs.List.{flat_map}
-use Rattle.std.specs.Io.KnownBytes.{Appends}
+use Rattle.std.{proofs.Common.take, specs.{List.flat_map, Io.KnownBytes.Appends}}
 use Rattle.mpf_config.specs.FaultLine.{spaced}
 use Rattle.config_checker.proofs.report_text.write_cycle.Given as goal
 

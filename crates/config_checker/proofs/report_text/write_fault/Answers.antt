@@ -1,8 +1,6 @@
-use Rattle.std.proofs.Common.{ℕ, List, [], ◌∷◌, ◌++◌, OnOk, codes, refl, subst}
+use Rattle.std.proofs.{Common.{ℕ, List, [], ◌∷◌, ◌++◌, OnOk, codes, refl, subst}, KnownBytes.Appends-trans}
 use Rattle.std.specs.Io.KnownBytes.{Appends}
-use Rattle.config_checker.specs.View.{certificate_fault_view}
-use Rattle.config_checker.specs.ReportText.{certificate_fault_text}
-use Rattle.std.proofs.KnownBytes.{Appends-trans}
+use Rattle.config_checker.specs.{View.certificate_fault_view, ReportText.certificate_fault_text}
 use Rattle.config_checker.proofs.Writing.{written-last}
 use Rattle.config_checker.proofs.report_text.write_fault.Goals as goal
 

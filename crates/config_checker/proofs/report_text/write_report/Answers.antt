@@ -1,5 +1,4 @@
-use Rattle.config_checker.specs.View.{fault_view}
-use Rattle.config_checker.specs.ReportText.{report_line}
+use Rattle.config_checker.specs.{View.fault_view, ReportText.report_line}
 use Rattle.config_checker.proofs.Writing.{written-more, written-all, written-seen}
 use Rattle.config_checker.proofs.report_text.write_report.Goals as goal
 

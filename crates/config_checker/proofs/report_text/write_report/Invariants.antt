@@ -1,8 +1,5 @@
-use Rattle.std.proofs.Common.{take}
-use Rattle.std.specs.List.{flat_map}
-use Rattle.std.specs.Io.KnownBytes.{Appends}
-use Rattle.config_checker.specs.View.{fault_view}
-use Rattle.config_checker.specs.ReportText.{report_line}
+use Rattle.std.{proofs.Common.take, specs.{List.flat_map, Io.KnownBytes.Appends}}
+use Rattle.config_checker.specs.{View.fault_view, ReportText.report_line}
 use Rattle.config_checker.proofs.report_text.write_report.Given as goal
 
 -- the lines of the faults so far are written

@@ -1,11 +1,4 @@
-use Rattle.std.proofs.Common.{rules, ℕ, List, length, map, Some, option_map, sym, ap, ◌∙◌, subst}
-use Rattle.std.specs.List.{All}
-use Rattle.plan_tables.specs.PlanView.{name_of_event}
-use Rattle.plan_tables.specs.Valid.{IsEventWithin}
-use Rattle.cascade_rank.specs.declared.fault.RankFault.{RankFault}
-use Rattle.cascade_rank.specs.View.{IfRank, rank_view}
-use Rattle.config_checker.specs.Checking.{cycle, named_fault}
-use Rattle.config_checker.specs.View.{HasEvents}
+use Rattle.std.proofs.Common.{rules, option_map}
 use Rattle.config_checker.proofs.reporting.named_fault.Goals as goal
 
 pub names_of-requires : goal.names_of-requires

@@ -1,6 +1,5 @@
 use Rattle.std.proofs.Common.{subst}
-use Rattle.written_machine.specs.GoodRun.{IsGood}
-use Rattle.written_machine.proofs.Good.{every_run_is_good}
+use Rattle.written_machine.{specs.GoodRun.IsGood, proofs.Good.every_run_is_good}
 use Rattle.config_checker.proofs.checked.Checked.bound.Goals as goal
 
 pub returns-clause-good : goal.returns-clause-good
