@@ -42,13 +42,14 @@ def indent(line: str) -> int:
 
 
 def pieces(text: str, between: str) -> list[str]:
-    """Splits a text at letters that are in no bracket. It ends with the bracket that it is in."""
-    found, depth = [""], 0
+    """Splits a text at letters that are in no bracket and in no quotes. It ends with the bracket that it is in."""
+    found, depth, is_quoted = [""], 0, False
     for letter in text:
-        depth += (letter in "({[") - (letter in ")}]")
+        is_quoted ^= letter == '"'
+        depth += 0 if is_quoted else (letter in "({[") - (letter in ")}]")
         if depth < 0:
             break
-        if depth == 0 and letter in between:
+        if depth == 0 and not is_quoted and letter in between:
             found.append("")
         else:
             found[-1] += letter
