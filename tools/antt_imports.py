@@ -4,6 +4,7 @@ An import takes names from a module, `use M.{a, b as c}`, or names a module, `us
 groups and paths in it: `use M.{N.{a, b}, O.c}` takes `a` and `b` from `M.N`, and `c` from `M.O`. It can have several
 lines, but no comments."""
 import re
+from collections.abc import Callable
 from functools import cache
 from typing import NamedTuple
 
@@ -11,6 +12,8 @@ from typing import NamedTuple
 BEGIN = re.compile(r"^ *((?:unfoldable |pub |ghost )*)use ([^\s{}:;]+?)(?:\.\{|(?: as (\S+?))?;?$)", re.M)
 # What comes next in a group: the path of a group in it, a name with the name that it gets, or the end of a group.
 PART = re.compile(r"([^\s{},]+)\.\{|([^\s{},]+)(?:\s+as\s+([^\s{},]+))?|\};?")
+# Names, and parts of paths with what comes after them. A part ends in a dot.
+Tree = dict[str, "Tree"]
 
 
 class Import(NamedTuple):
@@ -75,6 +78,35 @@ def without_imports(text: str) -> str:
     for use in reversed(uses_in(text)):
         text = text[: use.start] + "\n" * text.count("\n", use.start, use.end) + text[use.end :]
     return text
+
+
+def without_names(text: str, is_gone: Callable[[Import], bool]) -> str:
+    """A text that does not import these names. An import of nothing else goes with its line."""
+    for use in reversed(uses_in(text)):
+        left = tuple(it for it in use.imports if not is_gone(it))
+        if left and left != use.imports:
+            text = text[: text.index("use ", use.start)] + line_of(left) + text[use.end :]
+        elif left != use.imports:
+            text = text[: use.start] + text[use.end :].removeprefix("\n")
+    return text
+
+
+def line_of(group: tuple[Import, ...]) -> str:
+    """The import of some names. A module by itself has braces, even if it has only one name."""
+    tree: Tree = {}
+    for it in group:
+        after = tree
+        for part in it.module.split("."):
+            after = after.setdefault(f"{part}.", {})
+        after[it.name if it.here == it.name else f"{it.name} as {it.here}"] = {}
+    line = f"use {written(tree)}"
+    return line if line.endswith("}") else re.sub(r"\.([^.]+)$", r".{\1}", line)
+
+
+def written(tree: Tree) -> str:
+    """A tree as it stands in an import: names first, and several parts in braces."""
+    parts = [it + (written(tree[it]) if tree[it] else "") for it in sorted(tree, key=lambda it: it.endswith("."))]
+    return parts[0] if len(parts) == 1 else f"{{{', '.join(parts)}}}"
 
 
 def file_of(module: str) -> tuple[str, ...]:
