@@ -4,8 +4,6 @@ use Rattle.std.proofs.Common.{◌≡◌, ℕ, suc, ◌+◌, ◌<◌, ◌≤◌, 
 use Rattle.device_objects.specs.{declared.state.BallSwitch.BallSwitch, BallDevice.first_due_from}
 use Rattle.plan_tables.specs.Due.{sooner}
 
--- ---- of two moments the first
-
 -- ---- a walk over the ball switches
 
 -- the first so far, and the first of those that are left: the sooner of them is the first of all

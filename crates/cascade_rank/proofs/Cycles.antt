@@ -11,8 +11,9 @@ use Rattle.plan_tables.specs.{PlanView.{PlanView, bound_to}, declared.entries.Ev
 use Rattle.cascade_rank.specs.Cost.{Both, each_of, cost_of_binding, cost_of_work, cost_of_event}
 use Rattle.cascade_rank.specs.{Events.{no_event, nth_event}, Weights.IsFitting}
 use Rattle.cascade_rank.specs.LeadsTo.{leads, grounded_in, grounded, is_open, IsCycle, HasNoFit}
-use Rattle.cascade_rank.proofs.{Events.tested_event, Prices.price-mentioned, Ranking.mentioned_below}
+use Rattle.cascade_rank.proofs.{Prices.price-mentioned, Ranking.mentioned_below}
 use Rattle.cascade_rank.proofs.Mentioned.{all_mentioned_at, all_mentioned-fails}
+use Rattle.plan_tables.proofs.Worked.{number_same}
 
 -- ---- events that lead to each other
 
@@ -150,7 +151,7 @@ module _ (plan : PlanView) (valid : HasEntries plan) where
             let (trail, t) = found in
             let place = position_or_len (one_number e) trail in
             elim (cases_lt place (length trail)) [
-              | inl within ↦ inl (take (place + 1) trail, trail_closes plan e f k trail t m place within (sym (tested_event e (nth_event trail place) (passes_at_first (one_number e) trail no_event within))))
+              | inl within ↦ inl (take (place + 1) trail, trail_closes plan e f k trail t m place within (sym (number_same e (nth_event trail place) (passes_at_first (one_number e) trail no_event within))))
               | inr new ↦ inr (e ∷ trail, trail_more plan e f k trail t m l new)
             ]
       ]

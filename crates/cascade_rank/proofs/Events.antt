@@ -12,9 +12,6 @@ event n = record { 0 = n }
 pub same_event : (e f : EventId) → e.0 ≡ f.0 → e ≡ f
 same_event e f h = ap event h
 
-pub tested_event : (e f : EventId) → (e.0 == f.0) ≡ true → e ≡ f
-tested_event e f h = ap event (eqb-true e.0 f.0 h)
-
 module _ (plan : PlanView) where
   pub length-events : length (events_of plan) ≡ length plan.events
   length-events = length-map-range_with_len event 0 (length plan.events)

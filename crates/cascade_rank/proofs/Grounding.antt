@@ -8,10 +8,11 @@ use Rattle.cascade_rank.specs.{Cost.{price, all_mentioned, cost_of_event}, Ranks
 use Rattle.cascade_rank.specs.Events.{events_of, no_event, nth_event, weight_of}
 use Rattle.cascade_rank.specs.{Weights.{need, greatest, bound_of}, LeadsTo.{grounded_in, grounded, is_open}}
 use Rattle.cascade_rank.specs.Order.{is_in, left_of, EachAfter, IsOrdering, AreRanks}
-use Rattle.cascade_rank.proofs.Events.{event, same_event, tested_event, length-events, event_number}
+use Rattle.cascade_rank.proofs.Events.{event, same_event, length-events, event_number}
 use Rattle.cascade_rank.proofs.{Prices.price_agrees, Ordering.is_in-more}
 use Rattle.cascade_rank.proofs.Mentioned.{all_mentioned_at, all_mentioned-weaker, unmet-none, price-capped}
 use Rattle.cascade_rank.proofs.Ranking.{grounded-more, grounded-later, rank-stable, mentioned_below}
+use Rattle.plan_tables.proofs.Worked.{number_same}
 
 same_bool : (a b : Bool) → (a ≡ true → b ≡ true) → (b ≡ true → a ≡ true) → a ≡ b
 same_bool a b h k = search rules
@@ -26,7 +27,7 @@ module _ (plan : PlanView) (order : List EventId) (grounds : EachAfter (λ befor
       elim (or_cases (is_in (take k order) e) ((nth_event order k).0 == e.0) parts) [
         | inl before ↦ grounded-more plan k e (grounded-front k (omega (arith, l)) e before)
         | inr here ↦
-            subst (λ (x : EventId). grounded_in plan (suc k) x ≡ true) (tested_event (nth_event order k) e here)
+            subst (λ (x : EventId). grounded_in plan (suc k) x ≡ true) (number_same (nth_event order k) e here)
             (all_mentioned-weaker (is_in (take k order)) (grounded_in plan k) (cost_of_event plan (nth_event order k)) (λ f m. grounded-front k (omega (arith, l)) f) (grounds k (omega (arith, l))))
       ]
 

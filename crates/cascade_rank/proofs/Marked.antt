@@ -9,6 +9,7 @@ use Rattle.plan_tables.specs.{Owned.{binding_numbers, bindings_of_owner}, Device
 use Rattle.plan_tables.specs.declared.entries.{Action.Action, BindingId.BindingId, Owner.Owner}
 use Rattle.plan_tables.specs.declared.{entries.{Binding.Binding, CoilId.CoilId}, devices.RowId.RowId}
 use Rattle.cascade_rank.specs.Marks.{mark_of, numbered, AreMarked}
+use Rattle.yaml_bytes.proofs.Each.{filter-agree}
 
 -- some actions, and then others
 pub marked-then : (old mid new : List Bool) (first later : List Action) → AreMarked old first mid → AreMarked mid later new → AreMarked old (first ++ later) new
@@ -54,11 +55,6 @@ module _ (plan : PlanView) (owner : Owner) where
 
 -- ---- counting them
 
--- tests that agree on each item keep the same
-pub filter-among : {X : Type 0} (p q : X → Bool) (xs : List X) → All (λ x. p x ≡ q x) xs → filter p xs ≡ filter q xs
-filter-among p q [] all = refl
-filter-among p q (x ∷ xs) all = search (rules, All-head, All-tail, filter-among p q xs (All-tail (λ y. p y ≡ q y) x xs all))
-
 pub numbered-within : (count : ℕ) → All (λ c. c.0 < count) (numbered count)
 numbered-within count k d there = search (rules, length-map-range_with_len, get_or-map-range_with_len)
 
@@ -79,7 +75,7 @@ count-more marks n b is =
 pub marked-enabled : (plan : PlanView) (owner : Owner) (marks : List Bool) → length plan.coils ≤ 256 → AreMarked (replicate 256 false) (actions_of plan owner) marks
     → length (filter (mark_of marks) (numbered (length plan.coils))) ≡ length (coils_enabled plan owner)
 marked-enabled plan owner marks few h =
-    ap length (filter-among (mark_of marks) (λ coil. list_any (is_enable_of coil) (actions_of plan owner)) (coil_numbers plan)
+    ap length (filter-agree (mark_of marks) (λ coil. list_any (is_enable_of coil) (actions_of plan owner)) (coil_numbers plan)
     (All-weaker (λ c. c.0 < length plan.coils) (λ c. mark_of marks c ≡ list_any (is_enable_of c) (actions_of plan owner))
     (λ c l. h.marks c (omega (arith, l, few, length-replicate 256 false)) ∙ ap (λ b. b || list_any (is_enable_of c) (actions_of plan owner)) (get_or-replicate 256 c.0 false false (omega (arith, l, few))))
     (coil_numbers plan) (numbered-within (length plan.coils))))

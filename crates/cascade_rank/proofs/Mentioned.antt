@@ -4,12 +4,13 @@ use Rattle.std.proofs.lemmas.Bool.{and_parts, and_cases, or_left, or_right, or_c
 use Rattle.std.proofs.lemmas.Bool.Decides.{nat_tests}
 use Rattle.plan_tables.specs.declared.entries.EventId.{EventId}
 use Rattle.cascade_rank.specs.Cost.{Cost, Lines, Weight, Both, Greater, price, mentions, all_mentioned}
-use Rattle.cascade_rank.{specs.Order.{unmet, occurrences}, proofs.Events.tested_event}
+use Rattle.cascade_rank.specs.Order.{unmet, occurrences}
+use Rattle.plan_tables.proofs.Worked.{number_same}
 
 -- what holds of each mentioned event, at one
 pub all_mentioned_at : (p : EventId → Bool) (c : Cost) (e : EventId) → all_mentioned p c ≡ true → mentions e c ≡ true → p e ≡ true
 all_mentioned_at p (Lines n) e h m = absurd (false≢true m)
-all_mentioned_at p (Weight f) e h m = subst (λ (x : EventId). p x ≡ true) (sym (tested_event e f m)) h
+all_mentioned_at p (Weight f) e h m = subst (λ (x : EventId). p x ≡ true) (sym (number_same e f m)) h
 all_mentioned_at p (Both a b) e h m =
     let parts = and_parts (all_mentioned p a) (all_mentioned p b) h in
     elim (or_cases (mentions e a) (mentions e b) m) [
@@ -74,7 +75,7 @@ module _ (p q : EventId → Bool) (f : EventId) (fresh : p f ≡ false) (more : 
 
   pub unmet_met : (c : Cost) → unmet p c ≡ unmet q c + occurrences f c
   unmet_met (Lines n) = refl
-  unmet_met (Weight e) = one (p e) (q e) (f.0 == e.0) (more e) (λ same. subst (λ (x : EventId). p x ≡ false) (tested_event f e same) fresh)
+  unmet_met (Weight e) = one (p e) (q e) (f.0 == e.0) (more e) (λ same. subst (λ (x : EventId). p x ≡ false) (number_same f e same) fresh)
   unmet_met (Both a b) = omega (arith, unmet_met a, unmet_met b)
   unmet_met (Greater a b) = omega (arith, unmet_met a, unmet_met b)
 

@@ -9,6 +9,7 @@ use Rattle.cascade_rank.specs.{Cost.{Cost, all_mentioned, cost_of_event}, Events
 use Rattle.cascade_rank.specs.Order.{unmet, occurrences, is_in, times, left_of, CountsPosts, EachAfter, IsOrdering, IsMeeting}
 use Rattle.cascade_rank.proofs.Events.{same_event}
 use Rattle.cascade_rank.proofs.Mentioned.{unmet-none, unmet_met, occurrences-unmet, all_mentioned-weaker}
+use Rattle.std.proofs.Math.Bool.{or-false}
 
 -- ---- one event more
 
@@ -25,11 +26,8 @@ each_push P xs x h last i l = elim (cases_lt i (length xs)) [
       subst (λ (ds : List EventId). P ds (nth_event (xs ++ x ∷ []) i)) (sym before) (subst (P xs) (sym here) last)
 ]
 
-or_false : (b : Bool) → (b || false) ≡ b
-or_false b = search rules
-
 pub is_in-push : (xs : List EventId) (x e : EventId) → is_in (xs ++ x ∷ []) e ≡ (is_in xs e || x.0 == e.0)
-is_in-push xs x e = list_any-append (λ d. d.0 == e.0) xs (x ∷ []) ∙ ap (λ (b : Bool). is_in xs e || b) (or_false (x.0 == e.0))
+is_in-push xs x e = list_any-append (λ d. d.0 == e.0) xs (x ∷ []) ∙ ap (λ (b : Bool). is_in xs e || b) (or-false (x.0 == e.0))
 
 pub is_in-more : (xs : List EventId) (i : ℕ) (e : EventId) → i < length xs → is_in (take (i + 1) xs) e ≡ (is_in (take i xs) e || (nth_event xs i).0 == e.0)
 is_in-more xs i e l = list_any_more (λ d. d.0 == e.0) xs i no_event l
@@ -58,8 +56,6 @@ pub record IsStart (plan : PlanView) (left : List ℕ) (count : ℕ) (order : Li
 
 module _ (plan : PlanView) (left : List ℕ) (length_is : length left ≡ length plan.events)
     (left_is : CountsPosts plan left) where
-  pub start_none : IsStart plan left 0 []
-  start_none = search rules
 
   module _ (order : List EventId) (x : EventId) (s : IsStart plan left x.0 order) (here : x.0 < length plan.events) where
     inside : x.0 < length left
@@ -73,7 +69,7 @@ module _ (plan : PlanView) (left : List ℕ) (length_is : length left ≡ length
       grounds = each_push (λ before e. all_mentioned (is_in before) (cost_of_event plan e) ≡ true) order x s.grounds (all_mentioned-weaker (λ _. false) (is_in order) (cost_of_event plan x) (λ e m z. absurd (false≢true z)) (unmet-none (λ _. false) (cost_of_event plan x) ∙ eq-eqb (unmet (λ _. false) (cost_of_event plan x)) 0 (sym (left_is x here) ∙ none)));
       listed = λ e l. elim (cases_eq e.0 x.0) [
         | inl same ↦ is_in-push order x e ∙ or_right (is_in order e) (x.0 == e.0) (eq-eqb x.0 e.0 (sym same)) ∙ sym (eq-eqb (left_of left e) 0 (ap (left_of left) (same_event e x same) ∙ none))
-        | inr other ↦ is_in-push order x e ∙ ap (λ (b : Bool). is_in order e || b) (ne_eqb x.0 e.0 (λ same. other (sym same))) ∙ or_false (is_in order e) ∙ s.listed e (omega (arith, l, other))
+        | inr other ↦ is_in-push order x e ∙ ap (λ (b : Bool). is_in order e || b) (ne_eqb x.0 e.0 (λ same. other (sym same))) ∙ or-false (is_in order e) ∙ s.listed e (omega (arith, l, other))
       ];
       above = λ e l. is_in-push order x e ∙ or_from (is_in order e) (x.0 == e.0) (s.above e (omega (arith, l))) (ne_eqb x.0 e.0 (λ same. omega (arith, l, same)));
       room = omega (arith, s.room, length_push order x, count_by_more_no (λ n. nat_lt 0 n) left x.0 0 inside (le-ltb 0 (left_of left x) (omega (arith, none))));
@@ -86,8 +82,6 @@ module _ (plan : PlanView) (left : List ℕ) (length_is : length left ≡ length
 
 module _ (plan : PlanView) (taken : ℕ) (order : List EventId) (leaders : List EventId) (turn : taken < length order)
     (leaders_are : (e : EventId) → e.0 < length plan.events → times leaders e ≡ occurrences (nth_event order taken) (cost_of_event plan e)) where
-  met : EventId → Bool
-  met = is_in (take taken order)
 
   module _ (left : List ℕ) (apart : EachAfter (λ before e. is_in before e ≡ false) order) where
     fresh : is_in (take taken order) (nth_event order taken) ≡ false
@@ -114,9 +108,6 @@ module _ (plan : PlanView) (taken : ℕ) (order : List EventId) (leaders : List 
     -- something is left of it, since it leads to an event that is not gone through
     pub some_left : 0 < left_of left x
     some_left = search (rules, occurrences-unmet, one_more, no_more_than)
-
-    less : List ℕ
-    less = set left x.0 (left_of left x - 1)
 
     less_here : left_of (set left x.0 (left_of left x - 1)) x ≡ left_of left x - 1
     less_here = get_or-set_same left x.0 (left_of left x - 1) 0 inside_left
@@ -185,7 +176,7 @@ module _ (plan : PlanView) (taken : ℕ) (order : List EventId) (leaders : List 
           left_is = λ e l. less_is e l ∙ ap (λ (ds : List EventId). unmet (is_in ds) (cost_of_event plan e)) (sym front);
           listed = λ e l. elim (cases_eq e.0 x.0) [
             | inl same ↦ is_in-push order x e ∙ or_right (is_in order e) (x.0 == e.0) (eq-eqb x.0 e.0 (sym same)) ∙ sym (eq-eqb (left_of (set left x.0 (left_of left x - 1)) e) 0 (ap (left_of (set left x.0 (left_of left x - 1))) (same_event e x same) ∙ less_here ∙ none))
-            | inr other ↦ is_in-push order x e ∙ ap (λ (b : Bool). is_in order e || b) (ne_eqb x.0 e.0 (λ same. other (sym same))) ∙ or_false (is_in order e) ∙ o.listed e l ∙ ap (λ (n : ℕ). eqb n 0) (sym (less_there e other))
+            | inr other ↦ is_in-push order x e ∙ ap (λ (b : Bool). is_in order e || b) (ne_eqb x.0 e.0 (λ same. other (sym same))) ∙ or-false (is_in order e) ∙ o.listed e l ∙ ap (λ (n : ℕ). eqb n 0) (sym (less_there e other))
           ];
           room =
               let gone = counted_none (nat_lt 0 (left_of left x - 1)) (le-ltb 0 (left_of left x - 1) (omega (arith, none))) in
@@ -199,8 +190,6 @@ module _ (plan : PlanView) (taken : ℕ) (order : List EventId) (leaders : List 
 -- ---- the same, of those that lead to the next event from the first
 
 module _ (plan : PlanView) (taken : ℕ) (leaders : List EventId) where
-  occurs : List EventId → EventId → ℕ
-  occurs order e = occurrences (nth_event order taken) (cost_of_event plan e)
 
   leaders_of : (order : List EventId) → ((e : EventId) → times leaders e ≡ cond (nat_lt e.0 (length plan.events)) (occurrences (nth_event order taken) (cost_of_event plan e)) 0) → (e : EventId) → e.0 < length plan.events → times leaders e ≡ occurrences (nth_event order taken) (cost_of_event plan e)
   leaders_of order is e l = is e ∙ ap (λ (b : Bool). cond b (occurrences (nth_event order taken) (cost_of_event plan e)) 0) (lt-ltb e.0 (length plan.events) l)

@@ -3,7 +3,7 @@ use Rattle.std.proofs.Common.{◌≡◌, ℕ, zero, suc, ◌+◌, ◌≤◌, ◌
 use Rattle.std.proofs.lemmas.{Bool.{or_left, or_right, or_cases, eq-eqb, false≢true}, List.Sums.sum_by-cons}
 use Rattle.plan_tables.specs.declared.entries.EventId.{EventId}
 use Rattle.cascade_rank.specs.Cost.{Cost, Lines, Weight, Both, Greater, price, mentions, each_of, dearest_of}
-use Rattle.cascade_rank.proofs.Events.{tested_event}
+use Rattle.plan_tables.proofs.Worked.{number_same}
 
 -- at greater weights nothing is cheaper
 pub price_at_most : (w v : EventId → ℕ) (c : Cost) → ((e : EventId) → mentions e c ≡ true → w e ≤ v e) → price w c ≤ price v c
@@ -21,7 +21,7 @@ price_agrees w v c h = search (rules, price_at_most)
 -- a mentioned event weighs no more than the whole costs
 pub price-mentioned : (w : EventId → ℕ) (c : Cost) (e : EventId) → mentions e c ≡ true → w e ≤ price w c
 price-mentioned w (Lines n) e m = absurd (false≢true m)
-price-mentioned w (Weight f) e m = subst (λ (x : EventId). w e ≤ w x) (tested_event e f m) (omega arith)
+price-mentioned w (Weight f) e m = subst (λ (x : EventId). w e ≤ w x) (number_same e f m) (omega arith)
 price-mentioned w (Both a b) e m =
     elim (or_cases (mentions e a) (mentions e b) m) [
       | inl h ↦ omega (arith, price-mentioned w a e h)

@@ -9,8 +9,9 @@ use Rattle.plan_tables.specs.{PlanView.PlanView, Valid.HasEntries, declared.entr
 use Rattle.cascade_rank.specs.{Cost.cost_of_event, Events.{no_event, nth_event}, Lowest.LeadsOn}
 use Rattle.cascade_rank.specs.LeadsTo.{leads, grounded, is_open, IsCycle}
 use Rattle.cascade_rank.specs.Cycle.{IsFirst, GoesOn, IsWalk, IsReportedCycle, next_open, from_first, cycle_from, cycle_of}
-use Rattle.cascade_rank.proofs.{Events.{same_event, tested_event}, Ranking.mentioned_below, Ordering.counted_one}
+use Rattle.cascade_rank.proofs.{Events.same_event, Ranking.mentioned_below, Ordering.counted_one}
 use Rattle.cascade_rank.proofs.{Mentioned.all_mentioned-fails, Firsts.{first_is, first_below}}
+use Rattle.plan_tables.proofs.Worked.{number_same}
 
 -- ---- where an event goes on to
 
@@ -54,10 +55,6 @@ pub record WalkAt (plan : PlanView) (start : EventId) (passed : List Bool) (path
   pub marks : (e : EventId) → e.0 < length plan.events → slice_index_or passed e.0 false ≡ list_any (λ d. d.0 == e.0) path
   pub room : count_by not passed + length path ≡ length plan.events
   pub same : cycle_from plan (length plan.events + 1 - length path) path at ≡ cycle_of plan start
-
-module _ (plan : PlanView) (start : EventId) (first : IsFirst (is_open plan) start) (below : start.0 < length plan.events) where
-  pub walk_starts : WalkAt plan start (replicate (length plan.events) false) [] start
-  walk_starts = search (rules, length-replicate, All-nil, get_or-replicate, sum_by-replicate)
 
 module _ (plan : PlanView) (start : EventId) (first : IsFirst (is_open plan) start) (passed : List Bool) (path : List EventId) (at : EventId) (w : WalkAt plan start passed path at) where
   here_marked : slice_index_or passed at.0 false ≡ list_any (λ d. d.0 == at.0) path
@@ -163,7 +160,7 @@ module _ (plan : PlanView) (path : List EventId) (at : EventId) (walk : IsWalk p
   within = place_below at path there
 
   at_place : nth_event path (position_or_len (λ d. d.0 == at.0) path) ≡ at
-  at_place = tested_event (nth_event path (position_or_len (λ d. d.0 == at.0) path)) at (passes_at_first (λ d. d.0 == at.0) path no_event within)
+  at_place = number_same (nth_event path (position_or_len (λ d. d.0 == at.0) path)) at (passes_at_first (λ d. d.0 == at.0) path no_event within)
 
   pub reported : IsReportedCycle plan (from_first at path)
   reported = search (rules, place, within, from_first-drop, at_place)

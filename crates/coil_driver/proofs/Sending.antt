@@ -21,6 +21,9 @@ use Rattle.written_machine.proofs.{Does.{start-by, stop-by, does-keeps}, Parts.{
 use Rattle.written_machine.proofs.{Held.asked-count, Keeps.{step-keeps, steps-keep}}
 use Rattle.coil_driver.specs.Board.{after_happening, after_line, after_lines}
 use Rattle.coil_driver.specs.{Driver.{IsToCoil, IsSendable}, Agrees.{IsSent, AreSent, Agrees}}
+use Rattle.coil_guard.proofs.Following.{never-pulsed}
+use Rattle.coil_guard.proofs.Following.{never-enabled}
+use Rattle.coil_guard.proofs.Following.{never-on}
 
 -- ---- one command
 
@@ -58,28 +61,10 @@ sent-there s coil test command none =
     ])
     (λ no_ h. cc)
 
-no-pulse : (ms power now : ℕ) → takes_pulse ms power now (off no_limits) ≡ true → ⊥
-no-pulse ms power now h =
-    let within = (and_parts (nat_le 0 now) (nat_le 1 ms && (nat_le ms 0 && nat_le power 0)) h).1 in
-    let some = and_parts (nat_le 1 ms) (nat_le ms 0 && nat_le power 0) within in
-    let least = leb-true 1 ms some.0 in
-    let most = leb-true ms 0 (and_parts (nat_le ms 0) (nat_le power 0) some.1).0 in
-    omega (arith, least, most)
-
-no-enable : (power : ℕ) → takes_enable power (off no_limits) ≡ true → ⊥
-no-enable power h = false≢true h
-
-no-disable : (now : ℕ) → is_on_at now (off no_limits) ≡ true → ⊥
-no-disable now = by (nat_lt now 0) refl
-  where
-    by : (b : Bool) → nat_lt now 0 ≡ b → (b || false) ≡ true → ⊥
-    by true is h = let below = ltb-true now 0 is in omega (arith, below)
-    by false is h = false≢true h
-
 to-coil : (s : List CoilState) (owner : Owner) (now : ℕ) (command : Command) → answer_asking command owner now s ≡ answers.Sent command → (coil_of command).0 < length s
-to-coil s owner now (commands.Pulse coil ms power) h = sent-there s coil (takes_pulse ms power now) (commands.Pulse coil ms power) (no-pulse ms power now) h
-to-coil s owner now (commands.Enable coil power) h = sent-there s coil (takes_enable power) (commands.Enable coil power) (no-enable power) h
-to-coil s owner now (commands.Disable coil) h = sent-there s coil (is_on_at now) (commands.Disable coil) (no-disable now) h
+to-coil s owner now (commands.Pulse coil ms power) h = sent-there s coil (takes_pulse ms power now) (commands.Pulse coil ms power) (never-pulsed ms power now) h
+to-coil s owner now (commands.Enable coil power) h = sent-there s coil (takes_enable power) (commands.Enable coil power) (never-enabled power) h
+to-coil s owner now (commands.Disable coil) h = sent-there s coil (is_on_at now) (commands.Disable coil) (never-on now) h
 
 -- ---- lines
 

@@ -52,8 +52,6 @@ onwards-after zero b = refl
 onwards-after (suc n) b = onwards-after n (after_sending b)
 
 module _ (k n : ℕ) (onwards : Bool) where
-  fault-test : (a b c d : Bool) → a ≡ c → b ≡ d → (a || (onwards && b)) ≡ (c || (onwards && d))
-  fault-test a b c d first later = ap₂ (λ x y. x || (onwards && y)) first later
 
   -- before the k-th command, after it, and at it
   fault-is : (((k - n) == 1) || (onwards && ((k - n) == 0))) ≡ is_fault_at k onwards (n + 1)

@@ -36,13 +36,13 @@ new_follows limits = record {
 is-there : (s : List CoilState) (coil : CoilId) (test : CoilState → Bool) → test (coil_at s coil) ≡ true → (test (off no_limits) ≡ true → ⊥) → coil.0 < length s
 is-there s coil test taken never = search (rules, cases_lt, get_or_past)
 
-never-pulsed : (ms power now : ℕ) → takes_pulse ms power now (off no_limits) ≡ true → ⊥
+pub never-pulsed : (ms power now : ℕ) → takes_pulse ms power now (off no_limits) ≡ true → ⊥
 never-pulsed ms power now taken = search rules
 
-never-enabled : (power : ℕ) → takes_enable power (off no_limits) ≡ true → ⊥
+pub never-enabled : (power : ℕ) → takes_enable power (off no_limits) ≡ true → ⊥
 never-enabled power taken = false≢true taken
 
-never-on : (now : ℕ) → is_on_at now (off no_limits) ≡ true → ⊥
+pub never-on : (now : ℕ) → is_on_at now (off no_limits) ≡ true → ⊥
 never-on now taken = search rules
 
 -- ---- what an answer says was sent, by the test that the answer was made of

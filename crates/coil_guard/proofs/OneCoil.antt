@@ -7,7 +7,8 @@ use Rattle.coil_guard.specs.{Owners.is_holder, Follows.{IsApart, IsFollowed}}
 use Rattle.coil_guard.specs.CoilStep.{off, is_on_at, takes_pulse, pulsed, takes_enable, enabled, disabled}
 use Rattle.coil_guard.specs.SentCommands.{Sending, is_to, makes_rest, begins_on, ends_on, begins_hold, begins_hold_for, ends_hold, is_on, is_held, is_resting, IsOnThroughout}
 use Rattle.coil_guard.specs.Calls.{pulse_sent, enable_sent, disable_sent}
-use Rattle.coil_guard.proofs.Lasting.{or-false, lasts-push, lasts-begun, lasts-kept, lasts-ended, any-push, lt-either}
+use Rattle.coil_guard.proofs.Lasting.{lasts-push, lasts-begun, lasts-kept, lasts-ended, any-push, lt-either}
+use Rattle.std.proofs.Math.Bool.{or-false}
 
 not-owner : (owner : Owner) (o : Option Owner) → is_some o ≡ false → is_holder owner o ≡ false
 not-owner owner o free = search rules
@@ -62,9 +63,6 @@ module _ (coil : CoilId) (limits : CoilLimits) (sent : List Sending) (c : CoilSt
 
     pub some_ms : 1 ≤ ms
     some_ms = leb-true 1 ms (and_parts (nat_le 1 ms) (nat_le ms c.limits.max_pulse_ms && nat_le power c.limits.max_pulse_power) within).0
-
-    sizes : (nat_le ms c.limits.max_pulse_ms && nat_le power c.limits.max_pulse_power) ≡ true
-    sizes = (and_parts (nat_le 1 ms) (nat_le ms c.limits.max_pulse_ms && nat_le power c.limits.max_pulse_power) within).1
 
     pub short : ms ≤ limits.max_pulse_ms
     short = search rules

@@ -7,16 +7,15 @@ use Rattle.std.proofs.lemmas.List.Splits.{slice_split_none, slice_split_at, join
 use Rattle.std.proofs.lemmas.{List.Sums.{AllPass-from_list_all, list_all-from_AllPass}, Slice.Eq.bytes_eq-Decides}
 use Rattle.config_checker.specs.CertificateText.{Numbered, Certificate, numbered_lines, bound_line, heading_of, switch_lines}
 use Rattle.config_checker.specs.CertificateOf.{is_in_word, IsWord, AreWritable, IsWritable, IsTextOf, number_in, parts, has_switches, bound_by, bound_in, named, numbered_by, numbered_in, with_line, front, is_end, first_event, ended, after_switches, body_at, with_bound, bound_at, with_heading, heading_at, certificate_at}
-use Rattle.config_checker.proofs.Numerals.{guard, says_number, number_said, is_written, written_says, not_in_digits}
+use Rattle.config_checker.proofs.Numerals.{says_number, number_said, is_written, written_says, not_in_digits}
 use Rattle.config_checker.proofs.CertificateLines.{heading_first, bound_first, front_first}
+use Rattle.mpf_values.proofs.Steps.{guard_true}
+use Rattle.yaml_bytes.proofs.Words.{word_is}
 
 -- ---- what was read
 
 abbrev some_line : List ℕ × ℕ → Option (List ℕ × ℕ)
 some_line s = Some s
-
-word_is : (word other : List ℕ) → bytes_eq word other ≡ true → word ≡ other
-word_is word other e = (bytes_eq-Decides word other).0 e
 
 -- what is before the line end
 abbrev words_of : List ℕ → List ℕ × ℕ → List ℕ
@@ -32,12 +31,12 @@ record IsLineOf (word line : List ℕ) (s : List ℕ × ℕ) : Type 0 where
   number : s.1 < 2 ^ 32
 
 named_line : (word first name number : List ℕ) (o : Option ℕ) (s : List ℕ × ℕ) → first ≡ word → o ≡ number_in number → named name o ≡ Some s → IsLineOf word (join_with_byte 32 (first ∷ name ∷ number ∷ [])) s
-named_line word first name number None s w o h = let a = guard (nat_lt 0 (length name) && list_all is_in_word name) None s h in absurd (never a.1)
+named_line word first name number None s w o h = let a = guard_true (nat_lt 0 (length name) && list_all is_in_word name) None s h in absurd (never a.1)
   where
     never : None ≡ some_line s → ⊥
     never z = cc
 named_line word first name number (Some n) s w o h =
-    let a = guard (nat_lt 0 (length name) && list_all is_in_word name) (Some (name, n)) s h in
+    let a = guard_true (nat_lt 0 (length name) && list_all is_in_word name) (Some (name, n)) s h in
     let b = and_parts (nat_lt 0 (length name)) (list_all is_in_word name) a.0 in
     let same : (name, n) ≡ s = cc in
     let says = says_number number n (sym o) in
@@ -53,7 +52,7 @@ line_by_sound word [] s h = absurd cc
 line_by_sound word (a ∷ []) s h = absurd cc
 line_by_sound word (a ∷ b ∷ []) s h = absurd cc
 line_by_sound word (first ∷ name ∷ number ∷ []) s h =
-    let g = guard (bytes_eq first word) (named name (number_in number)) s h in
+    let g = guard_true (bytes_eq first word) (named name (number_in number)) s h in
     named_line word first name number (number_in number) s (word_is first word g.0) refl g.1
 line_by_sound word (a ∷ b ∷ c ∷ d ∷ more) s h = absurd cc
 
@@ -99,7 +98,7 @@ bound_by_sound : (ws : List (List ℕ)) (bound : ℕ) → bound_by ws ≡ Some b
 bound_by_sound [] bound h = absurd cc
 bound_by_sound (a ∷ []) bound h = absurd cc
 bound_by_sound (word ∷ number ∷ []) bound h =
-    let g = guard (bytes_eq word (codes "bound")) (number_in number) bound h in
+    let g = guard_true (bytes_eq word (codes "bound")) (number_in number) bound h in
     let says = says_number number bound g.1 in
     record { text = rw (word_is word (codes "bound") g.0, is_written number bound says) refl; small = says.small }
 bound_by_sound (a ∷ b ∷ c ∷ more) bound h = absurd cc

@@ -32,11 +32,4 @@ module _ (machine : List SectionRows) where
   pub item_deed : (i : CoilItem) → IsItemSound machine i → IsDeedSound i.coil.text (deed_by (defaults_called machine i.coil.text) i i.action)
   item_deed i h = sound i.coil.text (λ c. IsActionWithin c i i.action) (λ d. deed_by d i i.action) (λ c within. action_within i i.action c within) h
 
-  off_deed : (name : List ℕ) (P : Coil → Type 0) → IsCoilSuch machine name P → IsDeedSound name disable
-  off_deed name P h = record { coil = h.coil; called = h.called; such = tt }
-
   -- ---- flippers
-
-  module _ (Q : Effect → Type 0) (works_fine : (name : List ℕ) (deed : Deed) → IsDeedSound name deed → Q (works name deed)) where
-    one : (e : Effect) → Q e → All Q (e ∷ [])
-    one e h = All-cons Q e [] h (All-nil Q)

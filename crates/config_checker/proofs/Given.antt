@@ -15,25 +15,19 @@ use Rattle.row_contributions.proofs.{CoilsGiven.coils_given, SwitchesGiven.switc
 use Rattle.mpf_plan.{specs.{Uses.{is_unknown, lacks_name}, ByName.{IsGiven, AreGiven}}, proofs.Judged.nothing_lacks}
 use Rattle.row_faults.specs.Sound.{IsSound}
 use Rattle.config_checker.proofs.RowsDoing.{IsUnreserved, IsFine, IsThere, rows_doing}
-
-or_first : (a b : Bool) → a ≡ true → (a || b) ≡ true
-or_first x1 b is = search rules
-
-or_second : (a b : Bool) → b ≡ true → (a || b) ≡ true
-or_second x1 b is = search rules
-
-same_bytes : (n : List ℕ) → bytes_eq n n ≡ true
-same_bytes n = (bytes_eq-Decides n n).1 refl
+use Rattle.std.proofs.lemmas.Bool.{or_left}
+use Rattle.std.proofs.lemmas.Bool.{or_right}
+use Rattle.yaml_bytes.proofs.Words.{is_word}
 
 -- ---- what a contribution gives itself
 
 own_name : (t : Table) (n : List ℕ) → list_any (bytes_eq n) (name_in_table t (Some (t, n))) ≡ true
-own_name t n = ap (λ b. list_any (bytes_eq n) (cond b (n ∷ []) [])) (eq-eqb (order_of t) (order_of t) refl) ∙ or_first (bytes_eq n n) false (same_bytes n)
+own_name t n = ap (λ b. list_any (bytes_eq n) (cond b (n ∷ []) [])) (eq-eqb (order_of t) (order_of t) refl) ∙ or_left (bytes_eq n n) false (is_word n)
 
 given_there : (cs : List Contribution) (i : ℕ) (d c : Contribution) (t : Table) (n : List ℕ) → i < length cs → get_or cs i d ≡ c → given c ≡ Some (t, n) → list_any (bytes_eq n) (given_names t cs) ≡ true
 given_there [] i d c t n within at is = absurd (omega arith)
-given_there (x ∷ cs) zero d c t n within at is = search (rules, list_any-append, or_first, own_name)
-given_there (x ∷ cs) (suc i) d c t n within at is = search (rules, list_any-append, or_second, given_there cs i d c t n (omega arith) at is)
+given_there (x ∷ cs) zero d c t n within at is = search (rules, list_any-append, or_left, own_name)
+given_there (x ∷ cs) (suc i) d c t n within at is = search (rules, list_any-append, or_right, given_there cs i d c t n (omega arith) at is)
 
 -- ---- coils
 
@@ -71,7 +65,7 @@ module _ (n : List ℕ) where
 
       by : (c : Contribution) → (list_any is_it (flat_map given_coil cs) ≡ true → list_any (bytes_eq n) (given_names Coils cs) ≡ true) → list_any is_it (given_coil c ++ flat_map given_coil cs) ≡ true
           → list_any (bytes_eq n) (name_in_table Coils (given c) ++ given_names Coils cs) ≡ true
-      by x1 rest h = search (rules, own, list_any-append, or_second)
+      by x1 rest h = search (rules, own, list_any-append, or_right)
 
   coil_given : (rows : Rows) (c : Coil) → coil_called rows.machine n ≡ Some c → list_any (bytes_eq n) (given_names Coils (contributions_of rows)) ≡ true
   coil_given rows c is = search (rules, coil-named, coils_given, as_given-any, found_any)

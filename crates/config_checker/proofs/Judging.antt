@@ -35,8 +35,6 @@ pub own-given : (rows : Rows) (text : List ℕ) (report : Report) → ReportsOwn
 unfolding checked_with_at
 own-given rows text report h = own-gives rows report (checked (certified_plan text) (plan_at rows)) h
 
--- without them the rest is judged
-
 -- why there is no plan
 pub no-plan-own : (rows : Rows) (report : Report) → ReportsOwn rows report → ReportsNoPlan rows report
 no-plan-own rows x2 h = search rules

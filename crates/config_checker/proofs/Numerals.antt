@@ -6,13 +6,12 @@ use Rattle.std.proofs.lemmas.Fmt.{decimal_nonempty, decimal_digit, first_decimal
 use Rattle.std.proofs.lemmas.{List.Sums.AllPass-from_list_all, Option.{cond_some, option_and_then_some}}
 use Rattle.yaml_bytes.specs.Numbers.{value_of_digits, AreDigits, IsNumber, number_at}
 use Rattle.yaml_bytes.proofs.AllBytes.{Are-from_list_all, list_all-from_Are}
-use Rattle.yaml_bytes.proofs.WrittenNumbers.{own, number_sound, number_complete, none_of}
+use Rattle.yaml_bytes.proofs.WrittenNumbers.{own, number_sound, number_complete}
 use Rattle.config_checker.specs.CertificateOf.{is_plain, within_32_bits, number_in}
+use Rattle.mpf_values.proofs.Steps.{guard_true}
+use Rattle.yaml_bytes.proofs.Each.{none_of}
 
 -- ---- what a word is that says a number
-
-pub guard : {A : Type 0} (t : Bool) (o : Option A) (x : A) → cond t o None ≡ Some x → (t ≡ true) × (o ≡ Some x)
-guard x1 o x e = search rules
 
 pub record SaysNumber (word : List ℕ) (n : ℕ) : Type 0 where
   pub number : IsNumber word n
@@ -21,7 +20,7 @@ pub record SaysNumber (word : List ℕ) (n : ℕ) : Type 0 where
 
 pub says_number : (word : List ℕ) (n : ℕ) → number_in word ≡ Some n → SaysNumber word n
 says_number word n e =
-    let a = guard (is_plain word) (option_and_then within_32_bits (number_at word)) n e in
+    let a = guard_true (is_plain word) (option_and_then within_32_bits (number_at word)) n e in
     option_and_then_some within_32_bits (number_at word) n a.1 (λ m is fits.
     let b = cond_some (nat_lt m (2 ^ 32)) m n fits in
     record { number = number_sound word n (is ∙ ap Some b.1); plain = a.0; small = subst (λ k. k < 2 ^ 32) b.1 (ltb-true m (2 ^ 32) b.0) })
@@ -69,6 +68,3 @@ written_says n small =
 
 pub plain_number : (word : List ℕ) (o : Option ℕ) → false ≡ not (is_plain word) → o ≡ number_at word → number_in word ≡ option_and_then within_32_bits o
 plain_number word o plain e = cond-true (is_plain word) (option_and_then within_32_bits (number_at word)) None (not-false (is_plain word) (sym plain)) ∙ ap (option_and_then within_32_bits) (sym e)
-
-pub narrowed : {E : Type 0} (r : Result ℕ E) (n : ℕ) → OkIff r (n < 2 ^ 32) n → result_ok r ≡ within_32_bits n
-narrowed x1 n h = search (rules, lt-ltb, none_of, ltb-true, cond_some, nat_lt)

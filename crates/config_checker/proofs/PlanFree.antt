@@ -31,21 +31,16 @@ use Rattle.row_faults.specs.{Reserved.{events_of_modes, mode_names, is_reserved}
 use Rattle.row_faults.proofs.{Sound.no_faults_sound, None.map-none}
 use Rattle.config_checker.specs.{FaultView.row, Checking.faults_of_rows}
 use Rattle.config_checker.proofs.RowsDoing.{IsUnreserved, IsFine, IsThere, rows_doing}
+use Rattle.std.proofs.lemmas.Bool.{or_left}
+use Rattle.std.proofs.lemmas.Bool.{or_right}
+use Rattle.yaml_bytes.proofs.Words.{is_word}
+use Rattle.std.proofs.lemmas.Bool.{or_parts}
 
 -- ---- the events of a mode are reserved
 
-among-later : (a b : Bool) → b ≡ true → (a || b) ≡ true
-among-later x1 b is = search rules
-
-among-first : (a b : Bool) → a ≡ true → (a || b) ≡ true
-among-first x1 b is = search rules
-
-same_bytes : (name : List ℕ) → bytes_eq name name ≡ true
-same_bytes name = (bytes_eq-Decides name name).1 refl
-
 -- one of five that passes
 one-passes : (a b c d e : Bool) → (a ≡ true) ⊎ ((b ≡ true) ⊎ ((c ≡ true) ⊎ ((d ≡ true) ⊎ (e ≡ true)))) → (a || (b || (c || (d || (e || false))))) ≡ true
-one-passes a b c d e x6 = search (rules, among-first, among-later)
+one-passes a b c d e x6 = search (rules, or_left, or_right)
 
 module _ (name : List ℕ) where
   abbrev is_event : ModeEvent → List ℕ → Bool
@@ -53,14 +48,11 @@ module _ (name : List ℕ) where
 
 modes-among : (names : List (List ℕ)) (name : List ℕ) (which : ModeEvent) → Contains names name → is_among (events_of_modes names) (mode_event_name which name) ≡ true
 modes-among [] name which (k, l, is) = absurd (omega arith)
-modes-among (n ∷ names) name which (zero, l, is) = search (rules, list_any-append, among-first, one-passes, same_bytes)
-modes-among (n ∷ names) name which (suc k, l, is) = search (rules, list_any-append, among-later, modes-among names name which (k, omega arith, is))
+modes-among (n ∷ names) name which (zero, l, is) = search (rules, list_any-append, or_left, one-passes, is_word)
+modes-among (n ∷ names) name which (suc k, l, is) = search (rules, list_any-append, or_right, modes-among names name which (k, omega arith, is))
 
 first-false : (a b : Bool) → (a || b) ≡ false → a ≡ false
 first-false x1 b h = search rules
-
-second-false : (a b : Bool) → (a || b) ≡ false → b ≡ false
-second-false x1 b h = search rules
 
 -- ---- the plan
 
@@ -79,7 +71,7 @@ module _ (rows : Rows) (none : faults_of_rows rows ≡ []) (plan : PlanView) (is
   -- what is not among names is none of them
   apart-all : (names : List (List ℕ)) (n : List ℕ) → is_among names n ≡ false → All (λ name. n ≢ name) names
   apart-all [] n h = All-nil (λ name. n ≢ name)
-  apart-all (x ∷ names) n h = search (rules, All-cons, among-first, bytes_eq-Decides, second-false, apart-all names n (second-false (bytes_eq x n) (is_among names n) h))
+  apart-all (x ∷ names) n h = search (rules, All-cons, or_left, bytes_eq-Decides, or_parts, apart-all names n (or_parts (bytes_eq x n) (is_among names n) h).1)
 
   -- an event whose name is not reserved is none of a mode's, and of the game's at most that of the start button
   event-free : (e : EventId) → IsUnreserved rows (name_of_event plan e) → IsFree plan e
@@ -87,7 +79,7 @@ module _ (rows : Rows) (none : faults_of_rows rows ≡ []) (plan : PlanView) (is
       let names = map (λ (w : Written). w.text) (listed_modes rows.machine) in
       let more = map (λ (m : ModeRows). m.name) rows.modes in
       let among = modes-among (mode_names rows) name which (Contains-append_right names more name there) in
-      true≢false (sym (among-later (is_among reserved_game_events (mode_event_name which name)) (is_among (events_of_modes (mode_names rows)) (mode_event_name which name)) among) ∙ ap (is_reserved rows) (sym same) ∙ h))
+      true≢false (sym (or_right (is_among reserved_game_events (mode_event_name which name)) (is_among (events_of_modes (mode_names rows)) (mode_event_name which name)) among) ∙ ap (is_reserved rows) (sym same) ∙ h))
       (apart-all reserved_game_events (name_of_event plan e) (first-false (is_among reserved_game_events (name_of_event plan e)) (is_among (events_of_modes (mode_names rows)) (name_of_event plan e)) h))
       IsFreeWork tt refl
 

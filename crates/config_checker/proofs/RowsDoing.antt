@@ -24,25 +24,20 @@ use Rattle.row_contributions.specs.SaveEntries.{save_device, multiball_device, s
 use Rattle.row_contributions.specs.ShotEntries.{shot_events, group_events, shot_lists, state_lists, group_lists}
 use Rattle.plan_rows.specs.Members.{members_of}
 use Rattle.row_contributions.specs.Doing.{IsSwitchDoing, IsPlayerDoing, IsEntryDoing, IsCoilPlayerDoing, IsVariablePlayerDoing, IsShotDoing, IsShotGroupDoing, has_target, IsBallDeviceDoing, IsDoing, IsMachineDoing, AreDoing}
-use Rattle.row_contributions.proofs.{Before.All-flat_map, SaveFacts.{all_save, all_multiball}}
+use Rattle.row_contributions.proofs.SaveFacts.{all_save, all_multiball}
 use Rattle.row_faults.specs.Reserved.{is_reserved, switch_posts, player_posts, counter_posts, step_posts, posts_in, posts_of}
 use Rattle.row_faults.specs.Sound.{ChangesNothingBarred, IsChangeFree, IsItemSound, IsCoilSound, IsCoilSuch, IsCoilPlayerSound, IsRuleSound, IsShotSound, IsShotGroupSound, IsBallDeviceSound, IsSectionSound, IsSound}
 use Rattle.row_faults.specs.{Routes.switch_names, BallFaults.is_place}
 use Rattle.row_faults.proofs.AsWritten.{switch-posts, counter-posts, step-posts}
 use Rattle.config_checker.proofs.FreeNames.{active-free, inactive-free, tag-free, block-free, timer-free, ball-free, save-free, multiball-free, shot-free, group_hit-free, group_complete-free}
 use Rattle.config_checker.proofs.CoilDeeds.{IsDeedSound, item_deed}
+use Rattle.yaml_bytes.proofs.Each.{All-flat_map}
+use Rattle.std.proofs.lemmas.Bool.{or_parts}
+use Rattle.yaml_bytes.proofs.Each.{All-parts}
+use Rattle.yaml_bytes.proofs.Each.{All-from_flat_map}
+use Rattle.yaml_bytes.proofs.Each.{All-from_map}
 
 -- ---- parts of lists
-
-all-parts : {X : Type 0} (P : X → Type 0) (xs ys : List X) → All P (xs ++ ys) → All P xs × All P ys
-all-parts P [] ys h = (All-nil P, h)
-all-parts P (x ∷ xs) ys h = search (rules, All-tail, All-cons, All-head, all-parts P xs ys (All-tail P x (xs ++ ys) h))
-
-all-each : {X Y : Type 0} (P : Y → Type 0) (f : X → List Y) (xs : List X) → All P (flat_map f xs) → All (λ x. All P (f x)) xs
-all-each P f [] h = All-nil (λ x. All P (f x))
-all-each P f (x ∷ xs) h =
-    let parts = all-parts P (f x) (flat_map f xs) h in
-    All-cons (λ y. All P (f y)) x xs parts.0 (all-each P f xs parts.1)
 
 -- two of the items that are made of one are two of all
 first-pairs : {X : Type 0} (R : X → X → Type 0) (xs ys : List X) → AllPairs R (xs ++ ys) → AllPairs R xs
@@ -55,11 +50,6 @@ rest-pairs R (x ∷ xs) ys h = rest-pairs R xs ys (λ i j d less within. h (suc 
 pairs-each : {X Y : Type 0} (R : Y → Y → Type 0) (f : X → List Y) (xs : List X) → AllPairs R (flat_map f xs) → All (λ x. AllPairs R (f x)) xs
 pairs-each R f [] h = All-nil (λ x. AllPairs R (f x))
 pairs-each R f (x ∷ xs) h = All-cons (λ y. AllPairs R (f y)) x xs (first-pairs R (f x) (flat_map f xs) h) (pairs-each R f xs (rest-pairs R (f x) (flat_map f xs) h))
-
--- of what an item of a list is made, where it is in the list
-from_map : {X Y : Type 0} (P : Y → Type 0) (f : X → Y) (xs : List X) → All P (map f xs) → All (λ x. P (f x)) xs
-from_map P f [] h = All-nil (λ x. P (f x))
-from_map P f (x ∷ xs) h = All-cons (λ y. P (f y)) x xs (All-head P (f x) (map f xs) h) (from_map P f xs (All-tail P (f x) (map f xs) h))
 
 module _ (rows : Rows) where
   abbrev pub IsUnreserved : List ℕ → Type 0
@@ -104,11 +94,8 @@ module _ (rows : Rows) where
 
   -- ---- variables
 
-  second-false : (a b : Bool) → (a || b) ≡ false → b ≡ false
-  second-false x1 b h = search rules
-
   variable_player-doing : (p : VariablePlayer) → All (IsChangeFree rows) p.items → IsVariablePlayerDoing IsFine IsUnreserved IsThere p
-  variable_player-doing p h = search (rules, All-weaker, second-false)
+  variable_player-doing p h = search (rules, All-weaker, or_parts)
 
   -- ---- devices
 
@@ -133,7 +120,7 @@ module _ (rows : Rows) where
   timer-all name = search (rules, All-map, one, get_or, timer-free)
 
   where_free : {X : Type 0} (posts_by : X → List Written) (f : Entry → X) (b : Bool) (es : List Entry) → All IsFreePost (flat_map posts_by (map f (if b then es else []))) → b ≡ true → All (λ e. All IsFreePost (posts_by (f e))) es
-  where_free posts_by f true es h is = from_map (λ x. All IsFreePost (posts_by x)) f es (all-each IsFreePost posts_by (map f es) h)
+  where_free posts_by f true es h is = All-from_map (λ x. All IsFreePost (posts_by x)) f es (All-from_flat_map IsFreePost posts_by (map f es) h)
   where_free posts_by f false es h is = absurd (true≢false (sym is))
 
   abbrev IsEntry : Option Device → Type 0
@@ -262,16 +249,16 @@ module _ (rows : Rows) where
         let players = flat_map player_posts (event_players_in s) in
         let counters = flat_map counter_posts (counters_in s) in
         let accruals = flat_map step_posts (accruals_in s) in
-        let last = all-parts IsFreePost (((switches ++ players) ++ counters) ++ accruals) (flat_map step_posts (sequences_in s)) free in
-        let more = all-parts IsFreePost ((switches ++ players) ++ counters) accruals last.0 in
-        let rest = all-parts IsFreePost (switches ++ players) counters more.0 in
-        let parts = all-parts IsFreePost switches players rest.0 in
+        let last = All-parts IsFreePost (((switches ++ players) ++ counters) ++ accruals) (flat_map step_posts (sequences_in s)) free in
+        let more = All-parts IsFreePost ((switches ++ players) ++ counters) accruals last.0 in
+        let rest = All-parts IsFreePost (switches ++ players) counters more.0 in
+        let parts = All-parts IsFreePost switches players rest.0 in
         (parts.0, parts.1, rest.1, more.1, last.1)
 
     section-doing : IsDoing IsFine IsUnreserved IsThere rows s
     section-doing = record {
       players = All-weaker (λ x. All IsFreePost (player_posts x)) (IsPlayerDoing IsFine IsUnreserved IsThere) (λ p k. written-free p.posts k) (event_players_in s)
-          (all-each IsFreePost player_posts (event_players_in s) section-parts.1);
+          (All-from_flat_map IsFreePost player_posts (event_players_in s) section-parts.1);
       variable_players = All-weaker (λ p. All (IsChangeFree rows) p.items) (IsVariablePlayerDoing IsFine IsUnreserved IsThere) variable_player-doing (variable_players_in s) changing;
       coil_players = All-weaker (IsCoilPlayerSound rows.machine) (IsCoilPlayerDoing IsFine IsUnreserved IsThere rows) coil_player-doing (coil_players_in s) sound.coil_players;
       devices = entries-doing s section-parts.2 section-parts.3 section-parts.4;
@@ -282,7 +269,7 @@ module _ (rows : Rows) where
     machine-doing : All HasApart (ball_devices_in s) → IsMachineDoing IsFine IsUnreserved IsThere rows s
     machine-doing apart = record {
       all = section-doing;
-      switches = All-weaker (λ x. All IsFreePost (switch_posts x)) (IsSwitchDoing IsFine IsUnreserved IsThere) switch-doing (switches_in s) (all-each IsFreePost switch_posts (switches_in s) section-parts.0);
+      switches = All-weaker (λ x. All IsFreePost (switch_posts x)) (IsSwitchDoing IsFine IsUnreserved IsThere) switch-doing (switches_in s) (All-from_flat_map IsFreePost switch_posts (switches_in s) section-parts.0);
       rules = λ i d within. rules-doing (coil_rule_of s.name (get_or (entries_in s.content) i d)) (sound.rules i d within);
       ball_devices = λ i d within. ball_device-doing (get_or (ball_devices_in s) i d) (apart i d within) (sound.ball_devices i d within);
     }
@@ -291,12 +278,12 @@ module _ (rows : Rows) where
   each-doing : (E R : SectionRows → Type 0) → ((s : SectionRows) → All IsFreePost (posts_in s) → ChangesNothingBarred rows s → IsSectionSound rows s → E s → R s)
       → (ss : List SectionRows) → All IsFreePost (posts_of ss) → All (ChangesNothingBarred rows) ss → All (IsSectionSound rows) ss → All E ss → All R ss
   each-doing E R make ss free changing sound more =
-      let all = all-each IsFreePost posts_in ss free in
+      let all = All-from_flat_map IsFreePost posts_in ss free in
       λ i d within. make (get_or ss i d) (all i d within) (changing i d within) (sound i d within) (more i d within)
 
   pub rows_doing : IsSound rows → AreDoing IsFine IsUnreserved IsThere rows
   rows_doing h = record {
     machine = each-doing (λ s. All HasApart (ball_devices_in s)) (IsMachineDoing IsFine IsUnreserved IsThere rows) machine-doing rows.machine h.posts.machine h.changes h.machine
-        (all-each HasApart ball_devices_in rows.machine (pairs-each (λ v w. v ≢ w) switch_names (ball_devices_of rows.machine) h.balls.switches));
+        (All-from_flat_map HasApart ball_devices_in rows.machine (pairs-each (λ v w. v ≢ w) switch_names (ball_devices_of rows.machine) h.balls.switches));
     modes = λ i d within. each-doing (λ s. Unit {0}) (IsDoing IsFine IsUnreserved IsThere rows) (λ s free changing sound none. section-doing s free changing sound) (get_or rows.modes i d).sections (h.posts.modes i d within) (h.mode_changes i d within) (h.modes i d within) (λ j e inside. tt);
   }

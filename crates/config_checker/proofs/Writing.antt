@@ -4,22 +4,8 @@ use Rattle.std.specs.{List.{flat_map, zip}, Io.KnownBytes.Appends}
 use Rattle.std.proofs.{KnownBytes.Appends-trans, lemmas.List.{take_more, take_all, Folds.flat_map-map}}
 use Rattle.std.proofs.lemmas.{Grind.flat_map-append, Slice.Zip.{get_or-zip, length-zip}}
 use Rattle.config_checker.specs.CertificateText.{numbered_line}
-
--- a last piece, which may fail
-pub written-last : {T E : Type 0} (r : Result T E) (a b c : Option (List ℕ)) (x y z : List ℕ) → x ++ y ≡ z → Appends a b x → OnOk r (Appends b c y) → OnOk r (Appends a c z)
-written-last x1 a b c x y z e h k = search (rules, Appends-trans)
-
--- the pieces of a list, one more
-pub written-more : {X : Type 0} (piece : X → List ℕ) (xs : List X) (i : ℕ) (d : X) (a b c : Option (List ℕ)) → i < length xs
-    → Appends a b (flat_map piece (take i xs)) → Appends b c (piece (get_or xs i d)) → Appends a c (flat_map piece (take (i + 1) xs))
-written-more piece xs i d a b c within h k =
-    let more : flat_map piece (take (i + 1) xs) ≡ flat_map piece (take i xs) ++ piece (get_or xs i d) =
-    ap (flat_map piece) (take_more xs i d within) ∙ flat_map-append piece (take i xs) (get_or xs i d ∷ []) ∙ ap (λ (last : List ℕ). flat_map piece (take i xs) ++ last) (append-nil (piece (get_or xs i d))) in
-    subst (Appends a c) (sym more) (Appends-trans a b c _ _ h k)
-
--- all pieces of a list
-pub written-all : {X : Type 0} (piece : X → List ℕ) (xs : List X) (i : ℕ) (a b : Option (List ℕ)) → length xs ≤ i → Appends a b (flat_map piece (take i xs)) → Appends a b (flat_map piece xs)
-written-all piece xs i a b whole h = subst (λ (ys : List _). Appends a b (flat_map piece ys)) (take_all i xs whole) h
+use Rattle.yaml_bytes.proofs.Writing.{one_more_piece}
+use Rattle.yaml_bytes.proofs.Writing.{all_pieces}
 
 -- the pieces of what is seen in a list
 pub written-seen : {X Y : Type 0} (piece : Y → List ℕ) (view : X → Y) (xs : List X) (a b : Option (List ℕ)) → Appends a b (flat_map (λ x. piece (view x)) xs) → Appends a b (flat_map piece (map view xs))
@@ -33,7 +19,7 @@ module _ (word : List ℕ) (names : List (List ℕ)) (numbers : List ℕ) (count
   line_more i name number a b c within is_name is_number h k =
       let row : get_or (zip names numbers) i ([], 0) ≡ (name, number) =
       get_or-zip names numbers i ([], 0) within (omega (arith, counted, within)) ∙ ap (λ (n : List ℕ). (n, get_or numbers i 0)) (sym is_name) ∙ ap (λ (v : ℕ). (name, v)) (sym is_number) in
-      written-more (numbered_line word) (zip names numbers) i ([], 0) a b c (omega (arith, length-zip names numbers, counted, within)) h (subst (λ (e : List ℕ × ℕ). Appends b c (numbered_line word e)) (sym row) k)
+      one_more_piece (numbered_line word) (zip names numbers) i ([], 0) a b c (omega (arith, length-zip names numbers, counted, within)) h (subst (λ (e : List ℕ × ℕ). Appends b c (numbered_line word e)) (sym row) k)
 
   pub lines_all : (i : ℕ) (a b : Option (List ℕ)) → length names ≤ i → Appends a b (flat_map (numbered_line word) (take i (zip names numbers))) → Appends a b (flat_map (numbered_line word) (zip names numbers))
-  lines_all i a b whole h = written-all (numbered_line word) (zip names numbers) i a b (omega (arith, length-zip names numbers)) h
+  lines_all i a b whole h = all_pieces (numbered_line word) (zip names numbers) i a b (omega (arith, length-zip names numbers)) h

@@ -3,6 +3,7 @@ use Rattle.std.proofs.Common.{rules, ◌≡◌, ℕ, zero, suc, ◌+◌, ◌<◌
 use Rattle.std.specs.List.{All, Contains, flat_map, range_with_len}
 use Rattle.std.proofs.lemmas.{Bool.cases_eq, List.Elements.All-cons}
 use Rattle.device_objects.specs.Outcomes.{only_if}
+use Rattle.std.proofs.lemmas.List.Elements.{All-nil}
 
 -- ---- what is among them
 
@@ -54,11 +55,8 @@ either test x y first second = search rules
 
 -- ---- what holds of each
 
-pub none : {X : Type 0} (P : X → Type 0) → All P []
-none P k d below = absurd (omega (arith, below))
-
 pub one : {X : Type 0} (P : X → Type 0) (x : X) → P x → All P (x ∷ [])
-one P x holds = All-cons P x [] holds (none P)
+one P x holds = All-cons P x [] holds (All-nil P)
 
 pub two : {X : Type 0} (P : X → Type 0) (x y : X) → P x → P y → All P (x ∷ y ∷ [])
 two P x y first second = All-cons P x (y ∷ []) first (one P y second)

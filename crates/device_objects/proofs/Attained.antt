@@ -27,11 +27,12 @@ use Rattle.device_objects.specs.Bank as bank
 use Rattle.device_objects.specs.Flipper as flipper
 use Rattle.device_objects.specs.Autofire as autofire
 use Rattle.device_objects.proofs.{Flat.All-flat_map_range, BallAttained.ball-comes}
-use Rattle.device_objects.proofs.Among.{none, one, all_if, by_test, if_true, if_false}
+use Rattle.device_objects.proofs.Among.{one, all_if, by_test, if_true, if_false}
 use Rattle.device_objects.proofs.{Saves.save-comes, Answered.completed-is}
 use Rattle.device_objects.proofs.{Multiballs.multiball_acts, Shapes.{first-shape, next-within}}
 use Rattle.device_objects.specs.Laws.{HasBankShape, IsAnswer, MayCome, OutcomesComeAbout}
 use Rattle.device_objects.specs.Outcomes.{only_if, completing, going_on, resetting, of_counter, of_accrual, of_sequence, of_timer, of_timer_act, of_change, can_complete, hit_completing, of_hit_in, of_hit, of_bank, of_switch, of_flipper, of_autofire, timer_completing}
+use Rattle.std.proofs.lemmas.List.Elements.{All-nil}
 
 -- ---- values
 
@@ -545,5 +546,5 @@ outcomes_come_about (kinds.Bank b) (calls.Act act) limits = bank_acts b limits a
 outcomes_come_about kinds.Flipper (calls.Act act) limits = flipper_acts act
 outcomes_come_about kinds.Autofire (calls.Act act) limits = autofire_acts act
 outcomes_come_about (kinds.Multiball m) (calls.Act act) limits = multiball_acts m act
-outcomes_come_about settings calls.Fire limits = none (IsAnswer settings calls.Fire)
+outcomes_come_about settings calls.Fire limits = All-nil (IsAnswer settings calls.Fire)
 outcomes_come_about settings call limits = one (IsAnswer settings call) [] (first_answer settings call [] tt refl)

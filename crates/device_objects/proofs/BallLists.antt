@@ -3,20 +3,15 @@ use Rattle.std.proofs.Common.{rules, ℕ, ◌<◌, Bool, Option, List, [], ◌�
 use Rattle.std.{specs.List.All, proofs.lemmas.List.Elements.All-cons}
 use Rattle.plan_tables.specs.declared.devices.{Act.Act, BallSettings.BallSettings}
 use Rattle.device_objects.specs.declared.{device.Call.Call, state.{BallState.BallState, Eject.Eject}}
-use Rattle.device_objects.{specs.BallDevice.{time_out, count_due, fire, act_step, ball_step}, proofs.Among.{none, one}}
+use Rattle.device_objects.{specs.BallDevice.{time_out, count_due, fire, act_step, ball_step}, proofs.Among.one}
+use Rattle.std.proofs.lemmas.List.Elements.{All-nil}
 
 -- each is one of the seven
 abbrev AreLists : List ℕ → Type 0
 AreLists lists = All (λ k. k < 7) lists
 
 no_list : AreLists []
-no_list = none (λ k. k < 7)
-
-one_list : (k : ℕ) → k < 7 → AreLists (k ∷ [])
-one_list k l = one (λ j. j < 7) k l
-
-two_lists : (j k : ℕ) → j < 7 → k < 7 → AreLists (j ∷ k ∷ [])
-two_lists j k low l = All-cons (λ i. i < 7) j (k ∷ []) low (one_list k l)
+no_list = All-nil (λ k. k < 7)
 
 -- ---- answers
 

@@ -165,9 +165,6 @@ module _ (d : BallSettings) (now : ℕ) (limits : IsBallDeviceWithin d) where
       → IsAfter (time_out d now eject s).0.eject
   time_out-after eject s some = search rules
 
-  gone-switches : (eject : Eject) (s : BallState) → (gone d now eject s).0.switches ≡ s.switches
-  gone-switches eject s = search rules
-
   time_out-switches : (eject : Eject) (s : BallState) → (time_out d now eject s).0.switches ≡ s.switches
   time_out-switches eject s = search rules
 

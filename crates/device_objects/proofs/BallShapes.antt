@@ -44,11 +44,6 @@ not_due-empty bs unused =
 
 -- ---- states
 
--- the next attempt is one that the device can make
-next-within : (d : BallSettings) (number : ℕ) → IsAttempt d number → may_try_again d.ejects.max_attempts number ≡ true
-    → IsAttempt d (next_number d.ejects.max_attempts number)
-next-within d number is may = search rules
-
 module _ (d : BallSettings) where
   pub first_attempt : IsAttempt d 1
   first_attempt = (omega arith, omega arith)

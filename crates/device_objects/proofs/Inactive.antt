@@ -5,9 +5,6 @@ use Rattle.device_objects.specs.declared.device.Call.TheVariants as calls
 use Rattle.device_objects.specs.declared.state.{DeviceState.DeviceState, World.World}
 use Rattle.device_objects.specs.{DeviceStep.{first_state, device_step, IsInactive}, Laws.HasShape}
 
-pub first-inactive : (settings : Settings) → IsInactive (first_state settings)
-first-inactive settings = search rules
-
 pub stopped-inactive : (settings : Settings) (now : ℕ) (world : World) (state : DeviceState) → HasShape settings state
     → IsInactive (device_step settings calls.ModeStop now world state).0
 stopped-inactive settings now world state shape = search rules

@@ -41,13 +41,8 @@ none n = All-nil (λ k. k < n)
 more : (n k : ℕ) (ks : List ℕ) → k < n → AreBelow n ks → AreBelow n (k ∷ ks)
 more n k ks l h = All-cons (λ j. j < n) k ks l h
 
-one : (n k : ℕ) → k < n → AreBelow n (k ∷ [])
-one n k l = more n k [] l (none n)
-
 -- of the slot in use
 module _ {S : Type 0} (n : ℕ) (step : S → S × List ℕ) (each : (slot : S) → AreBelow n (step slot).1) where
-  at-below : (i : ℕ) (slots : List S) (o : Option S) → AreBelow n (step_at step i slots o).1
-  at-below i slots o = search rules
 
   in_use-below : (slots : List S) (o : Option ℕ) → AreBelow n (step_in_use step slots o).1
   in_use-below slots o = search rules

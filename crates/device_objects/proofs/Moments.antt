@@ -18,18 +18,6 @@ module _ (t : TimerSettings) (now : ℕ) (some : 1 ≤ t.interval) (Before : ℕ
   abbrev IsLater : TimerState → Type 0
   IsLater s = (due : ℕ) → s.due ≡ Some due → Before due ⊎ (now < due)
 
-  ran : (s : TimerState) → IsLater (timer.run t now s)
-  ran s due is = inr (let same : now + t.interval ≡ due = same_Some (now + t.interval) due is in omega (arith, some, same))
-
-  halted : (s : TimerState) → IsLater (timer.halt s)
-  halted s due is = absurd (none-some due is)
-
-  either : (test : Bool) (x y : TimerState × List ℕ) → IsLater x.0 → IsLater y.0 → IsLater (if test then x else y).0
-  either test x y one other = search rules
-
-  act-later : (act : Act) (s : TimerState) → IsLater s → IsLater (timer.act_step t act now s).0
-  act-later act s h = search rules
-
 -- ---- what a step arms
 
 -- whether parts of a device of these settings, in this state, can be due
@@ -51,9 +39,6 @@ pub arms-later : (settings : Settings) (call : Call) (now : ℕ) (world : World)
 arms-later settings call now world state limits k due is = search (rules, none-some, ball-arms_later, unarmed)
 
 -- ---- what is done when a device fires
-
-if_some : (o : Option ℕ) (P : ℕ → Type 0) → ((m : ℕ) → o ≡ Some m → P m) → IfSome o P
-if_some o P each = search rules
 
 -- a timer that has ticked is due later, if at all
 timer-fired : (t : TimerSettings) (now : ℕ) (s : TimerState) → 1 ≤ t.interval

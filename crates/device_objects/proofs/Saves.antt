@@ -12,7 +12,8 @@ use Rattle.device_objects.specs.declared.state.DeviceState.TheVariants as states
 use Rattle.device_objects.specs.BallSave.{enabled, disabled, saving, first_state, end_of, saved, act_step, save_step}
 use Rattle.device_objects.specs.Laws.{HasSaveShape, IsAnswer, IsDone, MayCome}
 use Rattle.device_objects.specs.Outcomes.{only_if, of_save, of_save_act}
-use Rattle.device_objects.proofs.Among.{In, here, there, at_last, at_left, if_holds, by, either, none, one, all_if, if_true, two}
+use Rattle.device_objects.proofs.Among.{In, here, there, at_last, at_left, if_holds, by, either, one, all_if, if_true, two}
+use Rattle.std.proofs.lemmas.List.Elements.{All-nil}
 
 -- the state of a ball save that is active no more
 abbrev shut : SaveState → SaveState
@@ -29,16 +30,9 @@ with_fewer s = record s { left = s.left - 1 }
 -- ---- states keep their shape
 
 module _ (b : SaveSettings) where
-  -- an answer that is one of two
-  one_of : (test : Bool) (x y : SaveState × List ℕ) → HasSaveShape b x.0 → HasSaveShape b y.0
-      → HasSaveShape b (if test then x else y).0
-  one_of test x y first second = search rules
 
   pub first_save-shape : HasSaveShape b first_state
   first_save-shape = record { left = omega arith; due = λ some. absurd (false≢true some) }
-
-  act-shape : (act : Act) (now : ℕ) (s : SaveState) → HasSaveShape b s → HasSaveShape b (act_step b act now s).0
-  act-shape act now s shape = search rules
 
   pub save_step-shape : (call : Call) (now : ℕ) (s : SaveState) → HasSaveShape b s → HasSaveShape b (save_step b call now s).0
   save_step-shape call now s shape = search rules
@@ -135,22 +129,7 @@ module _ (b : SaveSettings) where
 abbrev AreLists : List ℕ → Type 0
 AreLists lists = All (λ k. k < 3) lists
 
-no_list : AreLists []
-no_list = none (λ k. k < 3)
-
-one_list : (k : ℕ) → k < 3 → AreLists (k ∷ [])
-one_list k low = one (λ j. j < 3) k low
-
-two_lists : AreLists (saving ∷ disabled ∷ [])
-two_lists = All-cons (λ j. j < 3) saving (disabled ∷ []) (omega arith) (one_list disabled (omega arith))
-
 module _ (b : SaveSettings) where
-  one_answer : (test : Bool) (x y : SaveState × List ℕ) → AreLists x.1 → AreLists y.1
-      → AreLists (if test then x else y).1
-  one_answer test x y first second = search rules
-
-  act-lists : (act : Act) (now : ℕ) (s : SaveState) → AreLists (act_step b act now s).1
-  act-lists act now s = search rules
 
   pub save_step-lists : (call : Call) (now : ℕ) (s : SaveState) → AreLists (save_step b call now s).1
   save_step-lists call now s = search rules
@@ -162,17 +141,8 @@ module _ (b : SaveSettings) (now : ℕ) (Before : ℕ → Type 0) where
   abbrev IsLater : SaveState → Type 0
   IsLater s = (due : ℕ) → s.due ≡ Some due → Before due ⊎ (now < due)
 
-  not_due : (s : SaveState) → s.due ≡ None → IsLater s
-  not_due s never due is = absurd (none-some due (sym never ∙ is))
-
-  act-later : (act : Act) (s : SaveState) → IsLater s → IsLater (act_step b act now s).0
-  act-later act s h = search rules
-
-if_some : (o : Option ℕ) (P : ℕ → Type 0) → ((m : ℕ) → o ≡ Some m → P m) → IfSome o P
+pub if_some : (o : Option ℕ) (P : ℕ → Type 0) → ((m : ℕ) → o ≡ Some m → P m) → IfSome o P
 if_some o P each = search rules
-
-is_due : (o : Option ℕ) (m : ℕ) → o ≡ Some m → is_some o ≡ true
-is_due o m is = search rules
 
 -- one that was disabled at its end is due no more
 pub save-fired : (b : SaveSettings) (now : ℕ) (s : SaveState) → HasSaveShape b s

@@ -23,12 +23,6 @@ use Rattle.device_objects.proofs.BallShapes.{first_ball-shape, ball_step-shape}
 counter_step-length : (c : CounterSettings) (call : Call) (now : ℕ) (world : World) (slots : List CounterSlot) → length (counter.counter_step c call now world slots).0 ≡ length slots
 counter_step-length c call now world slots = search rules
 
--- each accrual slot keeps its 16 marks
-
--- a slot that is one of two
-either : (test : Bool) (x y : AccrualSlot × List ℕ) → HasMarks x.0 → HasMarks y.0 → HasMarks (if test then x else y).0
-either test x y first second = search rules
-
 slot_step-marks : (a : StepSettings) (act : Act) (slot : AccrualSlot) → HasMarks slot → HasMarks (accrual.slot_step a act slot).0
 slot_step-marks a act slot marks = search rules
 

@@ -27,8 +27,6 @@ step_in_use-all P step keeps slots (Some i) all = step_at-all P step keeps i slo
 
 -- what every slot answers, and what no slot answers where each player has one, is what the slots answer
 module _ {S : Type 0} (P : List ℕ → Type 0) (step : S → S × List ℕ) (each : (s : S) → P (step s).1) where
-  at_slot : (i : ℕ) (slots : List S) (slot : Option S) → P [] → P (step_at step i slots slot).1
-  at_slot i slots slot none = search rules
 
   of_player : (is_none : Bool) (slots : List S) (i : ℕ) → P [] → P (step_in_use step slots (if is_none then None else Some i)).1
   of_player is_none slots i none = search rules

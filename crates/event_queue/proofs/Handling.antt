@@ -9,7 +9,8 @@ use Rattle.plan_tables.proofs.BoundTo.{places_of-within, places_of-on}
 use Rattle.event_queue.{specs.{Handlers.runs_at, PlanOrder.by_priority}, proofs.{Put.length-put, Owned.has-event}}
 use Rattle.event_queue.specs.Inside.{put, IsOrdered, runs_before, IsOrderOf, HasOrders, also, without}
 use Rattle.event_queue.proofs.PlanOrder.{IsBelow, places_of-increase, filter-shorter, priority-length}
-use Rattle.event_queue.proofs.Joined.{filter-agree, also-other, without-other, without-itself, without-also, place-same, by_priority-in_order, joined}
+use Rattle.event_queue.proofs.Joined.{also-other, without-other, without-itself, without-also, place-same, by_priority-in_order, joined}
+use Rattle.yaml_bytes.proofs.Each.{filter-agree}
 
 abbrev event : ℕ → EventId
 event n = record { 0 = n }

@@ -18,15 +18,6 @@ row_of n = record { 0 = n }
 abbrev lower : ℕ → ℕ → ℕ → ℕ → Bool
 lower t r u s = nat_lt t u || ((t == u) && nat_lt r s)
 
-one_way : (t r u s : ℕ) → lower t r u s ≡ true → lower u s t r ≡ false
-one_way t r u s is = grind (arith, nat_tests)
-
-chain : (t r u s v q : ℕ) → lower t r u s ≡ false → lower u s v q ≡ false → lower t r v q ≡ false
-chain t r u s v q first then = grind (arith, nat_tests)
-
-same-moment : (t r u s : ℕ) → lower t r u s ≡ false → lower u s t r ≡ false → t ≡ u
-same-moment t r u s not neither = grind (arith, nat_tests)
-
 pub before-order : IsStrictWeakOrder comes_before
 before-order = search rules
 

@@ -7,18 +7,10 @@ use Rattle.plan_tables.specs.{declared.entries.BindingId.BindingId, PlanView.Pla
 use Rattle.event_queue.specs.{Handlers.priority_at, PlanOrder.{insert_place, by_priority}}
 use Rattle.event_queue.specs.Inside.{put, IsOrdered, runs_before, also, without}
 use Rattle.event_queue.proofs.{Put.{ordered-put, put_comm}, Sort.by_priority-permutes, PlanOrder.IsBelow}
+use Rattle.yaml_bytes.proofs.Each.{filter-agree}
+use Rattle.std.proofs.Math.Bool.{or-false}
 
 -- ---- tests that agree
-
-pub filter-agree : {X : Type 0} (p q : X → Bool) (xs : List X) → All (λ x. p x ≡ q x) xs → filter p xs ≡ filter q xs
-filter-agree p q [] agree = refl
-filter-agree p q (x ∷ xs) agree =
-    let first : p x ≡ q x = agree 0 x (omega arith) in
-    let rest = filter-agree p q xs (λ k d within. agree (suc k) d (omega arith)) in
-    λ i. cond (first i) (x ∷ rest i) (rest i)
-
-or-false : (b : Bool) → (b || false) ≡ b
-or-false b = search rules
 
 pub place-same : (p q : BindingId) → p.0 ≡ q.0 → p ≡ q
 place-same p q same = ap (λ n. record { 0 = n }) same

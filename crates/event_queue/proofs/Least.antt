@@ -3,6 +3,7 @@ use Rattle.std.proofs.Common.{rules, ◌≡◌, ℕ, suc, ◌+◌, ◌<◌, ◌�
 use Rattle.std.proofs.lemmas.{Bool.cases_lt, Option.none-some, List.get_or_past}
 use Rattle.plan_tables.specs.declared.devices.RowId.{RowId}
 use Rattle.event_queue.specs.Alarms.{due_of, first_of, alarm_of, least_from, least_of, IsLeast, AlarmsGiveTheLeast}
+use Rattle.yaml_bytes.proofs.Each.{none_of}
 
 -- ---- the least alarm among some
 
@@ -22,13 +23,8 @@ agree P R o to from p = search rules
 
 -- ---- of two alarms the one that comes first
 
-swap : (A B : Type 0) → A ⊎ B → B ⊎ A
-swap A B x1 = search rules
-
 -- all of `P` and of `Q` is in `R`, and nothing else
 module _ (P Q R : ℕ → ℕ → Type 0) (from_P : (r t : ℕ) → P r t → R r t) (from_Q : (r t : ℕ) → Q r t → R r t) (split : (r t : ℕ) → R r t → P r t ⊎ Q r t) where
-  chosen : (a b : ℕ × RowId) → IsLeastOf P a.0 a.1.0 → IsLeastOf Q b.0 b.1.0 → LeastAmong R (first_of (Some a) (Some b))
-  chosen a b p q = search rules
 
   first_of-least : (a b : Option (ℕ × RowId)) → LeastAmong P a → LeastAmong Q b → LeastAmong R (first_of a b)
   first_of-least a b p q = search rules
@@ -77,13 +73,10 @@ least-within dues o is = answer-within dues o (subst (LeastAmong (IsDue dues)) (
 
 -- ---- the law
 
-nothing_due : (o : Option ℕ) → ((t : ℕ) → o ≡ Some t → ⊥) → o ≡ None
-nothing_due o h = search rules
-
 none_due : (dues : List (Option ℕ)) → least_of dues ≡ None → (row : RowId) → due_of dues row ≡ None
 none_due dues is row =
     let none : (r t : ℕ) → IsDue dues r t → ⊥ = subst (LeastAmong (IsDue dues)) is (least_of-least dues) in
-    nothing_due (due_of dues row) (none row.0)
+    none_of (due_of dues row) (none row.0)
 
 is_least : (dues : List (Option ℕ)) (moment : ℕ) (row : RowId) → least_of dues ≡ Some (moment, row) → IsLeast dues moment row
 is_least dues moment row is =

@@ -1,6 +1,3 @@
 -- Where no mode runs, the handlers are the machine's, whether the list has the modes or not.
 use Rattle.std.proofs.Common.{rules, ◌≡◌, ℕ, false, get_or, replicate}
 use Rattle.std.proofs.lemmas.{Bool.cases_lt, List.{get_or-replicate, get_or_past, length-replicate}}
-
-never : (n i : ℕ) → get_or (replicate n false) i false ≡ false
-never n i = search (rules, cases_lt, get_or-replicate, get_or_past, length-replicate)

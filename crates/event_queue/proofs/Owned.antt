@@ -11,6 +11,7 @@ use Rattle.plan_tables.specs.declared.entries.Owner.{Owner, TheVariants.{Machine
 use Rattle.plan_tables.specs.PlanView.{PlanView, binding_at, is_owner, places_of}
 use Rattle.event_queue.specs.{Handlers.{takes_part, runs_at}, Inside.{all_places, places_in, also, without}}
 use Rattle.event_queue.proofs.{Joined.{has, place-same}, PlanOrder.{IsBelow, all_places-increase}}
+use Rattle.std.proofs.Math.Bool.{or_assoc}
 
 abbrev place : ℕ → BindingId
 place n = record { 0 = n }
@@ -80,14 +81,8 @@ module _ (plan : PlanView) where
 part-own : (running : List Bool) (m : ModeId) (owner : Owner) → is_owner (Mode m) owner ≡ true → takes_part running owner ≡ get_or running m.0 false
 part-own running m owner is = search rules
 
-or-assoc : (a b c : Bool) → ((a || b) || c) ≡ (a || (b || c))
-or-assoc a b c = search rules
-
 and-not : (a b c : Bool) → ((a && not b) && not c) ≡ (a && not (b || c))
 and-not a b c = search rules
-
-or-none : (b : Bool) → b ≡ (b || false)
-or-none b = search rules
 
 module _ (plan : PlanView) (running : List Bool) (m : ModeId) where
   -- so many of the mode's bindings have joined what takes part, or left it
@@ -117,7 +112,7 @@ module _ (plan : PlanView) (running : List Bool) (m : ModeId) where
     one_more p = sym (list_any_more (λ q. q.0 == p.0) (places_in plan m) k d within)
 
     pub joining-more : (p : BindingId) → also (joining k) next p ≡ joining (k + 1) p
-    joining-more p = or-assoc (runs_at plan running p) (has (take k (places_in plan m)) p) (next.0 == p.0) ∙ ap (λ b. runs_at plan running p || b) (one_more p)
+    joining-more p = or_assoc (runs_at plan running p) (has (take k (places_in plan m)) p) (next.0 == p.0) ∙ ap (λ b. runs_at plan running p || b) (one_more p)
 
     pub leaving-more : (p : BindingId) → without (leaving k) next p ≡ leaving (k + 1) p
     leaving-more p = and-not (runs_at plan running p) (has (take k (places_in plan m)) p) (next.0 == p.0) ∙ ap (λ b. runs_at plan running p && not b) (one_more p)
@@ -147,8 +142,6 @@ pub record HasFirstOwned (plan : PlanView) (n : ℕ) (lists : List (Vec BindingI
   pub each : (m : ℕ) (d : Vec BindingId Global) → m < length plan.modes → (get_or lists m d).items ≡ filter (λ p. is_owner (Mode (record { 0 = m })) (binding_at plan p).owner) (map (λ k. record { 0 = k }) (range_with_len 0 n))
 
 module _ (plan : PlanView) where
-  pub owned-none : (lists : List (Vec BindingId Global)) → length lists ≡ length plan.modes → All (λ v. v.items ≡ []) lists → HasFirstOwned plan 0 lists
-  owned-none lists count empty = record { within = omega arith; count = count; each = λ m d within. empty m d (omega (arith, within, count)) }
 
   module _ (n : ℕ) (lists : List (Vec BindingId Global)) (has : HasFirstOwned plan n lists) (within : n < length plan.bindings) where
     one_more-in : (m : ModeId) (b : Bool) → is_owner (Mode m) (binding_at plan (place n)).owner ≡ b → filter (is_own plan m) (map place (range_with_len 0 (n + 1))) ≡ filter (is_own plan m) (map place (range_with_len 0 n)) ++ cond b (place n ∷ []) []

@@ -6,19 +6,16 @@ use Rattle.std.proofs.lemmas.List.{map-append, length_push, length-map, Folds.po
 use Rattle.plan_tables.proofs.Places.{position_or_len-map, position-or_len}
 use Rattle.plan_tables.specs.{declared.names.NameTable.NameTable, NamesKept.names_of}
 use Rattle.first_names.specs.FirstNames.{with_name, IsNameTableOf}
-
-list_any-map : {X Y : Type 0} (p : Y → Bool) (f : X → Y) (xs : List X) → list_any p (map f xs) ≡ list_any (λ x. p (f x)) xs
-list_any-map p f [] = refl
-list_any-map p f (x ∷ xs) = ap (λ b. p (f x) || b) (list_any-map p f xs)
+use Rattle.yaml_bytes.proofs.Each.{any_mapped}
 
 module _ (keys : List (Vec ℕ Global)) (name : List ℕ) where
   -- a name that is there stays where it is
   use_there : list_any (λ k. bytes_eq name k.items) keys ≡ true → with_name (names_of keys) name ≡ names_of keys
-  use_there e = ap (λ b. cond b (names_of keys) (names_of keys ++ name ∷ [])) (list_any-map (bytes_eq name) (λ v. v.items) keys ∙ e)
+  use_there e = ap (λ b. cond b (names_of keys) (names_of keys ++ name ∷ [])) (any_mapped (bytes_eq name) (λ v. v.items) keys ∙ e)
 
   -- a new one goes last
   use_new : list_any (λ k. bytes_eq name k.items) keys ≡ false → with_name (names_of keys) name ≡ names_of keys ++ name ∷ []
-  use_new e = ap (λ b. cond b (names_of keys) (names_of keys ++ name ∷ [])) (list_any-map (bytes_eq name) (λ v. v.items) keys ∙ e)
+  use_new e = ap (λ b. cond b (names_of keys) (names_of keys ++ name ∷ [])) (any_mapped (bytes_eq name) (λ v. v.items) keys ∙ e)
 
   length-use_new : list_any (λ k. bytes_eq name k.items) keys ≡ false → length (with_name (names_of keys) name) ≡ length keys + 1
   length-use_new e = ap length (use_new e) ∙ length_push (names_of keys) name ∙ ap (λ n. n + 1) (length-map keys (λ v. v.items))
@@ -29,7 +26,7 @@ module _ (keys : List (Vec ℕ Global)) (name : List ℕ) where
   use_inserted v new same e =
       ap names_of e
       ∙ seen (list_any (λ k. bytes_eq v.items k.items) keys)
-      ∙ ap (λ b. cond b (names_of keys) (names_of keys ++ v.items ∷ [])) (sym (list_any-map (bytes_eq v.items) (λ k. k.items) keys))
+      ∙ ap (λ b. cond b (names_of keys) (names_of keys ++ v.items ∷ [])) (sym (any_mapped (bytes_eq v.items) (λ k. k.items) keys))
       ∙ ap (λ n. with_name (names_of keys) n) same
     where
       seen : (b : Bool) → names_of (cond b keys (keys ++ v ∷ [])) ≡ cond b (names_of keys) (names_of keys ++ v.items ∷ [])

@@ -9,14 +9,6 @@ use Rattle.written_machine.specs.Machine.{Machine, post, book, drain_if, after_e
 use Rattle.machine_core.specs.{Core.{CoreView, CanCall, HasRoom, after}, Goes.{AlwaysGoes, Tell}}
 use Rattle.machine_core.proofs.{Going.{goes-post, goes-after_entry}, Listing.grown, Room.room-before}
 
-module _ (plan : PlanView) (tell : Telling → Machine → Machine) (owner : Owner) (r : RowId) (drain : Bool) where
-  -- where it was on its way, the device that ejected it is told, and else it may have drained
-  rest-awaited : (o : Origin) (s : Machine) → is_awaited o ≡ true → after_entry plan tell owner r drain o s ≡ tell (Arrived (Device r)) s
-  rest-awaited x1 s h = search rules
-
-  rest-other : (o : Origin) (s : Machine) → is_awaited o ≡ false → after_entry plan tell owner r drain o s ≡ drain_if plan owner drain s
-  rest-other x1 s h = search rules
-
 module _ (tell : Tell) (goes : AlwaysGoes tell) (owner : Owner) (r : RowId) (drain : Bool) (e : EventId) (old : CoreView) (room : HasRoom old.room (enter_ball old.plan (tell old.plan) owner r e drain old.machine)) where
   abbrev told : Machine
   told = book owner (calls_of_ledger.Enter r) old.machine

@@ -47,9 +47,6 @@ module _ (plan : PlanView) where
   goes-told owner player v e None players s = record { lines = omega arith; waiting = omega arith; modes = refl; moment = refl; coils = refl; devices = λ h. h }
   goes-told owner player v e (Some value) players s = search (rules, told-grows)
 
-  goes-game : (game : GameState) (s : Machine) → Goes plan s (set_game game s)
-  goes-game game s = record { lines = omega arith; waiting = omega arith; modes = refl; moment = refl; coils = refl; devices = λ h. h }
-
   -- a device is called, and goes on to its next state
   pub goes-turn : (call : Call) (r : RowId) (s : Machine) → Goes plan s (set_device r (called plan call r s).0 s)
   goes-turn call r s =
@@ -84,9 +81,6 @@ module _ (plan : PlanView) where
         goes-then s posted (enter_ball plan tell owner r e drain s)
         (goes-then s told posted (goes-book owner (calls_of_ledger.Enter r) s) (goes-post owner e told))
         (goes-after_entry owner r drain (origin_of r s.ledger) posted)
-
-    goes-want : (n : ℕ) (s : Machine) → Goes plan s (want_balls tell n s)
-    goes-want x1 s = search rules
 
     goes-add : (n : ℕ) (s : Machine) → Goes plan s (add_balls tell n s)
     goes-add n s = search rules

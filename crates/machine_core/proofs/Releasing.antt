@@ -16,17 +16,11 @@ use Rattle.written_machine.specs.declared.line.Happening.TheVariants as lines
 use Rattle.written_machine.specs.Machine.{Machine, write, set_coils, all_do, ask_coil, call_devices, release_coil, release_coils}
 use Rattle.written_machine.{specs.EventStep.do_after, proofs.{Parts.does-calls, Growth.{asked-grows, all_do-grows}}}
 use Rattle.machine_core.{specs.Core.{CoreView, CanCall, HasRoom, after}, proofs.{Callable.can-does, Room.Grows}}
+use Rattle.written_machine.proofs.Held.{held-on}
 
 all_do-append : {X : Type 0} (f : X → Machine → Machine) (xs ys : List X) (s : Machine) → all_do f (xs ++ ys) s ≡ all_do f ys (all_do f xs s)
 all_do-append f [] ys s = refl
 all_do-append f (x ∷ xs) ys s = all_do-append f xs ys (f x s)
-
--- a coil that is held is on
-held-on : (owner : Owner) (now : ℕ) (x : CoilState) → is_held_by owner x ≡ true → is_on_at now x ≡ true
-held-on owner now x is = or_right (nat_lt now x.pulse_end) (is_some x.holder) (by x.holder is)
-  where
-    by : (holder : Option Owner) → is_holder owner holder ≡ true → is_some holder ≡ true
-    by x1 h = search rules
 
 module _ (plan : PlanView) (owner : Owner) where
   -- ---- coils that it does not hold stay

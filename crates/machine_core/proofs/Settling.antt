@@ -8,10 +8,6 @@ use Rattle.written_machine.specs.PlanOrder.{plan_step_from, plan_step, plan_step
 use Rattle.written_machine.proofs.{Growth.event-grows, PlanSteps.plan_steps-more}
 use Rattle.machine_core.specs.Core.{CoreView, CanCall, HasHandlers, HasRoom, StaysWithin, after, follow, after_taken}
 
--- whether a stop was kept is the same before and after the event is taken
-kept-same : (w : Work) (first : Posted) (rest : List Posted) (s : Machine) → is_kept w (taken first rest s) ≡ is_kept w s
-kept-same x1 first rest s = search rules
-
 -- an event that is taken, and what is done then, is an event step
 taken-step : (plan : PlanView) (first : Posted) (rest : List Posted) (s : Machine) → after_taken plan first.event (taken first rest s) ≡ plan_step_from plan (first ∷ rest) s
 taken-step plan first rest s = search rules

@@ -7,9 +7,6 @@ use Rattle.device_objects.specs.{declared.state.DeviceState.DeviceState, DeviceS
 use Rattle.event_queue.{specs.Alarms.least_of, proofs.Least.alarms_give_the_least}
 use Rattle.written_machine.{specs.Machine.{Machine, device_at, first_away, is_device_away}, proofs.NextAlarms.dues-at}
 
-and-false : (b : Bool) → false ≡ (b && false)
-and-false x1 = search rules
-
 pub away-due : (s : DeviceState) → is_device_away s ≡ (is_some (due_of s) && is_device_away s)
 away-due x1 = search rules
 

@@ -5,12 +5,9 @@ use Rattle.std.specs.HashMap as maps
 use Rattle.std.specs.HashSet as sets
 use Rattle.std.proofs.lemmas.{List.at_drop_more, Bool.Decides.same_from_decides, Slice.Eq.bytes_eq-Decides}
 use Rattle.machine_definitions.specs.Found.{has_bytes, is_found}
+use Rattle.yaml_subset.proofs.KeySets.{turned}
 
 -- ---- keys by their bytes
-
--- the test is the same from either side
-turned_test : (q k : List ℕ) → bytes_eq k q ≡ bytes_eq q k
-turned_test q k = let d = bytes_eq-Decides q k in same_from_decides (bytes_eq k q) (bytes_eq q k) (bytes_eq-Decides k q) (λ e. sym (d.0 e), λ p. d.1 (sym p))
 
 abbrev same_bytes : Bor (List ℕ) → Bor (List ℕ) → Bool
 same_bytes x y = bytes_eq x.now y.now
@@ -31,7 +28,7 @@ module _ {V X S : Type 0} (view : V → X) where
   pub took-value : (old new : HashMap (Bor (List ℕ)) V S) (k : Bor (List ℕ)) (v : V) (key : List ℕ) → k.now ≡ key → maps.Updates same_bytes old new k (Some v)
       → (name : List ℕ) → by_name new name ≡ (if bytes_eq name key then Some (view v) else by_name old name)
   took-value old new k v key is updates name =
-      ap (option_map view) (updates.0 (asked k name) ∙ ap (λ (b : Bool). cond b (Some v) (lookup (has_bytes name) old.entries)) (turned_test name k.now ∙ ap (bytes_eq name) is))
+      ap (option_map view) (updates.0 (asked k name) ∙ ap (λ (b : Bool). cond b (Some v) (lookup (has_bytes name) old.entries)) (turned name k.now ∙ ap (bytes_eq name) is))
       ∙ seen (bytes_eq name key) (lookup (has_bytes name) old.entries)
     where
       seen : (b : Bool) (o : Option V) → option_map view (cond b (Some v) o) ≡ cond b (Some (view v)) (option_map view o)
@@ -46,7 +43,7 @@ name-found names name = refl
 pub took-name : {S : Type 0} (old new : HashSet (Bor (List ℕ)) S) (k : Bor (List ℕ)) → sets.Updates same_bytes old new k true → (name : List ℕ) → is_found new name ≡ (is_found old name || bytes_eq name k.now)
 took-name old new k updates name =
     updates.0 (asked k name)
-    ∙ (λ i. cond (turned_test name k.now i) true (is_found old name))
+    ∙ (λ i. cond (turned name k.now i) true (is_found old name))
     ∙ seen (bytes_eq name k.now) (is_found old name)
   where
     seen : (b o : Bool) → cond b true o ≡ (o || b)
@@ -54,11 +51,6 @@ took-name old new k updates name =
     seen true false = refl
     seen false true = refl
     seen false false = refl
-
--- one of the items, or of the others
-pub or_more : (o b rest : Bool) → ((o || b) || rest) ≡ (o || (b || rest))
-or_more true b rest = refl
-or_more false b rest = refl
 
 -- ---- what is left of a list
 

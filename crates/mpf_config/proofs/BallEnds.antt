@@ -2,14 +2,13 @@
 use Rattle.std.proofs.Common.{rules, ◌≡◌, ◌≢◌, ℕ, Bool, true, false, not, ◌&&◌, ◌||◌, List, [], ◌∷◌, length, ◌==◌, refl, arith}
 use Rattle.std.specs.{List.{All, list_all}, Str.bytes_eq}
 use Rattle.std.proofs.lemmas.{Bool.ne_eqb, List.Elements.{All-nil, All-cons, All-head, All-tail}}
-use Rattle.section_tables.proofs.Steps.{word_is, is_word}
 use Rattle.mpf_sections.specs.{Rows.{Handled, Content, ModeSettings}, Typed.{ball_ending, starts_at_ball_end}}
 use Rattle.mpf_config.specs.{RowsOf.{StartsAtBallEnd, KeepsToBallEnd}, Reading.keeps_to_ball_end}
+use Rattle.yaml_bytes.proofs.Words.{word_is}
+use Rattle.yaml_bytes.proofs.Words.{is_word}
+use Rattle.std.proofs.lemmas.Bool.{and_parts}
 
 -- ---- tests
-
-both : (a b : Bool) → a && b ≡ true → (a ≡ true) × (b ≡ true)
-both a b e = search rules
 
 implied : (a b : Bool) → not a || b ≡ true → a ≡ true → b ≡ true
 implied a b e is = search rules
@@ -32,7 +31,7 @@ some_complete (h ∷ hs) some = ne_eqb (length (h ∷ hs)) 0 (λ e. omega arith)
 all_sound : (hs : List Handled) → list_all is_ball_ending hs ≡ true → All IsBallEnding hs
 all_sound [] e = All-nil IsBallEnding
 all_sound (h ∷ hs) e =
-    let a = both (is_ball_ending h) (list_all is_ball_ending hs) e in
+    let a = and_parts (is_ball_ending h) (list_all is_ball_ending hs) e in
     All-cons IsBallEnding h hs (word_is h.event.name ball_ending a.0) (all_sound hs a.1)
 
 all_complete : (hs : List Handled) → All IsBallEnding hs → list_all is_ball_ending hs ≡ true
@@ -41,7 +40,7 @@ all_complete (h ∷ hs) all = search (rules, is_word, All-head, All-tail, all_co
 
 starts_sound : (s : ModeSettings) → starts_at_ball_end s ≡ true → StartsAtBallEnd s
 unfolding starts_at_ball_end
-starts_sound s e = search (rules, both, all_sound)
+starts_sound s e = search (rules, and_parts, all_sound)
 
 starts_complete : (s : ModeSettings) → StartsAtBallEnd s → starts_at_ball_end s ≡ true
 unfolding starts_at_ball_end

@@ -6,20 +6,16 @@ use Rattle.yaml_bytes.specs.Scanning.{behind_blanks, trimmed}
 use Rattle.yaml_bytes.proofs.PlainTexts.{trimmed_parts, trimmed_ends, trimmed_is, is_behind_blanks, no_blanks, in_front}
 use Rattle.mpf_config.specs.BundleText.{Text, first_line, behind_first_line, name_in, pieces_of, line_ends, numbered}
 use Rattle.mpf_config.specs.RowsOf.{IsFirstLine, IsBare, IsPiece, EndsLine, AreTexts}
-use Rattle.section_tables.{specs.Reading.{◌>>=◌, each_read}, proofs.Steps.{bind_ok, ok_is}}
+use Rattle.section_tables.specs.Reading.{◌>>=◌, each_read}
 use Rattle.mpf_config.{specs.Reading.{text_from, text_at, texts_at}, proofs.FirstLines.{splitting, begins_is}}
 use Rattle.mpf_config.proofs.Pieces.{piece_sound, none_is_empty, BeginsAt, piece_complete}
+use Rattle.yaml_bytes.proofs.Steps.{bind_ok}
+use Rattle.yaml_bytes.proofs.Steps.{ok_is}
 
 -- ---- the name
 
 abbrev named : List ℕ → Option (List ℕ)
 named name = Some name
-
-some_is : (x y : List ℕ) → named x ≡ named y → x ≡ y
-some_is x y e = cc
-
-no_name : (name : List ℕ) → None ≡ named name → ⊥
-no_name name e = cc
 
 -- a line `@ NAME`
 record Named (line name : List ℕ) : Type 0 where

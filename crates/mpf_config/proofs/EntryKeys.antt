@@ -3,10 +3,17 @@ use Rattle.std.proofs.Common.{◌≡◌, ◌≢◌, ℕ, suc, zero, List, [], �
 use Rattle.std.specs.List.{Contains, flat_map}
 use Rattle.yaml_subset.specs.Keys.{is_among}
 use Rattle.config_faults.specs.{declared.fault.FaultKind.TheVariants.Duplicate, Faults.rows_fault_at}
-use Rattle.section_tables.proofs.Steps.{guard_false}
 use Rattle.mpf_config.specs.Apart.{EntryName, Differ, AreDistinct, joined, entry_key, entry_keys}
 use Rattle.mpf_config.specs.{ModeReads.ModeRead, Reading.{entries_new_at, taken_by}}
-use Rattle.mpf_config.proofs.NewNames.{here, there, nothing_in, fresh_sound, fresh_complete}
+use Rattle.mpf_config.proofs.NewNames.{nothing_in}
+use Rattle.yaml_bytes.proofs.Steps.{guard_false}
+use Rattle.std.proofs.lemmas.List.Elements.{Contains-append_cases}
+use Rattle.std.proofs.lemmas.List.Elements.{Contains-append_left}
+use Rattle.std.proofs.lemmas.List.Elements.{Contains-append_right}
+use Rattle.yaml_bytes.proofs.Each.{here}
+use Rattle.yaml_bytes.proofs.Each.{there}
+use Rattle.yaml_subset.proofs.KeySets.{fresh_sound}
+use Rattle.yaml_subset.proofs.KeySets.{fresh_complete}
 
 -- ---- keys
 
@@ -37,37 +44,19 @@ differ_by e f other section name = other (λ i. joined (section i) (name i))
 
 -- ---- what lists contain
 
-pub in_append : {A : Type 0} (xs ys : List A) (z : A) → Contains (xs ++ ys) z → Contains xs z ⊎ Contains ys z
-in_append [] ys z c = inr c
-in_append (x ∷ xs) ys z (zero, lt, at) = inl (zero, omega arith, at)
-in_append (x ∷ xs) ys z (suc k, lt, at) =
-    elim (in_append xs ys z (k, omega (arith, lt), at)) [
-      | inl c ↦ inl (there x z xs c)
-      | inr c ↦ inr c
-    ]
-
-pub in_front : {A : Type 0} (xs ys : List A) (z : A) → Contains xs z → Contains (xs ++ ys) z
-in_front [] ys z c = absurd (nothing_in z c)
-in_front (x ∷ xs) ys z (zero, lt, at) = (zero, omega arith, at)
-in_front (x ∷ xs) ys z (suc k, lt, at) = there x z (xs ++ ys) (in_front xs ys z (k, omega (arith, lt), at))
-
-pub in_behind : {A : Type 0} (xs ys : List A) (z : A) → Contains ys z → Contains (xs ++ ys) z
-in_behind [] ys z c = c
-in_behind (x ∷ xs) ys z c = there x z (xs ++ ys) (in_behind xs ys z c)
-
 module _ {A B : Type 0} (f : A → List B) where
   in_one : (xs : List A) (z : B) → Contains (flat_map f xs) z → (x : A) × Contains xs x × Contains (f x) z
   in_one [] z c = absurd (nothing_in z c)
   in_one (x ∷ xs) z c =
-      elim (in_append (f x) (flat_map f xs) z c) [
+      elim (Contains-append_cases (f x) (flat_map f xs) z c) [
         | inl h ↦ (x, here x xs, h)
         | inr h ↦ (let a = in_one xs z h in (a.0, there x a.0 xs a.1, a.2))
       ]
 
   in_all : (xs : List A) (x : A) (z : B) → Contains xs x → Contains (f x) z → Contains (flat_map f xs) z
   in_all [] x z c h = absurd (nothing_in x c)
-  in_all (y ∷ xs) x z (zero, lt, at) h = in_front (f y) (flat_map f xs) z (subst (λ w. Contains (f w) z) (sym at) h)
-  in_all (y ∷ xs) x z (suc k, lt, at) h = in_behind (f y) (flat_map f xs) z (in_all xs x z (k, omega (arith, lt), at) h)
+  in_all (y ∷ xs) x z (zero, lt, at) h = Contains-append_left (f y) (flat_map f xs) z (subst (λ w. Contains (f w) z) (sym at) h)
+  in_all (y ∷ xs) x z (suc k, lt, at) h = Contains-append_right (f y) (flat_map f xs) z (in_all xs x z (k, omega (arith, lt), at) h)
 
 pub in_mapped : {A B : Type 0} (f : A → B) (xs : List A) (y : B) → Contains (map f xs) y → (x : A) × Contains xs x × (f x ≡ y)
 in_mapped f [] y c = absurd (nothing_in y c)
@@ -83,17 +72,17 @@ keys_of m = entry_keys m.mode.sections
 pub taken_one : (machine : List (List ℕ)) (modes : List ModeRead) (k : List ℕ) → Contains (taken_by machine modes) k
     → Contains machine k ⊎ ((m : ModeRead) × Contains modes m × Contains (entry_keys m.mode.sections) k)
 taken_one machine modes k c =
-    elim (in_append machine (flat_map keys_of modes) k c) [
+    elim (Contains-append_cases machine (flat_map keys_of modes) k c) [
       | inl h ↦ inl h
       | inr h ↦ inr (in_one keys_of modes k h)
     ]
 
 pub by_machine : (machine : List (List ℕ)) (modes : List ModeRead) (k : List ℕ) → Contains machine k → Contains (taken_by machine modes) k
-by_machine machine modes k c = in_front machine (flat_map keys_of modes) k c
+by_machine machine modes k c = Contains-append_left machine (flat_map keys_of modes) k c
 
 pub by_mode : (machine : List (List ℕ)) (modes : List ModeRead) (m : ModeRead) (k : List ℕ) → Contains modes m → Contains (entry_keys m.mode.sections) k
     → Contains (taken_by machine modes) k
-by_mode machine modes m k c h = in_behind machine (flat_map keys_of modes) k (in_all keys_of modes m k c h)
+by_mode machine modes m k c h = Contains-append_right machine (flat_map keys_of modes) k (in_all keys_of modes m k c h)
 
 -- ---- entries of which each is new
 

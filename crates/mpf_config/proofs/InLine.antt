@@ -7,12 +7,6 @@ use Rattle.mpf_config.specs.Escaped.{is_control, escaped_byte, escaped}
 abbrev InLine : ℕ → Type 0
 InLine b = is_control b ≡ false
 
-shown : (b : ℕ) → 32 ≤ b → b ≢ 127 → InLine b
-shown b above other = or_from (ltb b 32) (eqb b 127) (le-ltb b 32 above) (ne_eqb b 127 other)
-
-below_by : (b : ℕ) → is_control b ≡ true → (small : Bool) → ltb b 32 ≡ small → (last : Bool) → eqb b 127 ≡ last → b < 128
-below_by b h small e last f = search rules
-
 byte_by : (b : ℕ) (control : Bool) → is_control b ≡ control → All InLine (escaped_byte b)
 byte_by b control e = search rules
 

@@ -1,11 +1,13 @@
 -- The names of modes that are read from a machine text are those that it lists.
 use Rattle.std.proofs.Common.{◌≡◌, ℕ, List, map, Ok, sym, inl, ap}
 use Rattle.mpf_tables.specs.declared.tables.TextKind.TheVariants.{Machine}
-use Rattle.section_tables.{specs.Reading.IsReadOr, proofs.{Steps.{bind_ok, ok_is}, Outcomes.then_or}}
+use Rattle.section_tables.{specs.Reading.IsReadOr, proofs.Outcomes.then_or}
 use Rattle.mpf_config.specs.{BundleText.machine_name, Reading.{TextRows, text_rows_at, mode_names_at}}
 use Rattle.mpf_sections.specs.{Rows.SectionRows, Typed.listed_modes}
 use Rattle.mpf_config.specs.RowsOf.{Sizes, within_limits, AreModesOf, IsTextOver}
 use Rattle.mpf_config.proofs.TextRows.{text_rows_sound, text_rows_or}
+use Rattle.yaml_bytes.proofs.Steps.{bind_ok}
+use Rattle.yaml_bytes.proofs.Steps.{ok_is}
 
 abbrev names_from : List SectionRows → List (List ℕ)
 names_from rows = map (λ w. w.text) (listed_modes rows)

@@ -8,16 +8,23 @@ use Rattle.yaml_subset.specs.Keys.{is_among}
 use Rattle.config_faults.specs.{declared.fault.FaultKind.TheVariants.Duplicate, Faults.{RowsFault, rows_fault_at}}
 use Rattle.mpf_tables.specs.declared.tables.TextKind.TheVariants.{Mode}
 use Rattle.section_tables.specs.{Tables.{behind_one, found_in}, Reading.{IsReadOr, ◌>>=◌}}
-use Rattle.section_tables.proofs.{Steps.{bind_ok, guard_false, ok_is}, Outcomes.{weaker, then_or}}
+use Rattle.section_tables.proofs.Outcomes.{weaker, then_or}
 use Rattle.mpf_sections.specs.Rows.{Written, SectionRows}
 use Rattle.mpf_config.specs.{BundleText.{Text, mode_text_name}, ModeReads.ModeRead, Apart.entry_keys}
 use Rattle.mpf_config.specs.Unread.{mode_text_of, has_text, present_of, mode_notes}
 use Rattle.mpf_config.specs.RowsOf.{Sizes, within_limits, AreNew, IsText, AreRowsOf, IsModeRead, IsTextOver}
 use Rattle.mpf_config.specs.Reading.{TextRows, line_spot, text_rows_at, mode_read_at, entries_new_at, new_mode_at, placed_at, modes_from, none_found, found_of, taken_by}
-use Rattle.mpf_config.proofs.NewNames.{here, there, nothing_in, not_again, all_other, fresh_sound, fresh_complete}
+use Rattle.mpf_config.proofs.NewNames.{nothing_in, not_again, all_other}
 use Rattle.mpf_config.proofs.{TextNames.{named, names_in, text_name}, EntryKeys.{new_sound, new_complete}}
 use Rattle.mpf_config.proofs.TextRows.{text_rows_sound, text_rows_or}
 use Rattle.mpf_config.proofs.EntriesApart.{AreModesApart, IsNewMode, mode_entries, none_apart, still_apart, is_fresh}
+use Rattle.yaml_bytes.proofs.Steps.{bind_ok}
+use Rattle.yaml_bytes.proofs.Steps.{guard_false}
+use Rattle.yaml_bytes.proofs.Steps.{ok_is}
+use Rattle.yaml_bytes.proofs.Each.{here}
+use Rattle.yaml_bytes.proofs.Each.{there}
+use Rattle.yaml_subset.proofs.KeySets.{fresh_sound}
+use Rattle.yaml_subset.proofs.KeySets.{fresh_complete}
 
 -- ---- what is taken from texts
 
@@ -257,9 +264,6 @@ first_or_later x1 os m x4 = search rules
 
 at_first : (o : Option ModeRead) (os : Found) (m : ModeRead) → o ≡ Some m → Contains (found_of (o ∷ os)) m
 at_first o os m is = subst (λ (x : Option ModeRead). Contains (found_of (x ∷ os)) m) (sym is) (here m (found_of os))
-
-some_is : (m n : ModeRead) → Some m ≡ Some n → m ≡ n
-some_is m n e = cc
 
 -- a mode that this text is
 abbrev IsOfText : Text → List (List ℕ) → ModeRead → Type 0

@@ -5,14 +5,11 @@ use Rattle.std.proofs.lemmas.{Bool.{cases_Bool, both_ways, Decides.Decides-by_or
 use Rattle.std.proofs.lemmas.List.{Elements.{All-nil, All-cons, Decides-contains}, Kept.AllPairs-cons}
 use Rattle.yaml_subset.specs.Keys.{is_among}
 use Rattle.mpf_config.specs.RowsOf.{AreNew}
+use Rattle.yaml_bytes.proofs.Each.{here}
+use Rattle.yaml_bytes.proofs.Each.{there}
+use Rattle.yaml_subset.proofs.KeySets.{among_decides}
 
 -- ---- lists that have an element
-
-pub here : {A : Type 0} (x : A) (xs : List A) → Contains (x ∷ xs) x
-here x xs = (0, omega arith, refl)
-
-pub there : {A : Type 0} (x y : A) (xs : List A) → Contains xs y → Contains (x ∷ xs) y
-there x y xs (k, lt, at) = (suc k, omega (arith, lt), at)
 
 pub nothing_in : {A : Type 0} (x : A) → Contains [] x → ⊥
 nothing_in x (k, lt, at) = absurd (omega (arith, lt))
@@ -21,19 +18,6 @@ pub contains_map : {A B : Type 0} (f : A → B) (xs : List A) (x : A) → Contai
 contains_map f [] x h = absurd (nothing_in x h)
 contains_map f (y ∷ xs) x (zero, lt, at) = subst (λ z. Contains (map f (y ∷ xs)) (f z)) at (here (f y) (map f xs))
 contains_map f (y ∷ xs) x (suc k, lt, at) = there (f y) (f x) (map f xs) (contains_map f xs x (k, omega (arith, lt), at))
-
--- ---- one name
-
-among_decides : (names : List (List ℕ)) (name : List ℕ) → Decides (is_among names name) (Contains names name)
-among_decides names name =
-    Decides-contains names name (is_among names name)
-    (Decides-by_or (λ k. bytes_eq k name) (λ k. k ≡ name) (λ ks. is_among ks name) (λ k. bytes_eq-Decides k name) refl (λ _ _. refl) names)
-
-pub fresh_sound : (names : List (List ℕ)) (name : List ℕ) → is_among names name ≡ false → Contains names name → ⊥
-fresh_sound names name e h = both_ways (is_among names name) e ((among_decides names name).1 h)
-
-pub fresh_complete : (names : List (List ℕ)) (name : List ℕ) → (Contains names name → ⊥) → is_among names name ≡ false
-fresh_complete names name h = search (rules, cases_Bool, among_decides)
 
 -- ---- all of them
 

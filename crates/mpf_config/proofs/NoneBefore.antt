@@ -3,13 +3,17 @@ use Rattle.std.proofs.Common.{rules, ◌≡◌, ℕ, suc, Bool, true, false, con
 use Rattle.std.specs.{List.flat_map, Str.bytes_eq, Option.option_map}
 use Rattle.std.proofs.lemmas.{Bool.both_ways, List.{append-nil, length-map}, Slice.Eq.bytes_eq-Decides}
 use Rattle.yaml_subset.specs.Keys.{is_among}
-use Rattle.section_tables.{specs.Tables.{behind_one, found_in}, proofs.Steps.{bind_ok, ok_is}}
+use Rattle.section_tables.specs.Tables.{behind_one, found_in}
 use Rattle.mpf_config.specs.declared.modes.ModeRead as modes
 use Rattle.mpf_config.specs.{declared.listed_mode.ListedMode.ListedMode, Apart.entry_keys, ModeReads.ModeRead}
 use Rattle.mpf_config.specs.{Rows.Written, BundleText.Text, Unread.mode_text_of}
 use Rattle.mpf_config.specs.Reading.{new_mode_at, placed_at, none_found, found_of, taken_by}
 use Rattle.mpf_config.specs.Inside.{modes_view, listed_view, mode_read_view, found_modes_view, mode_keys, placed_keys}
-use Rattle.mpf_config.proofs.TakenEntries.{among_append, or_behind}
+use Rattle.mpf_config.proofs.TakenEntries.{among_append}
+use Rattle.yaml_bytes.proofs.Steps.{bind_ok}
+use Rattle.yaml_bytes.proofs.Steps.{ok_is}
+use Rattle.yaml_subset.proofs.KeySets.{or_swap}
+use Rattle.std.proofs.lemmas.Bool.{or_parts}
 
 -- a mode was found only where the name of its text was among these
 abbrev pub NoneBefore : List (List ℕ) → List Written → List (Option ModeRead) → Type 0
@@ -44,9 +48,6 @@ Found = List (Option ModeRead)
 abbrev all_keys : Found → List (List ℕ)
 all_keys os = flat_map (λ (m : ModeRead). entry_keys m.mode.sections) (found_of os)
 
-right_of : (a b : Bool) → (a || b) ≡ false → b ≡ false
-right_of a b e = search rules
-
 behind_is : (o : Option (ℕ × Written)) (p : ℕ × Written) → behind_one o ≡ Some p → (r : ℕ × Written) × (o ≡ Some r) × ((suc r.0, r.1) ≡ p)
 behind_is o p e = search rules
 
@@ -56,7 +57,7 @@ Grows next found place = (q : List ℕ) → is_among (all_keys next) q ≡ (is_a
 
 module _ (names known : List (List ℕ)) (name : List ℕ) (k : (q : List ℕ) → is_among known q ≡ (bytes_eq name q || is_among names q)) (fresh : is_among names name ≡ false) where
   still_none : (q : List ℕ) → is_among known q ≡ false → is_among names q ≡ false
-  still_none q e = right_of (bytes_eq name q) (is_among names q) (sym (k q) ∙ e)
+  still_none q e = (or_parts (bytes_eq name q) (is_among names q) (sym (k q) ∙ e)).1
 
   same_before : (ws : List Written) (found : Found) → NoneBefore names ws found → NoneBefore known ws found
   same_before [] [] h = tt
@@ -74,7 +75,7 @@ module _ (names known : List (List ℕ)) (name : List ℕ) (k : (q : List ℕ) �
       → ((r : ℕ × Written) → found_in mode_text_of name ws ≡ Some r → IsAfter ws os m r)
       → NoneBefore names (w ∷ ws) (o ∷ os) → (b : Bool) → bytes_eq (mode_text_of w) name ≡ b
       → cond b (Some (0, w)) (behind_one (found_in mode_text_of name ws)) ≡ Some p → IsAfter (w ∷ ws) (o ∷ os) m p
-  after_by w ws o os m p so h x9 same e = search (rules, bytes_eq-Decides, both_ways, is_known, same_before, among_append, behind_is, still_none, or_behind)
+  after_by w ws o os m p so h x9 same e = search (rules, bytes_eq-Decides, both_ways, is_known, same_before, among_append, behind_is, still_none, or_swap)
 
   is_after : (ws : List Written) (found : Found) (m : ModeRead) → NoneBefore names ws found
       → (p : ℕ × Written) → found_in mode_text_of name ws ≡ Some p → IsAfter ws found m p
@@ -107,6 +108,6 @@ module _ (names known : List (List ℕ)) (name : List ℕ) (k : (q : List ℕ) �
       let n = (next_by t taken ws found next h (found_in mode_text_of name ws) refl e).1 q in
       let placed = is_among (placed_keys next (found_in mode_text_of name ws)) q in
       ap (λ (b : Bool). placed || b) (among_append machine (all_keys found) q)
-      ∙ or_behind placed (is_among machine q) (is_among (all_keys found) q)
+      ∙ or_swap placed (is_among machine q) (is_among (all_keys found) q)
       ∙ ap (λ (b : Bool). is_among machine q || b) (sym n)
       ∙ sym (among_append machine (all_keys next) q)

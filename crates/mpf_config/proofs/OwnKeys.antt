@@ -10,8 +10,12 @@ use Rattle.section_tables.specs.{Kinds.Setting, Entries.{or_none, pairs_below}, 
 use Rattle.mpf_sections.specs.Rows.{Entry, Content, entries, entry, SectionRows}
 use Rattle.mpf_config.specs.{Unread.{is_skipped, read_of}, RowsOf.{Sizes, AreNew, IsContent, IsSection, AreRowsOf}}
 use Rattle.mpf_config.specs.Apart.{EntryName, Differ, AreDistinct, named_entry, entries_named, entry_names}
-use Rattle.mpf_config.proofs.NewNames.{here, there, nothing_in, not_again, new_kept}
-use Rattle.mpf_config.proofs.EntryKeys.{in_append, in_front, in_behind}
+use Rattle.mpf_config.proofs.NewNames.{nothing_in, not_again, new_kept}
+use Rattle.std.proofs.lemmas.List.Elements.{Contains-append_cases}
+use Rattle.std.proofs.lemmas.List.Elements.{Contains-append_left}
+use Rattle.std.proofs.lemmas.List.Elements.{Contains-append_right}
+use Rattle.yaml_bytes.proofs.Each.{here}
+use Rattle.yaml_bytes.proofs.Each.{there}
 
 -- ---- the pairs of a node
 
@@ -53,7 +57,7 @@ one_more : (names : List (List ℕ)) (before : List Pair) (p : Pair) → ((k : L
 one_more names before p so k c = subst (λ (ks : List (List ℕ)). Contains ks k) (sym (map-append (λ (q : Pair). q.key) before (p ∷ []))) (either c)
   where
     either : Contains (p.key ∷ names) k → Contains (keys_of before ++ p.key ∷ []) k
-    either x1 = search (rules, in_behind, in_front)
+    either x1 = search (rules, Contains-append_right, Contains-append_left)
 
 flow_keys : (n : ℕ) (IsValue : List ℕ → Node → List ℕ → Type 0) (names : List (List ℕ)) (before ps : List Pair) (text rest : List ℕ)
     → ((k : List ℕ) → Contains names k → Contains (keys_of before) k) → ArePartsTo 125 (IsFlowPair n IsValue) before text ps rest → AreNew names (keys_of ps)
@@ -173,7 +177,7 @@ distinct_append (e ∷ es) fs one two apart = (first, distinct_append es fs one.
   where
     first : (f : EntryName) → Contains (es ++ fs) f → Differ e f
     first f c =
-        elim (in_append es fs f c) [
+        elim (Contains-append_cases es fs f c) [
           | inl own ↦ one.0 f own
           | inr other ↦ apart e f (here e es) other
         ]
@@ -190,7 +194,7 @@ module _ (sizes : Sizes) (kind : TextKind) where
   section_in [] (s ∷ ss) f h c = absurd h
   section_in (p ∷ ps) [] f h c = absurd h
   section_in (p ∷ ps) (s ∷ ss) f h c =
-      elim (in_append (entries_named s) (entry_names ss) f c) [
+      elim (Contains-append_cases (entries_named s) (entry_names ss) f c) [
         | inl own ↦ subst (Contains (keys_of (p ∷ ps))) (sym (named_by p s f h.0 own)) (here p.key (keys_of ps))
         | inr other ↦ there p.key f.section (keys_of ps) (section_in ps ss f h.1 other)
       ]

@@ -15,9 +15,6 @@ later b bs k h = search rules
 earlier : (b : ℕ) (bs : List ℕ) (k : ℕ) → OccursAt (b ∷ bs) line_at (suc k) → OccursAt bs line_at k
 earlier b bs k h = search rules
 
-here : (b c : ℕ) (cs : List ℕ) → b ≡ 10 → c ≡ 64 → OccursAt (b ∷ c ∷ cs) line_at 0
-here b c cs lf at = search rules
-
 -- after a byte the piece goes on, if `@` does not come at once after a line end
 goes_on : (b : ℕ) (bs : List ℕ) → ¬ (OccursAt (b ∷ bs) line_at 0) → piece_len false (b ∷ bs) ≡ suc (piece_len false bs)
 goes_on b [] not_here = refl

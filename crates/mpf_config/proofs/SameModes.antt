@@ -4,6 +4,7 @@ use Rattle.std.specs.Str.{bytes_eq}
 use Rattle.yaml_subset.specs.Keys.{is_among}
 use Rattle.config_faults.specs.Faults.{Spot}
 use Rattle.mpf_config.specs.{BundleText.machine_owner, Rows.Written, Reading.modes_new_at}
+use Rattle.std.proofs.lemmas.Bool.{not-true}
 
 -- which names were taken matters, and not in which order
 abbrev SameNames : List (List ℕ) → List (List ℕ) → Type 0
@@ -16,11 +17,8 @@ same_new : (spot : Spot) (names others : List (List ℕ)) (ws : List Written) �
 same_new spot names others [] h = refl
 same_new spot names others (w ∷ ws) h = rw (h w.text, same_new spot (w.text ∷ names) (w.text ∷ others) ws (same_step names others w.text h)) refl
 
-not_true : (b : Bool) → not b ≡ true → b ≡ false
-not_true b e = search rules
-
 -- a name that is neither the machine's nor taken
 pub takes_next : (spot : Spot) (names known : List (List ℕ)) (taken : Bool) (w : Written) (ws all : List Written) → all ≡ w ∷ ws → bytes_eq w.text machine_owner ≡ false
     → taken ≡ not (is_among names w.text) → taken ≡ true → ((q : List ℕ) → is_among known q ≡ (bytes_eq w.text q || is_among names q))
     → modes_new_at spot known ws ≡ modes_new_at spot names all
-takes_next spot names known taken w ws all e other fresh is k = search (rules, not_true, same_new)
+takes_next spot names known taken w ws all e other fresh is k = search (rules, not-true, same_new)

@@ -12,6 +12,7 @@ use Rattle.mpf_config.specs.{ModeReads.ModeRead, Unread.mode_text_of, Inside.{te
 use Rattle.mpf_config.specs.Apart.{AreDistinct, entry_names, entry_key, entry_keys}
 use Rattle.mpf_config.proofs.{NewNames.nothing_in, EntryKeys.new_complete, TakenEntries.{SameKeys, entries_same}}
 use Rattle.mpf_config.specs.Reading.{line_spot, new_mode_at, placed_at, modes_from, modes_in_texts, none_found, found_of, taken_by}
+use Rattle.std.proofs.lemmas.Bool.{not-true}
 
 -- which names were taken matters, and not in which order
 same_step : (names others : List (List ℕ)) (k : List ℕ) → SameKeys names others → SameKeys (k ∷ names) (k ∷ others)
@@ -45,9 +46,6 @@ module _ (ws : List Written) where
       (after t ts names others machine (λ next. same_from machine (t.name ∷ names) (t.name ∷ others) next ts step) (is_among others t.name)
       (placed_at t (taken_by machine (found_of found)) found (found_in mode_text_of t.name ws)))
 
-not_true : (b : Bool) → not b ≡ true → b ≡ false
-not_true b e = search rules
-
 module _ (ws : List Written) (machine taken names : List (List ℕ)) (found : Found) (all : List texts.Text) (i : ℕ) (nothing : texts.Text) (lt : i < length all) (fresh : Bool) where
   abbrev one : texts.Text
   one = get_or all i nothing
@@ -59,7 +57,7 @@ module _ (ws : List Written) (machine taken names : List (List ℕ)) (found : Fo
   cut = search (rules, add-one, drop-cons)
 
   pub is_fresh : fresh ≡ not (is_among names one.name.now) → fresh ≡ true → is_among names one.name.now ≡ false
-  is_fresh said is = not_true (is_among names one.name.now) (sym said ∙ is)
+  is_fresh said is = not-true (is_among names one.name.now) (sym said ∙ is)
 
   -- a text that is new, and was placed
   pub takes_next : (known : List (List ℕ)) (next : Found)

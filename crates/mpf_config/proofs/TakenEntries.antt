@@ -4,10 +4,12 @@ use Rattle.std.{specs.Str.bytes_eq, proofs.lemmas.List.map-append}
 use Rattle.yaml_subset.specs.Keys.{is_among}
 use Rattle.config_faults.specs.declared.fault.{FaultKind.TheVariants.Duplicate, ConfigFault.ConfigFault}
 use Rattle.config_faults.specs.Faults.{refused, rows_fault_at}
-use Rattle.section_tables.proofs.Steps.{guard_false}
 use Rattle.mpf_sections.specs.Rows.{SectionRows}
 use Rattle.mpf_config.specs.{Rows.RowsFault, Reading.entries_new_at, View.FailsRows}
 use Rattle.mpf_config.specs.Apart.{EntryName, joined, entries_named, entry_names, entry_key, entry_keys}
+use Rattle.yaml_bytes.proofs.Steps.{guard_false}
+use Rattle.std.proofs.Math.Bool.{or_assoc}
+use Rattle.std.proofs.lemmas.Bool.{not-true}
 
 -- which keys were taken matters, and not in which order
 abbrev pub SameKeys : List (List ℕ) → List (List ℕ) → Type 0
@@ -17,14 +19,8 @@ SameKeys keys others = (q : List ℕ) → is_among keys q ≡ is_among others q
 abbrev pub HasTaken : List (List ℕ) → List EntryName → List (List ℕ) → Type 0
 HasTaken known es keys = (q : List ℕ) → is_among known q ≡ (is_among (map entry_key es) q || is_among keys q)
 
-pub or_assoc : (a b c : Bool) → ((a || b) || c) ≡ (a || (b || c))
-or_assoc a b c = search rules
-
 pub or_turned : (a b c : Bool) → ((a || b) || c) ≡ (b || (a || c))
 or_turned a b c = search rules
-
-pub or_behind : (a b c : Bool) → (a || (b || c)) ≡ (b || (a || c))
-or_behind a b c = search rules
 
 pub among_append : (keys others : List (List ℕ)) (q : List ℕ) → is_among (keys ++ others) q ≡ (is_among keys q || is_among others q)
 among_append [] others q = refl
@@ -33,9 +29,6 @@ among_append (k ∷ keys) others q = search (rules, or_assoc, among_append keys 
 pub entries_same : (text : List ℕ) (keys others : List (List ℕ)) (es : List EntryName) → SameKeys keys others → entries_new_at text keys es ≡ entries_new_at text others es
 entries_same text keys others [] h = refl
 entries_same text keys others (e ∷ es) h = search (rules, entries_same text (entry_key e ∷ keys) (entry_key e ∷ others) es (λ q. ap (λ (b : Bool). bytes_eq (entry_key e) q || b) (h q)))
-
-not_true : (b : Bool) → not b ≡ true → b ≡ false
-not_true b e = search rules
 
 -- ---- one entry
 
@@ -55,7 +48,7 @@ pub takes_entry : (text : List ℕ) (keys known : List (List ℕ)) (fresh : Bool
     → fresh ≡ not (is_among keys (entry_key e)) → fresh ≡ true → ((q : List ℕ) → is_among known q ≡ (bytes_eq (entry_key e) q || is_among keys q))
     → entries_new_at text known es ≡ entries_new_at text keys all
 takes_entry text keys known fresh e es all is said new k =
-    let none : is_among keys (entry_key e) ≡ false = not_true (is_among keys (entry_key e)) (sym said ∙ new) in
+    let none : is_among keys (entry_key e) ≡ false = not-true (is_among keys (entry_key e)) (sym said ∙ new) in
     let whole : entries_new_at text keys all ≡ entries_new_at text (entry_key e ∷ keys) es = rw (is, none) refl in
     entries_same text known (entry_key e ∷ keys) es k ∙ sym whole
 

@@ -6,6 +6,7 @@ use Rattle.plan_tables.specs.declared.table.Table.{Table}
 use Rattle.plan_contributions.specs.{Effects.posts, Contributions.{Contribution, does}}
 use Rattle.mpf_plan.{specs.Uses.{Names, names_from, number_among}, proofs.Lacking.any_first}
 use Rattle.plan_contributions.specs.UsedNames.{used, uses, name_in_table}
+use Rattle.std.proofs.lemmas.Bool.{or_right}
 
 pub place_within : {X : Type 0} (p : X → Bool) (xs : List X) → list_any p xs ≡ true → position_or_len p xs < length xs
 place_within p [] e = absurd (true≢false (sym e))
@@ -16,16 +17,10 @@ place_within p (x ∷ xs) e = by (p x) (place_within p xs) e
 
 -- ---- a use is among the uses
 
-either : (a b : Bool) → b ≡ true → (a || b) ≡ true
-either x1 b is = search rules
-
-name_there : (t : Table) (n : List ℕ) → name_in_table t (Some (t, n)) ≡ n ∷ []
-name_there x1 n = search rules
-
 used_there : (t : Table) (n : List ℕ) (cs : List Contribution) (i : ℕ) (d : Contribution) → i < length cs → used (get_or cs i d) ≡ Some (t, n) → list_any (bytes_eq n) (uses t cs) ≡ true
 used_there t n [] i d within is = absurd (omega arith)
 used_there t n (c ∷ cs) zero d within is = search rules
-used_there t n (c ∷ cs) (suc i) d within is = search (rules, list_any-append, either, used_there t n cs i d (omega arith) is)
+used_there t n (c ∷ cs) (suc i) d within is = search (rules, list_any-append, or_right, used_there t n cs i d (omega arith) is)
 
 -- ---- the name of a contribution
 

@@ -10,10 +10,6 @@ use Rattle.row_contributions.specs.Contributions.{row_contributions, given_by}
 use Rattle.plan_rows.specs.View.{row_view, row_list_view}
 use Rattle.mpf_plan.proofs.Taken.{contributions_more, rows_more}
 
--- what a call's clause says, said otherwise
-pub on_ok : {T E P Q : Type 0} (r : Result T E) → (P → Q) → OnOk r P → OnOk r Q
-on_ok x1 f p = search rules
-
 -- ---- contributions
 
 -- one more, after others

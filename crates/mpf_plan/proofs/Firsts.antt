@@ -13,9 +13,6 @@ filter_filter {X} p q r same (x ∷ xs) = by (p x) (same x) (filter_filter p q r
     by : (a : Bool) → r x ≡ (a && q x) → filter q (filter p xs) ≡ filter r xs → filter q (cond a (x ∷ filter p xs) (filter p xs)) ≡ cond (r x) (x ∷ filter r xs) (filter r xs)
     by x1 e rest = search rules
 
-same_bytes : (xs ys : List ℕ) → bytes_eq xs ys ≡ true → xs ≡ ys
-same_bytes xs ys e = (bytes_eq-Decides xs ys).0 e
-
 neither : (a b : Bool) → not (a || (b || false)) ≡ (not b && not a)
 neither x1 x2 = search rules
 

@@ -14,14 +14,6 @@ game_name which = get_or game_event_names (order_of which) []
 pub order_within : (which : GameEvent) → order_of which < length game_event_names
 order_within x1 = search rules
 
-event_at : (which : GameEvent) → slice_get game_events (order_of which) ≡ Some which
-event_at SwStart = refl
-event_at _ = refl
-
-name_at : (which : GameEvent) → position (bytes_eq (game_name which)) game_event_names ≡ Some (order_of which)
-name_at SwStart = refl
-name_at _ = refl
-
 pub same_game : (which other : GameEvent) → game_name which ≡ game_name other → which ≡ other
 same_game which other same = search rules
 

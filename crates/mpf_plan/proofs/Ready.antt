@@ -141,12 +141,6 @@ IsPlainDevice (Some d) = ArePlain d.lists
 when : (b : Bool) (o p : Option Device) → IsPlainDevice o → IsPlainDevice p → IsPlainDevice (if b then o else p)
 when x1 o p h k = search rules
 
-of_save : (name : List ℕ) → ArePlain (save_lists name)
-of_save name = search rules
-
-of_multiball : (name : List ℕ) (balls : ℕ) → ArePlain (multiball_lists name balls)
-of_multiball name balls = search rules
-
 plain_save : (section : List ℕ) (e : Entry) → IsPlainDevice (save_device_of section e)
 unfolding save_device_of
 plain_save section e = search rules
@@ -154,13 +148,6 @@ plain_save section e = search rules
 plain_device : (section : List ℕ) (e : Entry) → IsPlainDevice (device_of section e)
 unfolding device_of
 plain_device section e = search (rules, of_block, when, of_timer, plain_save)
-
-plain_off : (machine : List SectionRows) (main : Written) (hold : Option Written) → All IsPlainEffect (flipper_off machine main hold)
-plain_off machine main None = by _
-  where
-    by : (b : Bool) → All IsPlainEffect (if b then works main.text disable ∷ [] else [])
-    by x1 = search rules
-plain_off machine main (Some hold) = one_effect (works _ _) tt
 
 plain_machine_device : (machine : List SectionRows) (section : List ℕ) (e : Entry) → IsPlainDevice (machine_device machine section e)
 plain_machine_device machine section e =
@@ -264,15 +251,12 @@ mentioned_uses : (ns : List (List ℕ)) → uses Events (map (mentions Events) n
 mentioned_uses [] = refl
 mentioned_uses (n ∷ ns) = ap (λ l. n ∷ l) (mentioned_uses ns)
 
-same_bytes : (n : List ℕ) → bytes_eq n n ≡ true
-same_bytes n = (bytes_eq-Decides n n).1 refl
-
 -- names are used where they are mentioned
 all_used : (ns : List (List ℕ)) (rest : List Contribution) → All (IsUsed (map (mentions Events) ns ++ rest)) ns
 all_used ns rest =
     All-from_get_or (IsUsed (map (mentions Events) ns ++ rest)) ns [] (λ i inside.
     let n = get_or ns i [] in
-    used_left (map (mentions Events) ns) rest n (ap (list_any (bytes_eq n)) (mentioned_uses ns) ∙ list_any_at (bytes_eq n) ns i [] inside (same_bytes n)))
+    used_left (map (mentions Events) ns) rest n (ap (list_any (bytes_eq n)) (mentioned_uses ns) ∙ list_any_at (bytes_eq n) ns i [] inside ((bytes_eq-Decides n n).1 refl)))
 
 ready_game : (machine : List SectionRows) (e : Entry) → AreReady (game_contributions machine (game_of e))
 unfolding game_contributions

@@ -147,10 +147,6 @@ IsOwnNext final plan _ = Unit {0}
 owner_within : (plan : PlanView) (n : ℕ) (place : Place) → n ≤ length plan.modes → IsOpenPlace n place → IsOwnerWithin plan (owner_at (last_mode plan) place)
 owner_within plan n x3 few opened = search rules
 
-module _ (count : ℕ) (m : PlanMode) (e : EventId) (known : e.0 < count) (within : IsModeWithin count m) where
-  event_set : (which : ModeEvent) → IsModeWithin count (with_event_in which e m)
-  event_set x1 = search rules
-
 module _ (names : Names) (final : List DeviceRow) (d : DraftView) (sound : IsSound names final d.plan) where
   event_within : (n : List ℕ) → number_among (names Events) n < length (names Events) → number_among (names Events) n < length d.plan.events
   event_within n known = subst (λ es. number_among (names Events) n < length es) (sym sound.events) known

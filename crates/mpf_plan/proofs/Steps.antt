@@ -8,6 +8,7 @@ use Rattle.plan_tables.specs.PlanView.{PlanSwitch, no_switch, no_coil, PlanMode,
 use Rattle.mpf_plan.specs.Filling.{with_one_more, last_with, conditioned, last_conditioned, limited_to, named_switch, named_coil}
 use Rattle.mpf_plan.specs.Inside.{limited_coils}
 use Rattle.plan_tables.specs.Inside.{mode_entry_view, switch_entry_view, switches_view, coils_view, action_lists}
+use Rattle.std.proofs.lemmas.List.{get_or_default}
 
 -- an item changed in its place, as it is seen
 shown_at : {X Y : Type 0} (shown : X → Y) (f : Y → Y) (xs : List X) (i : ℕ) (old new : X) (d : Y) → i < length xs → old ≡ get_or xs i old → shown new ≡ f (shown old)
@@ -52,15 +53,9 @@ pub last_mode_changed : (change : PlanMode → PlanMode) (modes : List ModeEntry
     ≡ set (map mode_entry_view modes) (length (map mode_entry_view modes) - 1) (change (get_or (map mode_entry_view modes) (length (map mode_entry_view modes) - 1) no_mode))
 last_mode_changed change modes n old new count some is changed = search (rules, shown_at, get_or, length-map)
 
--- within a list the default does not matter
-pub same_default : {X : Type 0} (xs : List X) (n : ℕ) (d e : X) → n < length xs → get_or xs n d ≡ get_or xs n e
-same_default [] n d e within = absurd (omega arith)
-same_default (x ∷ xs) zero d e within = refl
-same_default (x ∷ xs) (suc n) d e within = same_default xs n d e (omega arith)
-
 -- the binding that came last has this condition
 pub binding_conditioned : (c : Condition) (bs : List Binding) (n : ℕ) (old : Binding) → n ≡ length bs → 0 < n → old ≡ get_or bs (n - 1) old → set bs (n - 1) (conditioned c old) ≡ last_conditioned c bs
-binding_conditioned c bs n old count some is = search (rules, same_default, get_or)
+binding_conditioned c bs n old count some is = search (rules, get_or_default, get_or)
 
 -- ---- switches
 

@@ -208,10 +208,6 @@ module _ (names : Names) (k : ℕ) (within : k < length (names Switches)) (own :
         changed d known.switches (number_among (names Switches) m) (heard_by (next_listener d.plan i)) (bytes_eq n m) (at_own m (bytes_eq n m) refl) ∙ heard_next i (bytes_eq n m)
     switch_next _ = known.switch ∙ called_same before
 
-    -- its entry
-    past_end : k ≢ length d.defined
-    past_end same = omega (arith, same, within, known.marks)
-
     entered : (j : ℕ) (b h : Bool) → (k == j) ≡ b → get_or d.defined k true ≡ h
         → ((k == (with_switch j d).last) ≡ (b && not h)) × (get_or (with_switch j d).defined k true ≡ (h || (b || false)))
     entered j x2 h at has_it = search rules

@@ -5,10 +5,11 @@ use Rattle.mpf_sections.specs.{Rows.SectionRows, Typed.entries_of, Named.{IsName
 use Rattle.mpf_sections.specs.TypedBalls.{ball_devices_name, ball_device_of, ball_devices_in}
 use Rattle.mpf_sections.specs.Short.{IsShortBallDevice, IsShortSection}
 use Rattle.mpf_tables.proofs.TableNames.{playfield_named}
-use Rattle.mpf_sections.proofs.{Each.made_each, NumberRows.time_in_range, ShotRows.{few_all, few_short}}
+use Rattle.mpf_sections.proofs.{NumberRows.time_in_range, ShotRows.{few_all, few_short}}
 use Rattle.mpf_sections.proofs.RowNames.{is_name, value_at_named, names_named, entries_of_named}
 use Rattle.mpf_sections.proofs.ShortRows.{value_at_short, names_short, entries_of_short}
 use Rattle.mpf_sections.proofs.CoilRows.{written_named, some_named, either_named}
+use Rattle.yaml_bytes.proofs.Each.{made_each}
 
 -- ---- names
 

@@ -9,9 +9,11 @@ use Rattle.mpf_sections.specs.Typed.{text_of, listed_keyed, name_in, pulse_in, p
 use Rattle.mpf_sections.specs.TypedCoils.{coils_name, coil_player_name, max_hold_power, coil_of, coil_item_of, coil_player_of, needed_at, flipper_of, autofire_of, coils_in, coil_players_in}
 use Rattle.mpf_sections.specs.Named.{IsNamedCoil, IsNamedCoilPlayer, IsNamedRule, IsNamedFlipper, IsNamedAutofire, IsNamed}
 use Rattle.mpf_sections.specs.Short.{IsPulseInRange, IsPowerInRange, IsCoilInRange, IsItemInRange, IsShortCoilPlayer, IsCoilPlayerInRange}
-use Rattle.mpf_sections.proofs.{Each.{all_mapped, made_each}, ShortRows.IsShortOption, NumberRows.time_in_range}
+use Rattle.mpf_sections.proofs.{ShortRows.IsShortOption, NumberRows.time_in_range}
 use Rattle.mpf_sections.proofs.RowNames.{IsNamedOption, value_at_named, events_named, event_named, keyed_named, entries_of_named}
 use Rattle.mpf_sections.proofs.DeviceRows.{IsNamedText, IsNamedWritten, name_in_named}
+use Rattle.yaml_bytes.proofs.Each.{all_mapped, made_each}
+use Rattle.yaml_bytes.proofs.Each.{or_else}
 
 -- ---- names
 
@@ -69,15 +71,8 @@ pulse_in_range x1 = search rules
 power_in_range : (o : Option Plain) → IfSome (power_in o) IsPowerInRange
 power_in_range x1 = search rules
 
--- where something holds of a number if it is written, and of another one, it holds of the one that is taken
-taken : (P : ℕ → Type 0) (o : Option ℕ) (other : ℕ) → IfSome o P → P other → P (unwrap_or o other)
-taken P x2 other h is = search rules
-
 full : IsPowerInRange 1000
 full = omega arith
-
-none : IsPowerInRange 0
-none = omega arith
 
 hold_in_range : (written : Option ℕ) (allowed : Bool) (hold : Option ℕ) → IfSome written IsPowerInRange → IfSome hold IsPowerInRange
     → IsPowerInRange (max_hold_power written allowed hold)
@@ -86,7 +81,7 @@ hold_in_range x1 x2 hold h k = search rules
 -- The numbers of a coil are in their ranges.
 pub coil_in_range : (e : Entry) → IsCoilInRange (coil_of e)
 unfolding coil_of
-coil_in_range e = search (rules, slice_get, time_in_range, hold_in_range, power_in_range, taken, pulse_in_range, full)
+coil_in_range e = search (rules, slice_get, time_in_range, hold_in_range, power_in_range, or_else, pulse_in_range, full)
 
 -- So are those that an entry of `coil_player` says.
 item_in_range : (k : Keyed) → IsItemInRange (coil_item_of k)

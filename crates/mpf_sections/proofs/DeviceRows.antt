@@ -9,8 +9,9 @@ use Rattle.mpf_sections.specs.Typed.{counters_name, timers_name, limit_of, liste
 use Rattle.machine_settings.specs.Limits.{IsEndWithin}
 use Rattle.mpf_sections.specs.Named.{AllNamedEvents, IsNamedBlock, IsNamedCounter, IsNamedStepBlock, IsNamedTimer, IsNamed}
 use Rattle.mpf_sections.specs.Short.{IsShortBlock, IsShortCounter, IsShortStepBlock, IsShortTimer, IsShortSection}
-use Rattle.mpf_sections.proofs.{Each.{all_where, made_each}, ShortRows.{value_at_short, posts_short, entries_of_short}}
+use Rattle.mpf_sections.proofs.ShortRows.{value_at_short, posts_short, entries_of_short}
 use Rattle.mpf_sections.proofs.RowNames.{IsNamedOption, value_at_named, events_named, posts_named, entries_of_named}
+use Rattle.yaml_bytes.proofs.Each.{all_where, made_each}
 
 -- ---- names
 
@@ -95,9 +96,6 @@ unfolding timers_in
 timers_named s h = made_each IsNamedTimer timer_of timer_named (entries_of timers_name s) (entries_of_named timers_name s h)
 
 -- ---- ranges
-
-pub both : (a b : Bool) → a && b ≡ true → (a ≡ true) × (b ≡ true)
-both x1 b e = search rules
 
 limit_in_range : (o : Option Value) → IsEndWithin (limit_of o)
 limit_in_range x1 = search rules

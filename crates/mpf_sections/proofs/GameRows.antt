@@ -24,19 +24,6 @@ variable_player_named p h = record {
 abbrev IsChange : ℤ → Type 0
 IsChange n = (neg_ℤ (pos 1000000000) ≤ℤ n) × (n ≤ℤ pos 1000000000)
 
-change_by : (n : ℤ) (b : Bool) → within (negsuc 999999999) (pos 1000000000) n ≡ b → IsChange (if b then n else pos 0)
-change_by n x2 h = search rules
-
-no_change : IsChange (pos 0)
-no_change = change_by (pos 0) true refl
-
-change_in_range : (o : Option Plain) → IsChange (change_in o)
-change_in_range x1 = search rules
-
-item_in_range : (k : Keyed) → IsChangeInRange (variable_item_of k)
-unfolding variable_item_of
-item_in_range k = change_in_range (slice_get k.values 0)
-
 -- It says of at most 1,024 variables what is done with them.
 pub variable_player_short : (p : Player) → IsShortPlayer 1024 p → IsShortVariablePlayer (variable_player_of p)
 unfolding variable_player_of

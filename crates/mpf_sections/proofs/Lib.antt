@@ -1,4 +1,3 @@
-pub mod Each
 pub mod RowNames
 pub mod ShortRows
 pub mod DeviceRows

@@ -4,7 +4,7 @@ use Rattle.std.proofs.lemmas.Bool.{leb-true}
 use Rattle.section_tables.specs.{Rows.Value, EntryOf.within}
 use Rattle.section_tables.specs.Kinds.{number_within, time_within, Absent, Kind, single, Setting}
 use Rattle.mpf_sections.specs.TypedNumbers.{default_number, number_under, natural_from, default_time, time_under}
-use Rattle.mpf_sections.proofs.DeviceRows.{both}
+use Rattle.std.proofs.lemmas.Bool.{and_parts}
 
 -- a number or a time within these bounds
 abbrev pub InRange : ℕ → ℕ → ℕ → Type 0
@@ -36,7 +36,7 @@ is_natural None = false
 -- A number is within the bounds of its setting.
 pub natural_in_range : (setting : Option Setting) (value : Option Value) → is_natural setting ≡ true
     → IsUnder setting (natural_from (number_under setting value))
-natural_in_range x1 value h = search (rules, both, leb-true)
+natural_in_range x1 value h = search (rules, and_parts, leb-true)
 
 -- ---- times
 

@@ -5,10 +5,11 @@ use Rattle.std.proofs.lemmas.List.Elements.{All-nil, All-map, All-tail, All-weak
 use Rattle.mpf_values.specs.Names.{IsName}
 use Rattle.section_tables.specs.Rows.{Plain, name, event, Keyed, Value, keyed, posts, Entry, Player}
 use Rattle.section_tables.specs.Named.{IsNamedHandled, IsNamedKeyed, IsNamedValue, IsNamedEvent, IsNamedEntry, IsNamedPlayer}
-use Rattle.mpf_sections.{specs.Rows.{Written, Content, SectionRows}, proofs.Each.{all_where, made_each}}
+use Rattle.mpf_sections.specs.Rows.{Written, Content, SectionRows}
 use Rattle.mpf_tables.specs.SectionTables.{switches_name}
 use Rattle.mpf_sections.specs.Typed.{content_named, mode_row, mode_name, mode_settings_of, mode_settings, listed_names, listed_keyed, listed_events, listed_posts, handled_in, switch_of, event_player_of, entries_in, entries_of, switches_in}
 use Rattle.mpf_sections.specs.Named.{AllNames, AllNamedEvents, IsNamedSwitch, IsNamedEventPlayer, AreNamedSettings, IsNamedContent, IsNamed}
+use Rattle.yaml_bytes.proofs.Each.{all_where, made_each}
 
 abbrev pub IsNamedOption : Option Value → Type 0
 IsNamedOption None = Unit {0}

@@ -5,7 +5,7 @@ use Rattle.section_tables.specs.{Rows.{Value, Entry, Player}, Named.{IsShortValu
 use Rattle.mpf_sections.specs.{Rows.SectionRows, Short.{IsShortSection, IsShortSwitch, IsShortEventPlayer}}
 use Rattle.mpf_tables.specs.SectionTables.{switches_name}
 use Rattle.mpf_sections.specs.Typed.{listed_names, listed_posts, switch_of, event_player_of, entries_in, entries_of, switches_in}
-use Rattle.mpf_sections.proofs.Each.{all_where, made_each}
+use Rattle.yaml_bytes.proofs.Each.{all_where, made_each}
 
 pub none_short : 0 ≤ 1024
 none_short = omega arith

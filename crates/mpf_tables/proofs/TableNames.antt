@@ -6,7 +6,8 @@ use Rattle.mpf_values.{specs.Names.IsName, proofs.NameTexts.IsName-from_is_name}
 use Rattle.section_tables.specs.{Rows.Handled, Kinds.Shape, Entries.handled_at}
 use Rattle.section_tables.specs.Named.{IsNamedKinds, IsNamedTable, IsNamedShape, IsShortTable, IsShortShape}
 use Rattle.mpf_tables.specs.SectionTables.{switches, coils, rule_events, playfield, ball_devices, ball_saves, multiballs, save_shapes, block, counters, step_blocks, timers, default_profile, shots, shot_groups, shot_profiles, shot_shapes, mode, event_player, coil_player, variable_player, shared_shapes, mode_shapes, named_in, shape_of}
-use Rattle.section_tables.proofs.{RowNames.{no_items, few_items}, Steps.word_is}
+use Rattle.section_tables.proofs.RowNames.{no_items, few_items}
+use Rattle.yaml_bytes.proofs.Words.{word_is}
 
 -- ---- what holds of all that have a name
 
@@ -122,8 +123,6 @@ mode_named = ((tt, tt), ((tt, tt), ((tt, tt), ((tt, tt), ((tt, tt), ((tt, tt), t
 
 mode_short : (longest : ℕ) → IsShortTable longest mode
 mode_short longest = let none = no_items longest in (none, (none, (none, (none, (none, (none, tt))))))
-
--- ---- `machine` and `game`
 
 -- ---- `event_player`
 

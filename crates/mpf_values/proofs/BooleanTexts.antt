@@ -2,7 +2,8 @@
 use Rattle.std.proofs.Common.{rules, ◌≡◌, ℕ, Bool, true, false, ◌||◌, List, Some, None, Decides, cond, codes, subst, ◌⊎◌, inl, inr}
 use Rattle.std.proofs.lemmas.{Bool.Decides.Decides-or, Option.same_Some, Slice.Eq.bytes_eq-Decides}
 use Rattle.mpf_values.specs.{Booleans.{Spells, IsBoolean}, Reading.{spells, boolean_at}}
-use Rattle.mpf_values.proofs.{Steps.{chosen, guard_true}, Computing.Computes}
+use Rattle.mpf_values.proofs.{Steps.guard_true, Computing.Computes}
+use Rattle.yaml_bytes.proofs.Steps.{chosen}
 
 abbrev spells_one : List ℕ → List ℕ → List ℕ → List ℕ → Bool
 spells_one a b c text = spells a text || (spells b text || spells c text)

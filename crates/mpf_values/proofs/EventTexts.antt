@@ -8,10 +8,11 @@ use Rattle.mpf_values.specs.declared.handled.Comparison.TheVariants.{Equal, NotE
 use Rattle.mpf_values.specs.Bytes.{is_name_byte, is_operator_byte, is_word_byte}
 use Rattle.mpf_values.specs.Events.{Condition, Event, IsOperator, equal, not_equal, less, less_or_equal, greater, greater_or_equal, IsCondition, IsUnder, IsEvent}
 use Rattle.mpf_values.specs.Reading.{◌>>=◌, front, behind, name_at, integer_at, behind_word, variable_at, operator_at, comparison_at, last_integer_at, condition_at, event_at}
-use Rattle.mpf_values.proofs.{Steps.{bind_some, guard_true, chosen}, NameTexts.{name_sound, name_complete}}
+use Rattle.mpf_values.proofs.{Steps.{bind_some, guard_true}, NameTexts.{name_sound, name_complete}}
 use Rattle.mpf_values.proofs.Fronts.{begins, parts, are_front, front_is, behind_is, begins_behind, no_bytes}
 use Rattle.mpf_values.proofs.ByteKinds.{no_blank, digit_is_no_blank, digit_is_no_operator, digits_are_word}
 use Rattle.mpf_values.proofs.{IntegerTexts.integer_computes, Computing.Computes}
+use Rattle.yaml_bytes.proofs.Steps.{chosen}
 
 -- ---- words
 

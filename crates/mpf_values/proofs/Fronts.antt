@@ -1,19 +1,15 @@
 -- The bytes at the front of a text that pass a test, and what comes after them.
-use Rattle.std.proofs.Common.{rules, ◌≡◌, ℕ, suc, Bool, true, false, List, [], ◌∷◌, ◌++◌, length, take, drop, refl, ap, ◌∙◌, arith, take-append-drop}
+use Rattle.std.proofs.Common.{rules, ◌≡◌, ℕ, Bool, true, false, List, [], ◌∷◌, ◌++◌, length, take, drop, refl, ap, ◌∙◌, arith, take-append-drop}
 use Rattle.std.{specs.List.prefix_len, proofs.lemmas.Bool.cases_Bool}
 use Rattle.yaml_bytes.specs.Plain.{Are}
 use Rattle.mpf_values.specs.Reading.{front, behind}
+use Rattle.yaml_subset.proofs.QuotedTexts.{len_yes}
+use Rattle.yaml_subset.proofs.QuotedTexts.{len_no}
 
 -- whether a byte comes first that passes the test
 abbrev pub begins : (ℕ → Bool) → List ℕ → Bool
 begins p [] = false
 begins p (b ∷ bs) = p b
-
-len_yes : (p : ℕ → Bool) (x : ℕ) (xs : List ℕ) → p x ≡ true → prefix_len p (x ∷ xs) ≡ suc (prefix_len p xs)
-len_yes p x xs t = rw t (omega arith)
-
-len_no : (p : ℕ → Bool) (x : ℕ) (xs : List ℕ) → p x ≡ false → prefix_len p (x ∷ xs) ≡ 0
-len_no p x xs t = rw t refl
 
 front_yes : (p : ℕ → Bool) (x : ℕ) (xs : List ℕ) → p x ≡ true → front p (x ∷ xs) ≡ x ∷ front p xs
 front_yes p x xs t = ap (λ n. take n (x ∷ xs)) (len_yes p x xs t)

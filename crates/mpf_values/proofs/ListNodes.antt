@@ -50,9 +50,6 @@ with_front front read = read >>= λ items. Some (front ++ items)
 regroup : (front : List Item) (item : Item) (read : Option (List Item)) → with_front front (read >>= λ items. Some (item ∷ items)) ≡ with_front (front ++ item ∷ []) read
 regroup front item x3 = search (rules, append_assoc)
 
-same : (front : List Item) (read : Option (List Item)) → with_front front (read >>= λ items. Some items) ≡ with_front front read
-same front x2 = search rules
-
 pub node_item : (node : Node) (text : List ℕ) (line : ℕ) → Some text ≡ text_in node → line ≡ line_of node → scalar_at node ≡ Some (item_at line text)
 node_item node text line e n = rw (← e, n) refl
 

@@ -1,19 +1,11 @@
 -- Powers are read as they are written.
-use Rattle.std.proofs.Common.{rules, ◌≡◌, ℕ, zero, suc, ◌-◌, ◌*◌, ◌/◌, ◌<◌, ◌≤◌, ◌^◌, cond, ltb, List, [], Some, None, codes, refl, sym, ap, ◌∙◌, ◌⊎◌, inl, inr, arith}
+use Rattle.std.proofs.Common.{rules, ◌≡◌, ℕ, ◌/◌, ◌<◌, ◌≤◌, ◌^◌, cond, ltb, List, [], Some, None, codes, refl, sym, ap, ◌∙◌, ◌⊎◌, inl, inr, arith}
 use Rattle.std.proofs.lemmas.{Bool.{le-leb, ltb-false, le-ltb}, List.append-nil, Option.same_Some}
 use Rattle.mpf_values.specs.{declared.decimals.Decimal.Decimal, Numbers.IsDecimal}
 use Rattle.mpf_values.specs.Powers.{IsFraction, IsPercentage, IsPower}
 use Rattle.mpf_values.specs.Reading.{◌>>=◌, decimal_at, share_at, power_at}
 use Rattle.mpf_values.proofs.{Steps.{bind_some, guard_false}, Computing.Computes}
 use Rattle.mpf_values.proofs.WrittenNumbers.{Front, decimal_sound, decimal_complete}
-
--- ---- hundredths
-
--- one decimal at most makes a number of hundreds of thousandths
-hundreds : (n places : ℕ) → places ≤ 1 → (k : ℕ) × (n * 10 ^ (3 - places) ≡ k * 100)
-hundreds n zero h = (n * 10, omega arith)
-hundreds n (suc zero) h = (n, omega arith)
-hundreds n (suc (suc places)) h = absurd (omega arith)
 
 -- ---- what is read is a power
 

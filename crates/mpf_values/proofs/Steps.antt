@@ -1,5 +1,5 @@
 -- What a reading that gave something went through.
-use Rattle.std.proofs.Common.{rules, ◌≡◌, ℕ, ◌<◌, ◌^◌, Bool, true, false, cond, ltb, Option, Some, None, refl, ◌⊎◌}
+use Rattle.std.proofs.Common.{rules, ◌≡◌, ℕ, ◌<◌, ◌^◌, Bool, true, false, cond, ltb, Option, Some, None, refl}
 use Rattle.std.proofs.lemmas.{Bool.{ltb-true, lt-ltb}, Option.cond_some}
 use Rattle.mpf_values.specs.Reading.{◌>>=◌, within_64_bits}
 
@@ -11,9 +11,6 @@ guard_true x1 r y e = search rules
 
 pub guard_false : {A : Type 0} (b : Bool) (r : Option A) (y : A) → cond b None r ≡ Some y → (b ≡ false) × (r ≡ Some y)
 guard_false x1 r y e = search rules
-
-pub chosen : {A : Type 0} (b : Bool) (x y z : A) → cond b x y ≡ z → ((b ≡ true) × (x ≡ z)) ⊎ ((b ≡ false) × (y ≡ z))
-chosen x1 x y z e = search rules
 
 pub within_64_bits-some : (n m : ℕ) → within_64_bits n ≡ Some m → (n ≡ m) × (n < 2 ^ 64)
 within_64_bits-some n m e = let h = cond_some (ltb n (2 ^ 64)) n m e in (h.1, ltb-true n (2 ^ 64) h.0)

@@ -9,6 +9,9 @@ use Rattle.coil_driver.specs.Board.{BoardView, HasTaken, HasTakenAll, command_of
 use Rattle.coil_driver.specs.ShutDown.{ArePutOff}
 use Rattle.pin_rig.specs.Rig.{RigView}
 use Rattle.pinball_shell.specs.{RunOfLog.{Printed, Traced, Refused, traced}, Ends.{IsServed, IsHalted}}
+use Rattle.coil_driver.proofs.Serving.{taken-append, taken-tells}
+use Rattle.coil_driver.proofs.Serving.{commands-append}
+use Rattle.coil_driver.proofs.Sending.{after_lines-append}
 
 -- ---- the lines of the trace among what is printed
 
@@ -23,17 +26,6 @@ traced-lines (l ∷ ls) = ap (λ (xs : List Line). l ∷ xs) (traced-lines ls)
 
 -- ---- what was taken
 
-taken-append : (xs ys : List Command) (a b c : BoardView) → HasTakenAll xs a b → HasTakenAll ys b c → HasTakenAll (xs ++ ys) a c
-taken-append [] ys a b c h k = subst (λ (v : BoardView). HasTakenAll ys v c) h k
-taken-append (x ∷ xs) ys a b c (mid, one, more) k = (mid, one, taken-append xs ys mid b c more k)
-
-after_lines-append : (xs ys : List Line) (s : List CoilState) → after_lines (xs ++ ys) s ≡ after_lines ys (after_lines xs s)
-after_lines-append [] ys s = refl
-after_lines-append (x ∷ xs) ys s = after_lines-append xs ys (after_line x s)
-
-commands-append : (xs ys : List Line) → commands_of (xs ++ ys) ≡ commands_of xs ++ commands_of ys
-commands-append xs ys = flat_map-append (λ l. command_of l.happening) xs ys
-
 pub served-none : (rig : RigView) (printed : List Printed) → rig.faulted ≡ None → traced printed ≡ [] → IsServed printed rig rig
 served-none rig printed running none = search rules
 
@@ -42,8 +34,8 @@ served-then xs ys a b c h k = search (rules, traced-append, commands-append, tak
 
 -- ---- what is told
 
-taken-tells : (command : Command) (a b : BoardView) → HasTaken command a b → TellsMore (command ∷ []) a.told b.told
-taken-tells command a b h = go a.told b.told h.list
+one-tells : (command : Command) (a b : BoardView) → HasTaken command a b → TellsMore (command ∷ []) a.told b.told
+one-tells command a b h = go a.told b.told h.list
   where
     go : (told next : Option (List Command)) → IsToldAfter command (Ok tt) told next → TellsMore (command ∷ []) told next
     go x1 x2 is = search rules
@@ -64,16 +56,12 @@ tells-then (x ∷ xs) (y ∷ ys) (Some a) None (Some c) h k = absurd (none_some 
 tells-then (x ∷ xs) (y ∷ ys) (Some a) (Some b) None h k = tt
 tells-then (x ∷ xs) (y ∷ ys) (Some a) (Some b) (Some c) h k = k ∙ ap (λ (zs : List Command). zs ++ y ∷ ys) h ∙ append_assoc a (x ∷ xs) (y ∷ ys)
 
-all-tells : (commands : List Command) (a b : BoardView) → HasTakenAll commands a b → TellsMore commands a.told b.told
-all-tells [] a b is = ap (λ (v : BoardView). v.told) is
-all-tells (command ∷ more) a b (mid, one, rest) = tells-then (command ∷ []) more a.told mid.told b.told (taken-tells command a mid one) (all-tells more mid b rest)
-
 off-tells : (coils : List CoilId) (a b : BoardView) (off : List CoilId) (faults : ℕ) → ArePutOff coils a off faults b → TellsMore (map Disable off) a.told b.told
 off-tells [] a b off faults (none, count, is) =
     subst (λ (cs : List CoilId). TellsMore (map Disable cs) a.told b.told) (sym none) (ap (λ (v : BoardView). v.told) is)
 off-tells (coil ∷ more) a b off faults (mid, inl (one, (rest, is, later))) =
     subst (λ (cs : List CoilId). TellsMore (map Disable cs) a.told b.told) (sym is)
-    (tells-then (Disable coil ∷ []) (map Disable rest) a.told mid.told b.told (taken-tells (Disable coil) a mid one) (off-tells more mid b rest faults later))
+    (tells-then (Disable coil ∷ []) (map Disable rest) a.told mid.told b.told (one-tells (Disable coil) a mid one) (off-tells more mid b rest faults later))
 off-tells (coil ∷ more) a b off faults (mid, inr (not, (others, count, later))) =
     subst (λ (o : Option (List Command)). TellsMore (map Disable off) o b.told) not.list (off-tells more mid b off others later)
 
@@ -82,7 +70,7 @@ pub end-tells : (commands : List Command) (coils off : List CoilId) (faults : �
 end-tells commands coils off faults a b c h k = tells-then commands (map Disable off) a.told b.told c.told h (off-tells coils b c off faults k)
 
 pub served-tells : (printed : List Printed) (old new : RigView) → IsServed printed old new → TellsMore (commands_of (traced printed)) old.board.told new.board.told
-served-tells printed old new h = all-tells (commands_of (traced printed)) old.board new.board h.taken
+served-tells printed old new h = taken-tells (commands_of (traced printed)) old.board new.board h.taken
 
 -- after a fault it tells the same
 pub halted-tells : (commands : List Command) (command : Command) (a : BoardView) (mid new : RigView) → TellsMore commands a.told mid.board.told → IsHalted command mid new → TellsMore commands a.told new.board.told

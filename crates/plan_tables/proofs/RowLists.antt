@@ -2,8 +2,5 @@
 use Rattle.std.proofs.Common.{rules, ◌≤◌, Bool, if◌then◌else◌}
 use Rattle.plan_tables.specs.{declared.devices.Settings.Settings, Devices.{IsWithinLimits, list_count}}
 
-of_group : (group : Bool) → (if group then 2 else 0) ≤ 2
-of_group group = search rules
-
 pub few_lists : (s : Settings) → IsWithinLimits s → list_count s ≤ 288
 few_lists s limits = search rules

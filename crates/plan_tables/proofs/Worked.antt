@@ -9,6 +9,7 @@ use Rattle.plan_tables.specs.declared.entries.ModeEvent.TheVariants.{WillStart, 
 use Rattle.plan_tables.specs.declared.entries.Work.TheVariants as works
 use Rattle.plan_tables.specs.{GameEvents.{game_events, order_of}, Valid.{HasGame, IsWorkAt}, Inside.HasWorks}
 use Rattle.plan_tables.specs.PlanView.{PlanMode, PlanView, no_event, no_mode, event_among, which_event, work_or, work_from, game_work, or_work, work_of, event_of_game, game_event}
+use Rattle.std.proofs.lemmas.Option.{same_Some}
 
 module _ (plan : PlanView) (works : List Work) (has : HasWorks plan works) where
   -- each event of the plan has its work
@@ -21,20 +22,13 @@ module _ (plan : PlanView) (works : List Work) (has : HasWorks plan works) where
 
 -- ---- where an event has work, it is an event of a mode
 
--- of two things that are both there
-same_some : {X : Type 0} (x y : X) → Some x ≡ Some y → x ≡ y
-same_some x y is = ap (λ o. unwrap_or o x) is
-
 abbrev numbered : ℕ → EventId
 numbered n = record { 0 = n }
 
-number_same : (e f : EventId) → (e.0 == f.0) ≡ true → e ≡ f
+pub number_same : (e f : EventId) → (e.0 == f.0) ≡ true → e ≡ f
 number_same e f is = ap numbered (eqb-true e.0 f.0 is)
 
 module _ (events : ModeEvents) (e : EventId) (which : ModeEvent) where
-  which-among : (a b c d f : Bool) → (e.0 == events.will_start.0) ≡ a → (e.0 == events.starting.0) ≡ b → (e.0 == events.started.0) ≡ c → (e.0 == events.stopping.0) ≡ d → (e.0 == events.stopped.0) ≡ f
-      → cond a (Some WillStart) (cond b (Some Starting) (cond c (Some Started) (cond d (Some Stopping) (cond f (Some Stopped) None)))) ≡ Some which → e ≡ event_among events which
-  which-among a b c d f ha hb hc hd hf is = search rules
 
   which-is : which_event events e ≡ Some which → e ≡ event_among events which
   which-is is = search rules
@@ -72,7 +66,7 @@ are_ordered_from n (x ∷ xs) = (order_of x == n) && are_ordered_from (suc n) xs
 
 ordered_from : (n : ℕ) (events : List GameEvent) → are_ordered_from n events ≡ true → (i : ℕ) (which : GameEvent) → slice_get events i ≡ Some which → order_of which ≡ n + i
 ordered_from n [] ordered i which at = absurd (none-some which at)
-ordered_from n (x ∷ xs) ordered zero which at = ap order_of (sym (same_some x which at)) ∙ eqb-true (order_of x) n (and_parts (order_of x == n) (are_ordered_from (suc n) xs) ordered).0 ∙ omega arith
+ordered_from n (x ∷ xs) ordered zero which at = ap order_of (sym (same_Some x which at)) ∙ eqb-true (order_of x) n (and_parts (order_of x == n) (are_ordered_from (suc n) xs) ordered).0 ∙ omega arith
 ordered_from n (x ∷ xs) ordered (suc i) which at =
     let later = ordered_from (suc n) xs (and_parts (order_of x == n) (are_ordered_from (suc n) xs) ordered).1 i which at in
     omega (arith, later)

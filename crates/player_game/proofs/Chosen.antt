@@ -4,11 +4,9 @@ use Rattle.plan_tables.specs.{PlanView.PlanView, declared.entries.{GameEvent.Gam
 use Rattle.plan_tables.specs.declared.entries.GameEvent.TheVariants.{SwStart, GameWillStart, PlayerAdded, PlayerTurnWillStart, BallDrain, BallWillEnd, BallEnding, BallEnded, PlayerTurnEnded, GameWillEnd}
 use Rattle.player_game.specs.{Players.PlayersState, Choices.{StepsAreChoices, choices, tells_scores, asks_for_ball}}
 use Rattle.player_game.specs.GameStep.{GameState, GameStep, can_begin, can_join, game_step, is_ball_on, is_held, is_over, leads_to}
+use Rattle.yaml_bytes.proofs.Each.{here}
 
 -- ---- places in a list
-
-first : {X : Type 0} (x : X) (xs : List X) → Contains (x ∷ xs) x
-first x xs = (0, suc-le-suc zero-le, refl)
 
 second : {X : Type 0} (y x : X) (xs : List X) → Contains (y ∷ x ∷ xs) x
 second y x xs = (1, suc-le-suc (suc-le-suc zero-le), refl)
@@ -20,22 +18,22 @@ third z y x xs = (2, suc-le-suc (suc-le-suc (suc-le-suc zero-le)), refl)
 
 starts : (begins joins : Bool) (g h : GameState) (p q : PlayersState)
     → Contains (choices SwStart) (if begins then leads_to (GameWillStart ∷ []) h q else leads_to (if joins then PlayerAdded ∷ [] else []) g p).posts
-starts true joins g h p q = first (GameWillStart ∷ []) ((PlayerAdded ∷ []) ∷ [] ∷ [])
+starts true joins g h p q = here (GameWillStart ∷ []) ((PlayerAdded ∷ []) ∷ [] ∷ [])
 starts false true g h p q = second (GameWillStart ∷ []) (PlayerAdded ∷ []) ([] ∷ [])
 starts false false g h p q = third (GameWillStart ∷ []) (PlayerAdded ∷ []) [] []
 
 drains : (is_on is_last : Bool) (g h k : GameState) (p : PlayersState)
     → Contains (choices BallDrain) (if is_on then (if is_last then leads_to (BallWillEnd ∷ []) h p else leads_to [] k p) else leads_to [] g p).posts
-drains true true g h k p = first (BallWillEnd ∷ []) ([] ∷ [])
+drains true true g h k p = here (BallWillEnd ∷ []) ([] ∷ [])
 drains _ _ g h k p = second (BallWillEnd ∷ []) [] []
 
 held_back : (held : Bool) → Contains (choices BallEnding) (if held then [] else BallEnded ∷ [])
 held_back true = second (BallEnded ∷ []) [] []
-held_back false = first (BallEnded ∷ []) ([] ∷ [])
+held_back false = here (BallEnded ∷ []) ([] ∷ [])
 
 ends : (over : Bool) (g : GameState) (p q : PlayersState)
     → Contains (choices PlayerTurnEnded) (if over then leads_to (GameWillEnd ∷ []) g p else leads_to (PlayerTurnWillStart ∷ []) g q).posts
-ends true g p q = first (GameWillEnd ∷ []) ((PlayerTurnWillStart ∷ []) ∷ [])
+ends true g p q = here (GameWillEnd ∷ []) ((PlayerTurnWillStart ∷ []) ∷ [])
 ends false g p q = second (GameWillEnd ∷ []) (PlayerTurnWillStart ∷ []) []
 
 -- either way a flag is not set
@@ -50,7 +48,7 @@ posted rules plan SwStart home g p = starts (can_begin rules home g) (can_join r
 posted rules plan BallDrain home g p = drains (is_ball_on g.phase) (g.balls - 1 == 0) _ _ _ _
 posted rules plan BallEnding home g p = held_back (is_held g)
 posted rules plan PlayerTurnEnded home g p = ends (is_over rules plan p) _ _ _
-posted rules plan _ home g p = first _ []
+posted rules plan _ home g p = here _ []
 
 told : (rules : GameRules) (plan : PlanView) (which : GameEvent) (home : ℕ) (g : GameState) (p : PlayersState)
     → (game_step (Some rules) plan which home g p).finals ≡ tells_scores which

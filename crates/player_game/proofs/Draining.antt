@@ -39,5 +39,3 @@ pub drain-finals : (rules : Option GameRules) (plan : PlanView) (home : ℕ) (g 
 unfolding game_step
 drain-finals None plan home g p = refl
 drain-finals (Some rules) plan home g p = steps_are_choices.finals rules plan BallDrain home g p
-
--- ---- balls are added

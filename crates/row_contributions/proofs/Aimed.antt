@@ -24,9 +24,10 @@ use Rattle.plan_rows.specs.Seats.{Seat, seat_of, destination_of, rows_after_text
 use Rattle.plan_contributions.specs.Contributions.{Contribution, mode, mode_event, binds, does, device, mentions}
 use Rattle.row_contributions.specs.Contributions.{under_where, bound, switch_contributions, player_contributions, coil_contributions, coil_player_contributions, item_contributions, variable_player_contributions, game_contributions, later_events, starter, stopper, stopper_where, stops_at_ball_end, stops_at_game_end, controls, mode_contributions, act_binding, effects_from, listens_from, device_contributions, where_device, machine_entry_contributions, entry_contributions, alone_contributions, player_entry_contributions, unknown_unless, shot_switch, act_at, seated, shot_contributions, group_contributions, ball_device_contributions, row_contributions, given_by, contributions_of}
 use Rattle.plan_rows.specs.Rows.{Row, alone, player, of_mode, entry_row, rows_from, rows_in, text_rows, mode_rows, modes_rows}
-use Rattle.row_contributions.proofs.{Before.{All-every, All-flat_map}, Silent.{row_tells, rows_tell}}
+use Rattle.row_contributions.proofs.{Before.All-every, Silent.{row_tells, rows_tell}}
 use Rattle.row_contributions.proofs.RowFacts.{All-each, All-made, All-listens, All-lists, entry_such, sections_each}
 use Rattle.row_contributions.proofs.SeatFacts.{row_given, silent, rows_of_text, IsRowAt, seat_at, rows_told_are, rows_counted}
+use Rattle.yaml_bytes.proofs.Each.{All-flat_map}
 
 -- What a contribution of a text of this place is like: no mode comes by it, its row is of the place, and what it binds is
 -- aimed so.

@@ -4,7 +4,7 @@ use Rattle.std.proofs.Common.{rules, ◌≡◌, ℕ, suc, ◌+◌, ◌<◌, ◌�
 use Rattle.std.specs.Prelude.{Option, None, Some, option_map, IfSome, slice_get, ◌≢◌}
 use Rattle.std.specs.{Str.bytes_eq, List.{All, AllPairs, flat_map, list_any}}
 use Rattle.std.proofs.lemmas.{Bool.or_left, Grind.flat_map-append, Option.{slice_get-map, slice_get_within}}
-use Rattle.mpf_sections.{proofs.DeviceRows.both, specs.Rows.{Written, Entry, BallDevice, Content, SectionRows}}
+use Rattle.mpf_sections.specs.Rows.{Written, Entry, BallDevice, Content, SectionRows}
 use Rattle.std.proofs.lemmas.List.{append_assoc, length-map, Folds.list_any-append}
 use Rattle.std.proofs.lemmas.List.Elements.{All-nil, All-cons, All-head, All-tail, All-append, All-weaker}
 use Rattle.mpf_values.specs.Events.{Condition, Event}
@@ -28,6 +28,7 @@ use Rattle.row_contributions.proofs.Before.{each_before, all_before, under_befor
 use Rattle.row_contributions.proofs.RowFacts.{All-each, All-made, All-listens, All-lists, one, attempts, seven}
 use Rattle.row_contributions.proofs.{SwitchesGiven.or_weaker, Silent.rows_tell, SeatFacts.{is_ball, row_given, silent}}
 use Rattle.row_contributions.proofs.Kept.{IsPlainAim, IsPlain, IsBallRow, IsPlainDevice, IsKept, row_kinds, all_kept}
+use Rattle.std.proofs.lemmas.Bool.{and_parts}
 
 -- every ball device is such
 any_ball : (machine : List SectionRows) → All (λ s. All (λ d. Unit {0}) (ball_devices_in s)) machine
@@ -304,9 +305,6 @@ module _ (rows : Rows) where
   abbrev W : Contribution → Type 0
   W c = ActsOffBalls all_settings c
 
-  no_ball : (s : Settings) → is_ball s ≡ false → IsNoBallDevice s
-  no_ball x1 is = search rules
-
   off : (o : Option Settings) → option_map is_ball o ≡ Some false → IfSome o IsNoBallDevice
   off x1 is = search rules
 
@@ -336,7 +334,7 @@ module _ (rows : Rows) where
   of_game name e is = ap (λ (b : Bool). plays_in (if b then game_contributions rows.machine (game_of e) else [])) is
 
   in_both : (seat : List ℕ → Option Seat) (to : List ℕ → Destination) (s : SectionRows) → is_game s ≡ true → plays_in (given_by rows.machine (rows_from rows Machine seat to s.name s.content)) ≡ true
-  in_both seat to s is = let found = both (bytes_eq s.name game_name) (is_entry s.content) is in by s.content found.0 found.1
+  in_both seat to s is = let found = and_parts (bytes_eq s.name game_name) (is_entry s.content) is in by s.content found.0 found.1
     where
       by : (content : Content) → bytes_eq s.name game_name ≡ true → is_entry content ≡ true → plays_in (given_by rows.machine (rows_from rows Machine seat to s.name content)) ≡ true
       by x1 named one = search (rules, list_any-append, or_left, of_game)
@@ -376,7 +374,7 @@ module _ (rows : Rows) where
   ball_drains : (d : BallDevice) → All (All (DrainsIn is_on)) (ball_lists rows.machine d)
   ball_drains d =
       let D : Effect → Type 0 = DrainsIn is_on in
-      seven (All D) _ _ _ _ _ _ _ (one D _ (λ is. game_is_given (both (is_drain d) (has_game rows.machine) is).1)) (attempts rows.machine d.name.text D tt tt d.eject_coil (any d.eject_coil)) (one D leaves tt) (one D loses tt)
+      seven (All D) _ _ _ _ _ _ _ (one D _ (λ is. game_is_given (and_parts (is_drain d) (has_game rows.machine) is).1)) (attempts rows.machine d.name.text D tt tt d.eject_coil (any d.eject_coil)) (one D leaves tt) (one D loses tt)
       (one D _ tt) (one D arrives tt) (one D _ tt)
     where
       any : (o : Option Written) → IfSome o (λ w. Unit {0})

@@ -44,15 +44,6 @@ All-bound Q e place aim binding condition = All-cons Q (binds e.name place aim) 
 pub each_some : (R : Condition → Type 0) → ((c : Condition) → R c) → (o : Option Condition) → IfSome o R
 each_some R each x3 = search rules
 
--- what is written, or else another
-pub or_else : {A : Type 0} (Q : A → Type 0) (o : Option A) (other : A) → IfSome o Q → Q other → Q (unwrap_or o other)
-or_else Q x2 other h is = search rules
-
 -- what holds of everything holds of each item
 pub All-every : {X : Type 0} (P : X → Type 0) → ((x : X) → P x) → (xs : List X) → All P xs
 All-every P every xs = λ i d within. every (get_or xs i d)
-
--- what holds of all that each item gives
-pub All-flat_map : {X Y : Type 0} (P : Y → Type 0) (f : X → List Y) (xs : List X) → All (λ x. All P (f x)) xs → All P (flat_map f xs)
-All-flat_map P f [] all = All-nil P
-All-flat_map P f (x ∷ xs) all = search (rules, All-append, All-head, All-tail, All-flat_map P f xs (All-tail (λ z. All P (f z)) x xs all))

@@ -8,7 +8,9 @@ use Rattle.mpf_sections.specs.{TypedCoils.coils_in, Short.{IsCoilInRange, IsItem
 use Rattle.machine_definitions.specs.Definitions.{latest_coil, no_coil, coil_of_name}
 use Rattle.row_contributions.specs.CoilEntries.{defaults_called, own_pulse, own_hold, deed_by, item_effect, flipper_device, autofire_device}
 use Rattle.plan_contributions.specs.Effects.{Deed, disable, Effect, works}
-use Rattle.row_contributions.{specs.Facts.{IsDeedInRange, IsEffectInRange}, proofs.Before.{All-flat_map, or_else}}
+use Rattle.row_contributions.specs.Facts.{IsDeedInRange, IsEffectInRange}
+use Rattle.yaml_bytes.proofs.Each.{or_else}
+use Rattle.yaml_bytes.proofs.Each.{All-flat_map}
 
 abbrev IsRanged : Option Coil → Type 0
 IsRanged o = IfSome o IsCoilInRange
@@ -44,11 +46,6 @@ item_ranged machine item h = by item.action
 
     by : (action : CoilAction) → IsDeedInRange (deed_by (defaults_called machine item.coil.text) item action)
     by x1 = search (rules, or_else, c)
-
--- what holds of all effects of a flipper
-module _ (Q : Effect → Type 0) (machine : List SectionRows) (main : Written) where
-  one_of_two : (b : Bool) (x y : Deed) → Q (works main.text x) → Q (works main.text y) → Q (works main.text (if b then x else y))
-  one_of_two x1 x y h k = search rules
 
 module _ (Q : Effect → Type 0) (machine : List SectionRows) where
   pub all_flips : (f : Flipper) → (let main = f.main_coil.text in Q (works main (own_pulse (defaults_called machine main))) × Q (works main (own_hold (defaults_called machine main))) × Q (works main disable))

@@ -6,7 +6,8 @@ use Rattle.mpf_sections.specs.Named.{IsName, IsNamed}
 use Rattle.plan_tables.specs.declared.table.Table.{Table, TheVariants.{Events, Switches}}
 use Rattle.plan_contributions.specs.{Contributions.Contribution, UsedNames.{used, uses, name_in_table}}
 use Rattle.row_contributions.specs.{Contributions.contributions_of, Facts.IsOfNames}
-use Rattle.row_contributions.proofs.{Before.All-flat_map, RowFacts.{IsFitName, IsFit, any_name, rows_fit}}
+use Rattle.row_contributions.proofs.RowFacts.{IsFitName, IsFit, any_name, rows_fit}
+use Rattle.yaml_bytes.proofs.Each.{All-flat_map}
 
 -- the name that is used, if there is one, is fit for its table
 abbrev IsFitUse : (List ℕ → Type 0) → Option (Table × List ℕ) → Type 0

@@ -108,12 +108,6 @@ module _ (machine : List SectionRows) where
   plain_autofire : (a : Autofire) → IsPlainDevice (autofire_device machine a)
   plain_autofire a = record { settings = tt; lists = fires IsOfNoBall machine a tt; listens = omega arith }
 
-  plain_save : (s : BallSave) → IsPlainDevice (save_device s)
-  plain_save s = record { settings = tt; lists = all_save IsOfNoBall s.name.text (λ ending. tt) tt; listens = omega arith }
-
-  plain_multiball : (m : Multiball) → IsPlainDevice (multiball_device m)
-  plain_multiball m = record { settings = tt; lists = all_multiball IsOfNoBall m.name.text m.settings.balls (λ ending. tt) tt; listens = omega arith }
-
   plain_lone : (p : Profile) (s : Shot) → IsPlainDevice (lone_device p s)
   plain_lone p s = record { settings = tt; lists = posts_of_shot IsOfNoBall posts_nothing p s.name.text; listens = omega arith }
 

@@ -25,14 +25,11 @@ use Rattle.plan_rows.specs.Seats.{Seat, seat_of, destination_of, rows_after_text
 use Rattle.plan_contributions.specs.Contributions.{Contribution, mode, binds, does, device, mentions, coil}
 use Rattle.row_contributions.specs.Contributions.{under_where, bound, events, switch_contributions, player_contributions, coil_contributions, coil_player_contributions, item_contributions, variable_player_contributions, game_contributions, starter, stopper, stopper_where, later_events, stops_at_ball_end, stops_at_game_end, controls, mode_contributions, Device, act_binding, listens_from, effects_from, device_contributions, device_of, where_device, machine_device, unknown_unless, shot_switch, seated, shot_contributions, group_contributions, ball_device_contributions, machine_entry_contributions, entry_contributions, alone_contributions, player_entry_contributions, row_contributions, contributions_of}
 use Rattle.plan_rows.specs.Rows.{Row, entry, alone, player, of_mode, shot_row, group_row, ball_device_row, other_row, entry_row, rows_from, rows_in, mode_rows, modes_rows, rows_of}
-use Rattle.row_contributions.proofs.{Before.{All-every, All-flat_map}, SeatFacts.targets_known}
+use Rattle.row_contributions.proofs.{Before.All-every, SeatFacts.targets_known}
 use Rattle.row_contributions.proofs.RowFacts.{All-made, All-listens, All-lists, sections_each, modes_each}
 use Rattle.row_contributions.specs.Doing.{has_target, IsBallDeviceDoing, IsSwitchDoing, IsPlayerDoing, IsDeviceDoing, IsEntryDoing, IsCoilPlayerDoing, IsVariablePlayerDoing, IsShotDoing, IsShotGroupDoing, IsDoing, IsMachineDoing, AreDoing, Does}
-
--- what holds of each item as it is seen
-from_map : {X Y : Type 0} (R : Y → Type 0) (f : X → Y) (xs : List X) → All R (map f xs) → All (λ x. R (f x)) xs
-from_map R f [] h = All-nil (λ x. R (f x))
-from_map R f (x ∷ xs) h = All-cons (λ x. R (f x)) x xs (All-head R (f x) (map f xs) h) (from_map R f xs (All-tail R (f x) (map f xs) h))
+use Rattle.yaml_bytes.proofs.Each.{All-flat_map}
+use Rattle.yaml_bytes.proofs.Each.{All-from_map}
 
 -- where this holds, that does
 abbrev pub Where : Bool → Type 0 → Type 0
@@ -44,7 +41,7 @@ where_so x1 is h = search rules
 
 -- where a section has a name, what holds of its items as they are seen there
 pub where_named : {X Y : Type 0} (R : Y → Type 0) (f : X → Y) (b : Bool) (xs : List X) → All R (map f (if b then xs else [])) → All (λ x. Where b (R (f x))) xs
-where_named R f true xs h = from_map R f xs h
+where_named R f true xs h = All-from_map R f xs h
 where_named R f false xs h = λ i d within. tt
 
 module _ (P : Effect → Type 0) (S L : List ℕ → Type 0) where

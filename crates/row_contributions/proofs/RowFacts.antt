@@ -42,13 +42,14 @@ use Rattle.plan_contributions.specs.Contributions.{Contribution, gives, reads, a
 use Rattle.row_contributions.specs.Contributions.{bound, texts, kind_of, confirms, tag_event, active_posts, inactive_posts, switch_contributions, player_contributions, coil_contributions, coil_player_contributions, item_contributions, variable_player_contributions, game_contributions, starter, stopper, stopper_where, later_events, stops_at_ball_end, stops_at_game_end, controls, mode_contributions, Device, act_binding, effects_from, listens_from, device_contributions, where_device, unknown_unless, shot_switch, act_at, seated, shot_contributions, group_contributions, ball_device_contributions, machine_device, machine_entry_contributions, entry_contributions, alone_contributions, player_entry_contributions, row_contributions, given_by, contributions_of}
 use Rattle.plan_rows.specs.Rows.{Row, entry, alone, shot, group, ball_device, player, of_mode, shot_row, group_row, ball_device_row, other_row, entry_row, rows_from, rows_in, mode_rows, modes_rows, rows_of}
 use Rattle.row_contributions.specs.Facts.{ArePlaced, IsOfNames, effects_in_after, full, IsRoomy, AreShort, AreLimits, IsDeedInRange, IsEffectInRange, IsLimited, IsPlaceOf, IsOfMachine, IsPlaced, IsOpenPlace, IsOpen, AreOpened}
-use Rattle.row_contributions.proofs.Before.{each_before, each_alone, all_before, all_alone, All-bound, each_some, All-flat_map}
+use Rattle.row_contributions.proofs.Before.{each_before, each_alone, all_before, all_alone, All-bound, each_some}
 use Rattle.row_contributions.proofs.CoilFacts.{pulse_ranged, hold_ranged, item_ranged, all_flips, fires}
 use Rattle.row_contributions.proofs.Short.{AreShort-append, AreShort-under, AreShort-listens, AreShort-does, AreShort-changes, AreShort-lists}
 use Rattle.row_contributions.proofs.ShotFacts.{OfHandled, all_shot_acts, all_group_acts, all_shot_lists, all_group_lists, posts_of_shot, posts_of_group, IsFew, shot_lists_few, group_lists_few, IsShortProfile, IsShortGroup, flags_of, bank_within, IsNamedProfile, profile_named, members_named, profile_short, members_short}
 use Rattle.row_contributions.proofs.SaveFacts.{all_save_by, all_save, all_multiball_by, all_multiball, save_lists_few, multiball_lists_few}
 use Rattle.row_contributions.proofs.Opened.{AreOpened-append, AreOpened-under, AreOpened-listens, AreOpened-lists}
 use Rattle.row_contributions.proofs.Placed.{ArePlaced-append, ArePlaced-under, ArePlaced-listens, ArePlaced-effects}
+use Rattle.yaml_bytes.proofs.Each.{All-flat_map}
 
 -- ---- what contributions are like
 
@@ -773,16 +774,6 @@ module _ (machine : List SectionRows) (P : List ℕ → Type 0) (of : IsOfNames 
       (none_facts (IsNamedPlayer p) (IsShortPlayer 1024 p) (IsOpenPlace n place))))
 
   -- ---- shots
-
-  -- something that a setting names, in a table or in none
-  named_facts : (Named Short Open : Type 0) (c : Contribution) → (Named → IsFit P c) → IsPlain c → Facts P n Named Short Open (c ∷ [])
-  named_facts Named Short Open c fit plain = record {
-    names = λ h. All-cons (IsFit P) c [] (fit h) (All-nil (IsFit P));
-    lists = λ h. (plain.0, tt);
-    modes = λ h. (plain.1, tt);
-    limits = λ h. All-cons IsRight c [] plain.2 (All-nil IsRight);
-    acts = (plain.3, tt);
-  }
 
   unknown_facts : (Named Short Open : Type 0) (known : Bool) → Facts P n Named Short Open (unknown_unless known)
   unknown_facts Named Short Open x4 = search rules

@@ -6,7 +6,9 @@ use Rattle.mpf_tables.specs.SectionTables as tables
 use Rattle.mpf_sections.specs.{Rows.{Written, Switch, BlockEvents, Counter, StepBlock}, Typed.place_of}
 use Rattle.row_faults.specs.AsWritten.{put_by, ordered_by, written_before, in_order, as_written}
 use Rattle.row_faults.specs.Reserved.{switch_posts, block_posts, counter_posts, step_posts}
-use Rattle.row_faults.proofs.{None.{flat_map-none, each-All, map-All}, ByLine.{ordered-all, ordered-seen}}
+use Rattle.row_faults.proofs.{None.flat_map-none, ByLine.{ordered-all, ordered-seen}}
+use Rattle.yaml_bytes.proofs.Each.{All-from_flat_map}
+use Rattle.yaml_bytes.proofs.Each.{All-from_map}
 
 -- what is of each item of what settings have is of all that each has
 module _ {X : Type 0} (table : List Setting) (order : List ℕ) (parts : List (List ℕ × List X)) where
@@ -20,13 +22,13 @@ module _ {X : Type 0} (table : List Setting) (order : List ℕ) (parts : List (L
   unfolding in_order
   written-none e =
       let none : ℕ × List X → Type 0 = λ part. part.1 ≡ [] in
-      map-All none placed parts (ordered-all before none (map placed parts) (flat_map-none (λ (part : ℕ × List X). part.1) (ordered_by before (map placed parts)) e))
+      All-from_map none placed parts (ordered-all before none (map placed parts) (flat_map-none (λ (part : ℕ × List X). part.1) (ordered_by before (map placed parts)) e))
 
   pub written-all : (P : X → Type 0) → All P (as_written table order parts) → All (λ part. All P part.1) parts
   unfolding in_order
   written-all P h =
       let all : ℕ × List X → Type 0 = λ part. All P part.1 in
-      map-All all placed parts (ordered-all before all (map placed parts) (each-All P (λ (part : ℕ × List X). part.1) (ordered_by before (map placed parts)) h))
+      All-from_map all placed parts (ordered-all before all (map placed parts) (All-from_flat_map P (λ (part : ℕ × List X). part.1) (ordered_by before (map placed parts)) h))
 
 -- what is of all posts of a switch or of a block is of those of each setting
 module _ (P : Written → Type 0) where

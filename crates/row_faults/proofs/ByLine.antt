@@ -6,19 +6,12 @@ use Rattle.std.proofs.lemmas.List.Elements.{All-nil, All-cons, All-head, All-tai
 use Rattle.std.proofs.lemmas.List.Sorted.{IsNonDecreasingBy-from_sort, IsNonDecreasingBy-from_all_adjacent}
 use Rattle.row_faults.specs.AsWritten.{put_by, ordered_by}
 
--- what is compared as at most another number is at most that
-pub at-most : (x y : ℕ) → is_le (nat_cmp x y) ≡ true → x ≤ y
-at-most x y e = search rules
-
 module _ {X : Type 0} where
   apart : (x : X) (xs : List X) → [] ≡ x ∷ xs → ⊥
   apart x xs e = cc
 
   heads : (x y : X) (xs ys : List X) → x ∷ xs ≡ y ∷ ys → x ≡ y
   heads x y xs ys e = cc
-
-  tails : (x y : X) (xs ys : List X) → x ∷ xs ≡ y ∷ ys → xs ≡ ys
-  tails x y xs ys e = cc
 
   kept : (p : X → Bool) (x : X) (xs : List X) → p x ≡ true → filter p (x ∷ xs) ≡ x ∷ filter p xs
   kept p x xs e = rw e refl

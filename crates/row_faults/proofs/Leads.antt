@@ -22,9 +22,6 @@ module _ (devices : List BallDevice) (found : List ℕ → Option ℕ) (h : IsNu
   stays : (k n : ℕ) → n ≡ count ⊎ n ≡ count + 1 → after targets k n ≡ n
   stays k n x3 = search (rules, after-beyond, length-map)
 
-  apart : (n : ℕ) → n < count → (n == count) ≡ false
-  apart n less = ne_eqb n count (λ e. omega (arith, less, e))
-
   beyond : (count + 1 == count) ≡ false
   beyond = ne_eqb (count + 1) count (λ e. omega (arith, e))
 

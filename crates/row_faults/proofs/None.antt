@@ -5,6 +5,7 @@ use Rattle.std.proofs.lemmas.{Bool.cases_Bool, List.Elements.{All-nil, All-cons,
 use Rattle.mpf_sections.specs.Rows.{Written}
 use Rattle.row_faults.specs.{declared.fault.RowFaultKind.RowFaultKind, CoilFaults.fault_if, RowFaults.listed_once}
 use Rattle.row_faults.specs.{FaultView.RowFaultView, AsWritten.{put_by, ordered_by}}
+use Rattle.yaml_bytes.proofs.Each.{All-parts}
 
 pub filled : {X : Type 0} (x : X) (xs : List X) → x ∷ xs ≡ [] → ⊥
 filled x xs e = cc
@@ -12,9 +13,6 @@ filled x xs e = cc
 -- tests that find nothing
 pub fault_if-none : (wrong : Bool) (kind : RowFaultKind) (text : List ℕ) (w : Written) → fault_if wrong kind text w ≡ [] → wrong ≡ false
 fault_if-none x1 kind text w e = search rules
-
-pub or-none : (a b : Bool) → (a || b) ≡ false → (a ≡ false) × (b ≡ false)
-or-none x1 b e = search rules
 
 pub map-none : {X Y : Type 0} (f : X → Y) (xs : List X) → map f xs ≡ [] → xs ≡ []
 map-none f [] e = refl
@@ -56,21 +54,3 @@ ordered-none number (x ∷ xs) e = absurd (put-filled number x (ordered_by numbe
 pub once-none : (faults : List RowFaultView) → listed_once [] faults ≡ [] → faults ≡ []
 once-none [] e = refl
 once-none (f ∷ fs) e = absurd (filled f _ e)
-
--- what holds of all that each item gives
-pub All-each : {X Y : Type 0} (P : Y → Type 0) (f : X → List Y) (xs : List X) → All (λ x. All P (f x)) xs → All P (flat_map f xs)
-All-each P f [] h = All-nil P
-All-each P f (x ∷ xs) h = All-append P (f x) (flat_map f xs) (All-head (λ y. All P (f y)) x xs h) (All-each P f xs (All-tail (λ y. All P (f y)) x xs h))
-
--- the same the other way round
-All-front : {X : Type 0} (P : X → Type 0) (xs ys : List X) → All P (xs ++ ys) → All P xs × All P ys
-All-front P [] ys h = (All-nil P, h)
-All-front P (x ∷ xs) ys h = search (rules, All-tail, All-cons, All-head, All-front P xs ys (All-tail P x (xs ++ ys) h))
-
-pub each-All : {X Y : Type 0} (P : Y → Type 0) (f : X → List Y) (xs : List X) → All P (flat_map f xs) → All (λ x. All P (f x)) xs
-each-All P f [] h = All-nil (λ x. All P (f x))
-each-All P f (x ∷ xs) h = let both = All-front P (f x) (flat_map f xs) h in All-cons (λ x. All P (f x)) x xs both.0 (each-All P f xs both.1)
-
-pub map-All : {X Y : Type 0} (P : Y → Type 0) (f : X → Y) (xs : List X) → All P (map f xs) → All (λ x. P (f x)) xs
-map-All P f [] h = All-nil (λ x. P (f x))
-map-All P f (x ∷ xs) h = All-cons (λ x. P (f x)) x xs (All-head P (f x) (map f xs) h) (map-All P f xs (All-tail P (f x) (map f xs) h))

@@ -8,12 +8,8 @@ use Rattle.row_faults.specs.declared.fault.RowFaultKind.TheVariants.{BallRoute}
 use Rattle.row_faults.specs.{CoilFaults.fault_if, Sound.{IsRouted, AreRouted}}
 use Rattle.row_faults.specs.Routes.{switch_names, taken_too, all_taken, is_one_taken}
 use Rattle.row_faults.specs.BallFaults.{is_route_wrong, rest_faults, is_free, route_faults}
-use Rattle.row_faults.proofs.None.{fault_if-none, or-none, append-none}
-
--- ---- eject coils
-
-has_coil : (o : Option Written) (mechanical trough : Bool) → (is_none o && (not mechanical || trough)) ≡ false → ((is_some o || mechanical) ≡ true) × (trough ≡ true → is_some o ≡ true)
-has_coil x1 x2 x3 e = search rules
+use Rattle.row_faults.proofs.None.{fault_if-none, append-none}
+use Rattle.std.proofs.lemmas.Bool.{or_parts}
 
 -- ---- ball switches
 
@@ -29,12 +25,12 @@ other name q fails same = true≢false (sym ((bytes_eq-Decides q name).1 (sym sa
 free-more : (names more : List (List ℕ)) (is_taken : List ℕ → Bool) → is_one_taken names is_taken ≡ false → AreFree (all_taken names is_taken) more → AreFree is_taken (names ++ more)
 free-more [] more is_taken e h = h
 free-more (n ∷ ns) more is_taken e h =
-    let both = or-none (is_taken n) (is_one_taken ns (taken_too n is_taken)) e in
+    let both = or_parts (is_taken n) (is_one_taken ns (taken_too n is_taken)) e in
     let rest = free-more ns more (taken_too n is_taken) both.1 h in
     record {
       free = search rules;
       apart = AllPairs-cons (λ v w. v ≢ w) n (ns ++ more)
-          (All-weaker (λ q. taken_too n is_taken q ≡ false) (λ q. n ≢ q) (λ q no. other n q (or-none (is_taken q) (bytes_eq q n) no).1) (ns ++ more) rest.free)
+          (All-weaker (λ q. taken_too n is_taken q ≡ false) (λ q. n ≢ q) (λ q no. other n q (or_parts (is_taken q) (bytes_eq q n) no).1) (ns ++ more) rest.free)
           rest.apart;
     }
 

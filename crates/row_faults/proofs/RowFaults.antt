@@ -14,11 +14,9 @@ use Rattle.machine_definitions.specs.{GameEvents.reserved_game_events, Players.{
 use Rattle.row_faults.specs.Reserved.{mode_events, events_of_modes, posts_in}
 use Rattle.row_faults.specs.RowFaults.{name_fault, starts_at_end, timer_fault, coil_faults_in, section_faults, written_faults, text_faults, mode_faults, faults_by, listed_once}
 use Rattle.row_faults.specs.ShotFaults.{shot_faults, listed_in, misplaced}
+use Rattle.std.proofs.Math.Bool.{or-false}
 
 -- ---- sets
-
-or_false : (b : Bool) → (b || false) ≡ b
-or_false x1 = search rules
 
 -- whether a set has a name
 pub has_name : (keys : List (Vec ℕ)) (name : List ℕ) → list_any (λ (k : Vec ℕ). is_at (slice_cmp nat_cmp name) k.items) keys ≡ is_among (map (λ (k : Vec ℕ). k.items) keys) name
@@ -27,7 +25,7 @@ has_name (k ∷ keys) name = by (contains_key (λ (x : List ℕ). x) (k.items �
   where
     by : (is_at (slice_cmp nat_cmp name) k.items || false) ≡ (bytes_eq k.items name || false) → list_any (λ (k : Vec ℕ). is_at (slice_cmp nat_cmp name) k.items) keys ≡ is_among (map (λ (k : Vec ℕ). k.items) keys) name
         → (is_at (slice_cmp nat_cmp name) k.items || list_any (λ (k : Vec ℕ). is_at (slice_cmp nat_cmp name) k.items) keys) ≡ (bytes_eq k.items name || is_among (map (λ (k : Vec ℕ). k.items) keys) name)
-    by e rest = rw (sym (or_false (is_at (slice_cmp nat_cmp name) k.items)) ∙ e ∙ or_false (bytes_eq k.items name), rest) refl
+    by e rest = rw (sym (or-false (is_at (slice_cmp nat_cmp name) k.items)) ∙ e ∙ or-false (bytes_eq k.items name), rest) refl
 
 -- one name more
 pub took-name : (name : List ℕ) (keys older new : List (List ℕ)) → ((q : List ℕ) → is_among keys q ≡ is_among older q) → ((q : List ℕ) → is_among new q ≡ is_among (name ∷ keys) q)

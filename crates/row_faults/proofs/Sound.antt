@@ -20,13 +20,13 @@ use Rattle.row_faults.specs.RowFaults.{name_fault, starts_at_end, timer_fault, c
 use Rattle.row_faults.specs.BallFaults.{is_place, eject_coil_faults, target_faults, ball_device_faults, route_faults}
 use Rattle.row_faults.specs.ShotFaults.{shot_switch_faults, profile_faults, shot_faults, Listed, first_shot, listed_by, listed_in, listed_of, is_own_shot, are_of_two_profiles, is_misplaced, taken_with, taken_after, kept_if, misplaced}
 use Rattle.row_faults.specs.Sound.{ChangesNothingBarred, IsHoldWithin, IsCoilSound, IsCoilSuch, IsItemSound, IsCoilPlayerSound, IsFlipperSound, IsAutofireSound, IsRuleSound, IsShotSound, IsShotGroupSound, IsBallDeviceSound, IsSectionSound, IsSound}
-use Rattle.row_faults.proofs.None.{fault_if-none, or-none, map-none, append-none, flat_map-none, filter-none, ordered-none, once-none, All-each, each-All, map-All}
+use Rattle.row_faults.proofs.None.{fault_if-none, map-none, append-none, flat_map-none, filter-none, ordered-none, once-none}
 use Rattle.row_faults.proofs.{Called.{machine-called, mode-called}, AsWritten.written-none, Routed.route_faults-none}
-
--- ---- tests that find nothing
-
-taken : (P : ℕ → Type 0) (o : Option ℕ) (d : ℕ) → IfSome o P → P d → P (unwrap_or o d)
-taken P x2 d h p = search rules
+use Rattle.yaml_bytes.proofs.Each.{or_else}
+use Rattle.std.proofs.lemmas.Bool.{or_parts}
+use Rattle.yaml_bytes.proofs.Each.{All-flat_map}
+use Rattle.yaml_bytes.proofs.Each.{All-from_flat_map}
+use Rattle.yaml_bytes.proofs.Each.{All-from_map}
 
 -- ---- settings
 
@@ -60,7 +60,7 @@ module _ (machine : List SectionRows) (all : All IsCoilSound (flat_map coils_in 
   item-sound i range e = by (coil_called machine i.coil.text) refl e
     where
       by : (o : Option Coil) → coil_called machine i.coil.text ≡ o → item_faults_by text i o ≡ [] → IsItemSound machine i
-      by x1 is e = search (rules, append-none, or-none, fault_if-none, rules, taken, not-false, sound, ltb-false)
+      by x1 is e = search (rules, append-none, or_parts, fault_if-none, rules, or_else, not-false, sound, ltb-false)
 
   player-sound : (p : CoilPlayer) → IsCoilPlayerInRange p → coil_player_faults machine text p ≡ [] → IsCoilPlayerSound machine p
   player-sound p range e = let none = flat_map-none (item_faults machine text) p.items e in λ i d within. item-sound (get_or p.items i d) (range i d within) (none i d within)
@@ -132,20 +132,20 @@ listed-own : (rows : Rows) (is_own is_taken : List ℕ → Bool) (ls : List List
 listed-own rows is_own is_taken [] e = All-nil (λ l. is_own l.shot.text ≡ true)
 listed-own rows is_own is_taken (l ∷ ls) e =
     let both = kept-none (is_misplaced rows is_own is_taken l) l.shot (misplaced rows is_own (taken_with l is_taken) ls) e in
-    let front = or-none (not (is_own l.shot.text) || is_taken l.shot.text) (are_of_two_profiles l.first (shot_called rows l.shot.text)) both.0 in
-    let other = or-none (not (is_own l.shot.text)) (is_taken l.shot.text) front.0 in
+    let front = or_parts (not (is_own l.shot.text) || is_taken l.shot.text) (are_of_two_profiles l.first (shot_called rows l.shot.text)) both.0 in
+    let other = or_parts (not (is_own l.shot.text)) (is_taken l.shot.text) front.0 in
     All-cons (λ l. is_own l.shot.text ≡ true) l ls (not-false (is_own l.shot.text) other.0) (listed-own rows is_own (taken_with l is_taken) ls both.1)
 
 module _ (rows : Rows) (is_own : List ℕ → Bool) (called : (name : List ℕ) → is_own name ≡ true → is_some (shot_called rows name) ≡ true) where
   group-sound : (g : ShotGroup) → All (λ l. is_own l.shot.text ≡ true) (listed_by rows g) → IsShotGroupSound rows g
   group-sound g own =
       All-weaker (λ w. is_own w.text ≡ true) (λ w. is_some (shot_called rows w.text) ≡ true) (λ w e. called w.text e) g.shots
-      (map-All (λ l. is_own l.shot.text ≡ true) (λ w. record { first = first_shot rows g.shots; shot = w }) g.shots own)
+      (All-from_map (λ l. is_own l.shot.text ≡ true) (λ w. record { first = first_shot rows g.shots; shot = w }) g.shots own)
 
   groups-sound : (s : SectionRows) → All (λ l. is_own l.shot.text ≡ true) (listed_in rows s) → All (IsShotGroupSound rows) (shot_groups_in s)
   groups-sound s own =
       All-weaker (λ g. All (λ l. is_own l.shot.text ≡ true) (listed_by rows g)) (IsShotGroupSound rows) group-sound (shot_groups_in s)
-      (each-All (λ l. is_own l.shot.text ≡ true) (listed_by rows) (shot_groups_in s) own)
+      (All-from_flat_map (λ l. is_own l.shot.text ≡ true) (listed_by rows) (shot_groups_in s) own)
 
 -- ---- sections
 
@@ -223,7 +223,7 @@ module _ (modes : List (List ℕ)) (rows : Rows) (is_own : List ℕ → Bool) (t
   -- no post of the sections is reserved
   text-free : (sections : List SectionRows) → All HasNone sections → All (λ w. is_reserved_by modes w.text ≡ false) (posts_of sections)
   text-free sections h =
-      All-each (λ w. is_reserved_by modes w.text ≡ false) posts_in sections
+      All-flat_map (λ w. is_reserved_by modes w.text ≡ false) posts_in sections
       (All-weaker HasNone (λ s. All (λ w. is_reserved_by modes w.text ≡ false) (posts_in s)) (λ s k. filter-none (λ w. is_reserved_by modes w.text) (posts_in s) k.posts) sections h)
 
 -- ---- all texts
@@ -271,7 +271,7 @@ no_faults_sound rows none =
     let own : TextHasNone modes rows machine_name machine = text-none modes rows is_none_taken machine_name machine parts.0 in
     let each : All (ModeHasNone modes rows) rows.modes = modes-none modes rows later rows.modes parts.1 in
     let text_of = λ (m : ModeRows). mode_text_name m.name in
-    let all = All-each IsCoilSound coils_in machine
+    let all = All-flat_map IsCoilSound coils_in machine
     (All-weaker (HasNone modes rows (is_own_shot machine) machine_name) (λ s. All IsCoilSound (coils_in s)) (coils-sound modes rows (is_own_shot machine) machine_name) machine own) in
     record {
       posts = record {

@@ -4,7 +4,8 @@ use Rattle.std.specs.{List.{AllPairs, AllByRecursion, IsDistinct, list_any}, Str
 use Rattle.std.proofs.lemmas.List.{take_all, Elements.All-from_recursion, Folds.list_any_none}
 use Rattle.std.proofs.lemmas.Map.Keys.{IsDistinct-head, IsDistinct-tail, IsDistinct-cons, IsDistinct-from_apart}
 use Rattle.std.proofs.lemmas.{Map.Made.{AllPairs-from_IsDistinct, IsDistinct-from_AllPairs}, Slice.Eq.bytes_eq-Decides}
-use Rattle.section_tables.{specs.Reading.are_apart, proofs.Finding.cut}
+use Rattle.section_tables.specs.Reading.{are_apart}
+use Rattle.std.proofs.lemmas.List.{drop_more}
 
 -- ---- what it means
 
@@ -52,7 +53,7 @@ module _ {X Y : Type 0} (view : X → Y) (own : Y → List ℕ) where
       → list_any (λ y. bytes_eq (own (view x)) (own (view y))) (take (length xs - (i + 1)) (drop (i + 1) xs)) ≡ again
       → are_apart (names (drop i xs)) ≡ not again && are_apart (names (drop (i + 1) xs))
   apart_from xs i x lt is again e =
-      let here : drop i xs ≡ x ∷ drop (i + 1) xs = cut xs i x lt ∙ ap (λ z. z ∷ drop (i + 1) xs) (sym is) in
+      let here : drop i xs ≡ x ∷ drop (i + 1) xs = drop_more xs i x lt ∙ ap (λ z. z ∷ drop (i + 1) xs) (sym is) in
       let behind = take_all (length xs - (i + 1)) (drop (i + 1) xs) (omega (arith, length-drop (i + 1) xs)) in
       let said = rw behind at e in
       rw (here, passes_seen (bytes_eq (own (view x))) (drop (i + 1) xs), said) refl

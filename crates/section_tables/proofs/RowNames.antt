@@ -40,9 +40,6 @@ module _ {T : Type 0} (key_of : T → List ℕ) (Q : T → Type 0) (key : List �
   Holds None = Unit {0}
   Holds (Some p) = Q p.1
 
-  behind : (o : Option (ℕ × T)) → Holds o → Holds (behind_one o)
-  behind x1 h = search rules
-
   found_by : (s : T) (ss : List T) (b : Bool) → bytes_eq (key_of s) key ≡ b → Q s → Holds (found_in key_of key ss) → Holds (found_in key_of key (s ∷ ss))
   found_by s ss x3 e q h = search rules
 

@@ -8,7 +8,9 @@ use Rattle.mpf_values.proofs.NameTexts.{IsName-from_is_name, is_name-from_IsName
 use Rattle.section_tables.specs.{Rows.{Plain, flag, number, time, power, event}, Reading.{keep, is_one_of, scalar_of}}
 use Rattle.section_tables.specs.Kinds.{Scalar, a_flag, number_within, time_within, a_power, one_of, a_name, an_event}
 use Rattle.section_tables.specs.{Entries.handled_at, EntryOf.{within, IsOneOf, IsScalar}}
-use Rattle.section_tables.proofs.{Steps.is_word, Options.{gave, kept}}
+use Rattle.section_tables.proofs.Options.{gave, kept}
+use Rattle.yaml_bytes.proofs.Words.{is_word}
+use Rattle.std.proofs.lemmas.Bool.{and_parts}
 
 among_by : (xs : List (List ℕ)) (w : List ℕ) (x : List ℕ) (b : Bool) → bytes_eq x w ≡ b → is_one_of (x ∷ xs) w ≡ true → (is_one_of xs w ≡ true → IsOneOf xs w) → IsOneOf (x ∷ xs) w
 unfolding is_one_of
@@ -29,11 +31,8 @@ among_complete [] w h = absurd h
 among_complete (x ∷ xs) w (inl e) = rw (is_word x w (sym e)) refl
 among_complete (x ∷ xs) w (inr h) = among_again xs w x (bytes_eq x w) refl (among_complete xs w h)
 
-both : (a b : Bool) → a && b ≡ true → (a ≡ true) × (b ≡ true)
-both x1 b e = search rules
-
 between : (least ms greatest : ℕ) → (nat_le least ms && nat_le ms greatest) ≡ true → (least ≤ ms) × (ms ≤ greatest)
-between least ms greatest h = let a = both (nat_le least ms) (nat_le ms greatest) h in (leb-true least ms a.0, leb-true ms greatest a.1)
+between least ms greatest h = let a = and_parts (nat_le least ms) (nat_le ms greatest) h in (leb-true least ms a.0, leb-true ms greatest a.1)
 
 is_between : (least ms greatest : ℕ) → least ≤ ms → ms ≤ greatest → (nat_le least ms && nat_le ms greatest) ≡ true
 is_between least ms greatest h k = rw (le-leb least ms h, le-leb ms greatest k) refl

@@ -10,9 +10,12 @@ use Rattle.section_tables.specs.Kinds.{Scalar, Bounds, at_least, fits, Field, Ki
 use Rattle.section_tables.specs.{Entries.{pairs_below, written_at}, Tables.{field_key, field_default, field_lacks}}
 use Rattle.section_tables.specs.EntryOf.{IsWritten, IsHandled, AreNodes, IsField, pass, IsFieldRow, AreFields, own_name, HaveOwnNames, IsKeyedRow, IsKeyed, AreKeyed, IsStep, IsValue}
 use Rattle.section_tables.specs.Reading.{most_items, IsReadOrLong, ◌>>=◌, key_spot, each_read, plain_at, written_in, handled_in, listed_at, nodes_at, field_at, fields_row_at, fields_at, are_apart, named_maps_at, keyed_row_at, keyed_at, few_pairs_at, keyed_list_at, value_at}
-use Rattle.section_tables.proofs.{Steps.{bind_ok, guard_true, ok_is}, RowsRead.{row_sound, row_complete}}
+use Rattle.section_tables.proofs.RowsRead.{row_sound, row_complete}
 use Rattle.section_tables.proofs.{Outcomes.{then_or, each_sound, each_or}, Apart.{apart_sound, apart_complete}}
 use Rattle.section_tables.proofs.ListValues.{plain_sound, plain_complete, name_sound, name_complete, handled_sound, handled_complete, listed_sound, counted_sound, counted_complete, listed_complete, nodes_sound, nodes_complete}
+use Rattle.yaml_bytes.proofs.Steps.{bind_ok}
+use Rattle.yaml_bytes.proofs.Steps.{guard_true}
+use Rattle.yaml_bytes.proofs.Steps.{ok_is}
 
 -- ---- maps
 

@@ -72,8 +72,6 @@ module _ (switch : SwitchId) (level : Bool) (now : ℕ) (s : SwitchesView) where
 -- ---- what is due is accepted
 
 module _ (switch : SwitchId) (s : SwitchesView) where
-  pub accept-other : (n : SwitchId) → n.0 ≢ switch.0 → due_of (accept switch s) n ≡ due_of s n
-  accept-other n = due-other s switch (fired (kind_at s switch) (state_at s switch)) n
 
   pub accept-done : due_of (accept switch s) switch ≡ None
   accept-done = due-none s switch (fired (kind_at s switch) (state_at s switch)) refl
@@ -83,9 +81,6 @@ module _ (switch : SwitchId) (s : SwitchesView) where
   accept-due n due is = search (rules, due-set, none-some)
 
   module _ (at : ℕ) (next : IsNextDue s at switch) where
-    -- what is due then comes later, or at the same moment with a greater number
-    pub accept-later : (n : SwitchId) (due : ℕ) → due_of (accept switch s) n ≡ Some due → (at < due) ⊎ ((at ≡ due) × (switch.0 < n.0))
-    accept-later n due is = search (rules, accept-due, cases_eq, slice_index_or, none-some, accept-done)
 
     -- it is what a fire accepts and reports
     pub fire-accepts : after_fire s ≡ accept switch s

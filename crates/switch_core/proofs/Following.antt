@@ -29,8 +29,6 @@ followed-idle : (kind : SwitchKind) → IsFollowed kind [] (idle kind) 0
 followed-idle kind = record { levels = λ later h. refl; ahead = λ due is. omega arith }
 
 module _ (kind : SwitchKind) (past : List RawChange) (x : SwitchState) (moment now : ℕ) where
-  followed-later : moment ≤ now → ((due : ℕ) → x.due ≡ Some due → now ≤ due) → IsFollowed kind past x moment → IsFollowed kind past x now
-  followed-later forward ahead f = record { levels = λ later h. f.levels later (omega arith); ahead = ahead }
 
   followed-fired : x.due ≡ Some now → moment ≤ now → IsFollowed kind past x moment → IsFollowed kind past (fired kind x) now
   followed-fired due forward f = search rules

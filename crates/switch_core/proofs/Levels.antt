@@ -5,9 +5,7 @@ use Rattle.std.proofs.lemmas.{Bool.{le-leb, leb-true}, List.Folds.list_all-appen
 use Rattle.plan_tables.specs.declared.entries.SwitchKind.{SwitchKind}
 use Rattle.switch_core.specs.SwitchStep.{is_active}
 use Rattle.switch_core.specs.AcceptedLevel.{RawChange, delay_of, standing, is_delay_over, accepted_level}
-
-and-true : (b : Bool) → (b && true) ≡ b
-and-true b = search rules
+use Rattle.std.proofs.Math.Bool.{and-true}
 
 filter-cond : (f : RawChange → Bool) (b : Bool) (xs ys : List RawChange) → filter f (cond b xs ys) ≡ cond b (filter f xs) (filter f ys)
 filter-cond f b xs ys = search rules

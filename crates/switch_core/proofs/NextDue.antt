@@ -112,9 +112,6 @@ next_due-least s at n is = subst (IsDueIn s) is (next_due-is_due s)
 quiet-where : (s : SwitchesView) (moment : ℕ) (o : Option (ℕ × SwitchId)) → IsDueIn s o → option_map_or (λ d. nat_le d.0 moment) o false ≡ false → IsNothingDueBy s moment
 quiet-where s moment o x1 later = search rules
 
-not_due-where : (s : SwitchesView) (moment : ℕ) (o : Option (ℕ × SwitchId)) → IsDueIn s o → IsNothingDueBy s moment → option_map_or (λ d. nat_le d.0 moment) o false ≡ false
-not_due-where s moment o x1 quiet = search rules
-
 -- as what is due next says it
 pub not_due-quiet : (s : SwitchesView) (moment : ℕ) → option_map_or (λ d. nat_le d.0 moment) (next_due s) false ≡ false → IsNothingDueBy s moment
 not_due-quiet s moment = quiet-where s moment (next_due s) (next_due-is_due s)

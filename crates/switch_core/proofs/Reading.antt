@@ -9,9 +9,6 @@ use Rattle.switch_core.proofs.DueMoments.{state-other, state-same, set-past, idl
 
 -- ---- one switch
 
-twice : (a : Bool) → not (not a) ≡ a
-twice a = search rules
-
 -- a change that is not accepted at once changes no level
 untaken-same : (kind : SwitchKind) (now : ℕ) (level : Bool) (x : SwitchState) → is_taken kind level x ≡ false → (changed kind now level x).active ≡ x.active
 untaken-same kind now level x is = search rules

@@ -295,7 +295,6 @@ module _ (plan : PlanView) (valid : IsValid plan) where
   -- so no stimulus goes backwards
   pub forward : (stimulus : Stimulus) (s : Machine) → IsNothingLate s → IsAllowed plan s stimulus → s.moment ≤ moment_of stimulus
   forward stimulus s h allowed = search rules
-  -- ---- every switch has a state
 
 module _ (plan : PlanView) where
   pub has_states-step : (s t : Machine) → EventStep plan s t → HasStates plan s → HasStates plan t

@@ -76,9 +76,6 @@ one-no x y not = search rules
 pub one-yes : (x y : Bool) → y ≡ true → one (x && y) ≡ one x
 one-yes x y is = search rules
 
-can : (c : LedgerCall) (l : Ledger) → MayBook c l → can_book c l ≡ true
-can c l may = search rules
-
 pub surely_booked : (P : Machine → Type 0) (owner : Owner) (c : LedgerCall) (s : Machine) → MayBook c s.ledger
     → P (write owner (lines.Balls (booked c s.ledger) (counts_of (after_call c s.ledger))) (set_ledger (after_call c s.ledger) s))
     → P (book owner c s)

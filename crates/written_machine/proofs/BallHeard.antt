@@ -40,6 +40,7 @@ use Rattle.written_machine.proofs.BallLevels.{Follows, first-follows, not_yet, I
 use Rattle.written_machine.proofs.BallCounting.{is_for, is_heard, row-count}
 use Rattle.written_machine.proofs.BallSteady.{ball_of, switches_at, IsSteady, answer-steady, telling-steady, plays-steady, no_call-keeping}
 use Rattle.written_machine.proofs.BallListeners.{ball_switch, heard-all, switches-apart, IsListener, IsNotedBy, listeners-noted}
+use Rattle.yaml_bytes.proofs.Each.{none_of}
 
 -- ---- one ball switch
 
@@ -88,9 +89,6 @@ leads-on : (before : Bool) (cs : List LevelChange) (level : Bool) (c : LevelChan
     → LeadTo before (cs ++ c ∷ []) now
 leads-on before [] level c now h other is = (other ∙ ap not h, is)
 leads-on before (b ∷ cs) level c now h other is = (h.0, leads-on b.active cs level c now h.1 other is)
-
-none-from : (o : Option ℕ) → ((at : ℕ) → o ≡ Some at → ⊥) → o ≡ None
-none-from o h = search rules
 
 -- ---- all ball switches
 
@@ -412,7 +410,7 @@ module _ (plan : PlanView) where
 
     quick-after : (s : Machine) → HasStates plan s → ((m : SwitchId) → quick_at m ≡ true → due_of s.switches m ≡ None) → (n : SwitchId) (level : Bool) (at : ℕ)
         → (m : SwitchId) → quick_at m ≡ true → due_of (after_change n level at s.switches) m ≡ None
-    quick-after s states quick n level at m fast = search (rules, none-from, due-set, none-some, kind-is)
+    quick-after s states quick n level at m fast = search (rules, none_of, due-set, none-some, kind-is)
 
     begin-heard : (before : List Line) (stimulus : Stimulus) (s : Machine) → IsAllowed plan s stimulus → IsFollowed before s
         → AreHeard ((before ++ s.lines) ++ (begin plan stimulus s).lines) (begin plan stimulus s)
@@ -444,7 +442,7 @@ module _ (plan : PlanView) where
         let v = accept n s.switches in
         accepted-heard ls s v n (reported v n).active at h.heard h.calm (forward plan valid (Alarm at (switch n)) s h.late allowed)
         (λ m t due. inl (accept-due n s.switches m t due)) (accept-done n s.switches)
-        (λ m fast. none-from (due_of v m) (λ t due. none-some t (sym (h.heard.quick m fast) ∙ accept-due n s.switches m t due)))
+        (λ m fast. none_of (due_of v m) (λ t due. none-some t (sym (h.heard.quick m fast) ∙ accept-due n s.switches m t due)))
         (λ fast. absurd (none-some at (sym (h.heard.quick n fast) ∙ allowed.0.due)))
         (λ normal. (allowed.0.due, λ source t due. allowed-first plan valid (Alarm at (switch n)) s allowed source t due))
         refl (accept-other_level s.switches n at h.heard.reads (switch_lists.due-within s.switches n at allowed.0.due) allowed.0.due)

@@ -5,11 +5,9 @@ use Rattle.plan_tables.specs.declared.devices.BallSettings.{BallSettings}
 use Rattle.device_objects.specs.{declared.state.BallSwitch.BallSwitch, BallDevice.{empty, noted}}
 use Rattle.written_machine.specs.SwitchLines.{LevelChange}
 use Rattle.written_machine.specs.Counted.{counts_from, is_late, not_undone, level_after, counted_level}
+use Rattle.std.proofs.Math.Bool.{and-true}
 
 -- ---- one change more
-
-and-true : (b : Bool) → (b && true) ≡ b
-and-true b = search rules
 
 filter-cond : (f : LevelChange → Bool) (b : Bool) (xs ys : List LevelChange) → filter f (cond b xs ys) ≡ cond b (filter f xs) (filter f ys)
 filter-cond f b xs ys = search rules

@@ -38,7 +38,8 @@ use Rattle.written_machine.specs.SwitchLines.{change_at, changes_of}
 use Rattle.written_machine.specs.EventStep.{taken, do_before, do_after, is_kept, before_handlers, after_event, handlers_in}
 use Rattle.plan_tables.specs.declared.devices.Telling.{Telling, TheVariants.{Arrived, Wanted}}
 use Rattle.written_machine.specs.Machine.{Machine, write, post, set_mode, set_device, set_coils, set_players, set_game, all_do, release_ball_end, start_mode, stop_mode, told, ask_coil, release_coil, release_coils, tell_change, do_action_by, do_list_by, world_of, device_at, called, tell_first, call_device, call_devices, do_target, do_handler, write_final, write_finals, ask_ball, do_step, tell_listener, tell_listeners, confirm_on_playfield, do_action, do_list, end_multiballs, first_active_save, want_balls, step_game, drain_ball, do_game}
-use Rattle.written_machine.proofs.Feeding.{All-at, multiballs-within, first_active_save-is}
+use Rattle.written_machine.proofs.Feeding.{multiballs-within, first_active_save-is}
+use Rattle.std.proofs.lemmas.List.Elements.{All-contains}
 
 -- ---- what does not concern balls
 
@@ -359,7 +360,7 @@ module _ (plan : PlanView) where
       drained-plays s None is = both (step-plays (step_now plan BallDrain s) s) (ends-play (step_game plan BallDrain s))
       drained-plays s (Some r) is =
           let first = first_active_save-is plan s r is in
-          let saves = All-at (λ q. is_save (row_at plan q).settings ≡ true) (save_rows plan) r (filter_passes (λ q. is_save (row_at plan q).settings) (row_numbers plan)) first.listed in
+          let saves = All-contains (λ q. is_save (row_at plan q).settings ≡ true) (save_rows plan) r (filter_passes (λ q. is_save (row_at plan q).settings) (row_numbers plan)) first.listed in
           saves-play r first.there saves s
 
       game-plays : (which : GameEvent) (s : Machine) → Plays plan may s (do_game plan which s)

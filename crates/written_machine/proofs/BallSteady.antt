@@ -46,10 +46,6 @@ IsKeeping _ = ⊥
 pub no_call-keeping : (call : Call) → IsNoCall call → IsKeeping call
 no_call-keeping call none = absurd none
 
-module _ (d : BallSettings) where
-  confirm-switches : (now : ℕ) (eject : Eject) (b : BallState) → (confirm d now eject b).0.switches ≡ b.switches
-  confirm-switches now eject b = search rules
-
 module _ (plan : PlanView) where
   pub other-steady : {s t : Machine} → IsOther plan s t → IsSteady plan s t
   other-steady other = search rules
@@ -70,8 +66,6 @@ module _ (plan : PlanView) where
   book-steady owner c s = search (rules, book-by, flat_map-append, append-nil, nothing-steady)
 
   module _ (tell : Telling → Machine → Machine) (tells : (telling : Telling) (s : Machine) → IsSteady plan s (tell telling s)) where
-    drain-steady : (owner : Owner) (drain : Bool) (s : Machine) → IsSteady plan s (drain_if plan owner drain s)
-    drain-steady owner drain s = search rules
 
     entry-steady : (owner : Owner) (r : RowId) (drain : Bool) (o : Origin) (s : Machine) → IsSteady plan s (after_entry plan tell owner r drain o s)
     entry-steady owner r drain o s = search rules

@@ -69,9 +69,6 @@ pub record IsBegun (s : BallState) (a : BallState × List ℕ) : Type 0 where
   pub same : IsSame s a.0
   pub quiet : AreQuiet a.1
 
-not_away : (e : Eject) → is_idle e ≡ true → is_away e ≡ false
-not_away e is = search rules
-
 module _ (d : BallSettings) where
   pub begin-begun : (now : ℕ) (s : BallState) → IsBegun s (begin d now s)
   begin-begun now s = search rules

@@ -9,6 +9,7 @@ use Rattle.plan_tables.specs.declared.entries.Owner.TheVariants as owners
 use Rattle.plan_tables.{proofs.Owners.row_numbers-within, specs.BallRows.IsOwnBallDevice}
 use Rattle.written_machine.specs.Devices.{ActsAreOwn}
 use Rattle.written_machine.specs.Machine.{Machine, device_at, first_away, is_device_away, told_device, first_active_save, is_active_save}
+use Rattle.std.proofs.lemmas.List.Elements.{All-contains}
 
 -- ---- what is found in a list
 
@@ -22,10 +23,6 @@ found p (y ∷ ys) x is = by (p y) refl (found p ys x) is
     by false passes rest later =
         let (there, passes_too) = rest later in
         ((suc there.0, let within = there.1 in omega (arith, within), there.2), passes_too)
-
--- what holds of all holds of one of them
-pub All-at : {X : Type 0} (P : X → Type 0) (xs : List X) (x : X) → All P xs → Contains xs x → P x
-All-at P xs x all (i, within, is) = subst P is (all i x within)
 
 -- ---- ball devices
 
@@ -52,7 +49,7 @@ module _ (plan : PlanView) where
     pub owner : ActsAreOwn plan → (row_at plan r).owner ≡ owners.Machine
 
   pub first_away-is : (target : BallTarget) (s : Machine) (r : RowId) → first_away plan target s ≡ Some r → IsFirstAway target s r
-  first_away-is target s r is = search (rules, found, All-at, filter_passes, feeders-within, feeds-own, ball_row-own)
+  first_away-is target s r is = search (rules, found, All-contains, filter_passes, feeders-within, feeds-own, ball_row-own)
 
   -- the first trough is a device of the plan, and the machine's
   pub record IsFirstTrough (r : RowId) : Type 0 where
@@ -61,7 +58,7 @@ module _ (plan : PlanView) where
     pub owner : ActsAreOwn plan → (row_at plan r).owner ≡ owners.Machine
 
   pub first_trough-is : (r : RowId) → first_trough plan ≡ Some r → IsFirstTrough r
-  first_trough-is r is = search (rules, found, All-at, row_numbers-within, trough-own, ball_row-own)
+  first_trough-is r is = search (rules, found, All-contains, row_numbers-within, trough-own, ball_row-own)
 
   -- who is told something is a device of the plan, and the machine's
   pub record IsToldDevice (r : RowId) : Type 0 where
@@ -86,4 +83,4 @@ module _ (plan : PlanView) where
     pub active : is_active_save (device_at s r) ≡ true
 
   pub first_active_save-is : (s : Machine) (r : RowId) → first_active_save plan s ≡ Some r → IsFirstSave s r
-  first_active_save-is s r is = search (rules, found, All-at, saves-within, none-some)
+  first_active_save-is s r is = search (rules, found, All-contains, saves-within, none-some)

@@ -27,17 +27,6 @@ pub told-grows : (owner : Owner) (player : ℕ) (v : VariableId) (e : EventId) (
 told-grows owner player v e value s = search (rules, length-append)
 
 module _ (plan : PlanView) where
-  pub book-grows : (owner : Owner) (call : LedgerCall) (s : Machine) → Grows s (book owner call s)
-  book-grows owner call s = grows-move plan (Booked owner call) s
-
-  pub drain-grows : (owner : Owner) (drain : Bool) (s : Machine) → Grows s (drain_if plan owner drain s)
-  drain-grows owner drain s = search (rules, post-grows)
-
-  -- where each telling adds
-  module _ (tell : Telling → Machine → Machine) (tells : (telling : Telling) (s : Machine) → Grows s (tell telling s)) where
-    pub entry-grows : (owner : Owner) (r : RowId) (drain : Bool) (origin : Origin) (s : Machine) → Grows s (after_entry plan tell owner r drain origin s)
-    entry-grows owner r drain Awaited s = tells (Arrived (Device r)) s
-    entry-grows owner r drain _ s = drain-grows owner drain s
 
   -- whoever takes part
   pub handler-grows : (place : BindingId) (s : Machine) → Grows s (do_handler plan place s)

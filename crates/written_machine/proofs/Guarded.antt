@@ -67,13 +67,7 @@ sendings-push ls l = flat_map-append sent_in ls (l ∷ []) ∙ ap (λ ss. sendin
 
 -- ---- a skipped command is idle
 
-none-due : (b : Bool) (p : Sending) → sent_if b p ≡ [] → b ≡ false
-none-due b p is = search rules
-
 module _ (limits : List CoilLimits) (sent : List Sending) (s : List CoilState) (now : ℕ) (f : Follows limits sent s now) (owner : Owner) where
-  -- what is due is nothing
-  nothing-due : (command : Command) → sent_by (call_for command owner now) s ≡ [] → due_by limits sent (call_for command owner now) ≡ []
-  nothing-due command none = search rules
 
   skipped-idle : (command : Command) → IsWithin limits command → answer_asking command owner now s ≡ answers.Skipped → IsIdle sent now command
   skipped-idle command within skipped = search rules

@@ -29,8 +29,6 @@ off-not plan owner coil =
       | inr past ↦ let count = length-map (limits_of plan) off in past-not owner (all_off (limits_of plan)) coil (omega (arith, past, count))
     ]
 
--- ---- a coil is set
-
 -- ---- a coil is asked
 
 pub asked-count : (owner : Owner) (command : Command) (now : ℕ) (coils : List CoilState) → length (after_asking command owner now coils) ≡ length coils
@@ -43,7 +41,7 @@ asked-held owner command now coils o c = search (rules, cases_lt, cases_eq, get_
 -- ---- coils are released
 
 -- a coil that is held is on
-held-on : (owner : Owner) (now : ℕ) (x : CoilState) → is_held_by owner x ≡ true → is_on_at now x ≡ true
+pub held-on : (owner : Owner) (now : ℕ) (x : CoilState) → is_held_by owner x ≡ true → is_on_at now x ≡ true
 held-on owner now x is = search rules
 
 module _ (owner : Owner) where

@@ -13,15 +13,6 @@ same-is_owner owner = search rules
 
 -- ---- what is in lists
 
--- an item by its place, whatever stands in where there is none
-get_or-there : {X : Type 0} (xs : List X) (k : ℕ) (d e : X) → k < length xs → get_or xs k e ≡ get_or xs k d
-get_or-there [] k d e there = absurd (omega arith)
-get_or-there (x ∷ xs) zero d e there = refl
-get_or-there (x ∷ xs) (suc k) d e there = get_or-there xs k d e (omega arith)
-
-pub contains-at : {X : Type 0} (xs : List X) (k : ℕ) (d : X) → k < length xs → Contains xs (get_or xs k d)
-contains-at xs k d there = (k, there, get_or-there xs k d (get_or xs k d) there)
-
 pub contains-flat_map : {X Y : Type 0} (f : X → List Y) (xs : List X) (x : X) (y : Y) → Contains xs x → Contains (f x) y → Contains (flat_map f xs) y
 contains-flat_map f [] x y (i, within, is) has = absurd (omega arith)
 contains-flat_map f (z ∷ xs) x y (zero, within, is) has = Contains-append_left (f z) (flat_map f xs) y (subst (λ w. Contains (f w) y) (sym is) has)

@@ -39,9 +39,10 @@ use Rattle.written_machine.specs.{StimulusCost.cost_of_stimulus, CoilActions.{Ke
 use Rattle.written_machine.specs.Devices.{ActsAreOwn, IsOwnAct, IsOwnListener}
 use Rattle.written_machine.specs.FreePosts.{IsFree, IsFreeAction, IsFreeSwitch, PostsAreFree}
 use Rattle.written_machine.proofs.{Feeding.told_device-is, Does.{each_now, all_do-does, all_do-does_now, does-weaker}}
-use Rattle.written_machine.proofs.Listed.{binding-among, row-among, contains-at, enable-listed}
+use Rattle.written_machine.proofs.Listed.{binding-among, row-among, enable-listed}
 use Rattle.written_machine.specs.Moves.{Move, Wrote, Sent, Switched, Began, Ended, Marked, Released, Turned, Asked, Booked, Varied, Stepped, AddedBalls, step_now, do_move, MayHold, Licence, MayDo, IsFreeThere, Does, quiet, moved, both, less, IsMachine, ordinary, MayHandle, Begins, MayBegin, working, MayWork}
 use Rattle.player_game.proofs.DrainEvent.{drain-is}
+use Rattle.std.proofs.lemmas.List.Elements.{Contains-get_or}
 
 -- ---- what is in a plan
 
@@ -97,7 +98,7 @@ module _ (plan : PlanView) where
       elim (cases_lt place.0 (length plan.bindings)) [
         | inl within ↦
             its-own (binding_at plan place).owner (get_or (actions_at plan l) k d)
-            (binding-among plan (binding_at plan place) l (get_or (actions_at plan l) k d) (contains-at plan.bindings place.0 no_binding within) is (contains-at (actions_at plan l) k d there))
+            (binding-among plan (binding_at plan place) l (get_or (actions_at plan l) k d) (Contains-get_or plan.bindings place.0 no_binding within) is (Contains-get_or (actions_at plan l) k d there))
         | inr past ↦ subst (λ b. IsItsOwn b.owner (get_or (actions_at plan l) k d)) (sym (get_or_past plan.bindings place.0 no_binding past)) tt
       ]
 
@@ -107,7 +108,7 @@ module _ (plan : PlanView) where
       elim (cases_lt r.0 (length plan.rows)) [
         | inl within ↦
             its-own (row_at plan r).owner (get_or (actions_at plan (list_of_row plan r n)) k d)
-            (row-among plan r n (get_or (actions_at plan (list_of_row plan r n)) k d) within below (contains-at (actions_at plan (list_of_row plan r n)) k d there))
+            (row-among plan r n (get_or (actions_at plan (list_of_row plan r n)) k d) within below (Contains-get_or (actions_at plan (list_of_row plan r n)) k d there))
         | inr past ↦ subst (λ row. IsItsOwn row.owner (get_or (actions_at plan (list_of_row plan r n)) k d)) (sym (get_or_past plan.rows r.0 no_row past)) tt
       ]
 

@@ -31,8 +31,6 @@ pub record Holds (plan : PlanView) (m : ModeId) (on : Bool) (front : List ModeEv
   pub speaks : is_running phase ≡ true → on ≡ true
 
 module _ (plan : PlanView) (m : ModeId) where
-  stays : (which : ModeEvent) → IsNoEnd which → heard_at which true ≡ true
-  stays which h = search rules
 
   goes_on : (w : Work) (c : List ModeEvent) (xs : List Said) → (AllByRecursion IsNoEnd c → heard m true xs ≡ true) → AllByRecursion IsNoEnd (mine m w c) → heard m (heard_after m true w) xs ≡ true
   goes_on w c xs next h = search rules

@@ -1,4 +1,5 @@
 pub mod Steps
+pub mod Each
 pub mod AllBytes
 pub mod Trimming
 pub mod PlainTexts
@@ -6,3 +7,5 @@ pub mod Spaces
 pub mod WrittenNumbers
 pub mod TextLines
 pub mod Searching
+pub mod Writing
+pub mod Words

@@ -1,11 +1,11 @@
 -- Numbers are read as digits write them.
-use Rattle.std.proofs.Common.{◌≡◌, ℕ, ◌^◌, ◌<◌, nat_lt, true, false, Option, Some, None, Result, List, length, sym, ◌∙◌, rules}
+use Rattle.std.proofs.Common.{◌≡◌, ℕ, ◌^◌, ◌<◌, nat_lt, true, false, Some, None, Result, List, length, sym, ◌∙◌, rules}
 use Rattle.std.specs.{List.list_all, Char.is_ascii_digit, Str.{IsUtf8, Parse.ParsesUnsigned}}
 use Rattle.std.specs.Result.{result_ok, OkIff, MatchResult}
 use Rattle.std.proofs.lemmas.{Bool.{and_parts, ltb-true, lt-ltb, false≢true}, Fmt.IsAscii-from_digits, Option.cond_some}
 use Rattle.std.proofs.lemmas.Str.{IsUtf8-from_ascii, Parse.{IsNumeralModel, numerals_by_weight, parse_digits}}
 use Rattle.yaml_bytes.specs.Numbers.{value_of_digits, IsNumber, number_at}
-use Rattle.yaml_bytes.proofs.AllBytes.{Are-from_list_all, list_all-from_Are}
+use Rattle.yaml_bytes.proofs.{AllBytes.{Are-from_list_all, list_all-from_Are}, Each.none_of}
 
 -- ---- digits, as `parse` has them
 
@@ -24,9 +24,6 @@ number_sound text n e = search (rules, nat_lt, cond_some, and_parts, ltb-true, A
 pub number_complete : (text : List ℕ) (n : ℕ) → IsNumber text n → number_at text ≡ Some n
 unfolding number_at
 number_complete text n h = search (rules, lt-ltb, list_all-from_Are)
-
-pub none_of : (o : Option ℕ) → ((n : ℕ) → o ≡ Some n → ⊥) → o ≡ None
-none_of x1 h = search rules
 
 no_number : (text : List ℕ) → ((n : ℕ) → IsNumber text n → ⊥) → number_at text ≡ None
 no_number text h = none_of (number_at text) (λ n e. h n (number_sound text n e))

@@ -1,6 +1,6 @@
 -- The parts of a list or mapping are what reading them from the left gives.
-use Rattle.std.proofs.Common.{rules, ◌≡◌, ◌≢◌, ℕ, zero, suc, ◌≤◌, ◌<◌, Bool, true, false, ◌&&◌, List, [], ◌∷◌, ◌++◌, length, Result, Ok, refl, sym, ap, subst, ◌∙◌, inl, inr, arith, append_assoc, length-append}
-use Rattle.std.proofs.lemmas.{Bool.{eqb-true, eq-eqb, ne_eqb}, List.append-nil}
+use Rattle.std.proofs.Common.{rules, ◌≡◌, ◌≢◌, ℕ, zero, suc, ◌≤◌, ◌<◌, Bool, true, false, List, [], ◌∷◌, ◌++◌, length, Result, Ok, refl, sym, ap, subst, ◌∙◌, inl, inr, arith, append_assoc, length-append}
+use Rattle.std.proofs.{lemmas.{Bool.{eqb-true, eq-eqb, ne_eqb}, List.append-nil}, Math.Bool.and-false}
 use Rattle.yaml_subset.specs.declared.place.PlacedFault.{PlacedFault}
 use Rattle.yaml_bytes.specs.{Bytes.{begins_blank, begins_gap}, Results.◌>>=◌, Plain.IsBehindBlanks}
 use Rattle.yaml_subset.specs.Flow.{begins_with, IsClosed, IsParted, ArePartsTo, IsBetween, is_ended, start_at, behind_close_at, parted_at, behind_colon_at, parts_at, between_at}
@@ -35,11 +35,8 @@ pub record Reads {A : Type 0} (read : List ℕ → Result (A × List ℕ) Placed
 abbrev pub GoesOn : List ℕ → Type 0
 GoesOn text = (blank : Bool) → is_ended blank text ≡ false
 
-and_false : (b : Bool) → (b && false) ≡ false
-and_false x1 = search rules
-
 byte_goes_on : (b : ℕ) (bs : List ℕ) → b ≢ 35 → GoesOn (b ∷ bs)
-byte_goes_on b bs other blank = rw (ne_eqb b 35 other) (and_false blank)
+byte_goes_on b bs other blank = rw (ne_eqb b 35 other) (and-false blank)
 
 pub part_goes_on : (text : List ℕ) → BeginsPart text → GoesOn text
 part_goes_on text p = subst GoesOn (sym p.parts) (byte_goes_on p.first p.others p.no_comment)

@@ -41,11 +41,6 @@ module _ (n : ℕ) (value : ValueReader) where
   abbrev behind_key : List (List ℕ) → List ℕ → List ℕ × List ℕ → Result (Pair × List ℕ) PlacedFault
   behind_key keys text w = behind_colon_at n w.1 >>= compared keys text w
 
-  -- a key is compared with those before it, whatever their order
-  pub pair_same : (keys others : List (List ℕ)) (text : List ℕ) → ((q : List ℕ) → is_among keys q ≡ is_among others q) → flow_pair_at n value keys text ≡ flow_pair_at n value others text
-  unfolding flow_pair_at
-  pair_same keys others text same = search rules
-
 module _ (n : ℕ) (value : ValueReader) (R : ValueRelation) (reads : Reads value R) where
   pair_of : (before : List Pair) (text : List ℕ) (w : List ℕ × List ℕ) (after inner : List ℕ) (v : Node × List ℕ) (p : Pair) (rest : List ℕ)
       → word_at n true text ≡ Ok w → behind_colon_at n w.1 ≡ Ok after → is_among (keys_of before) w.0 ≡ false → ltb 1024 (characters (take (length text - length w.1) text)) ≡ false → start_at n after ≡ Ok inner → value inner ≡ Ok v

@@ -19,7 +19,7 @@ slice_cmp-same (x ∷ xs) = rw (nat_cmp-same x) (slice_cmp-same xs)
 equal : (o : Ordering) → is_eq o ≡ true → o ≡ Equal
 equal x1 e = search rules
 
-or_swap : (a b c : Bool) → (a || (b || c)) ≡ (b || (a || c))
+pub or_swap : (a b c : Bool) → (a || (b || c)) ≡ (b || (a || c))
 or_swap x1 x2 c = search rules
 
 or_again : (a c : Bool) → (a || c) ≡ (a || (a || c))
@@ -55,7 +55,7 @@ module _ {K : Type 0} (bytes_of : K → List ℕ) where
 
 -- ---- keys by their bytes
 
-among_decides : (keys : List (List ℕ)) (key : List ℕ) → Decides (is_among keys key) (Contains keys key)
+pub among_decides : (keys : List (List ℕ)) (key : List ℕ) → Decides (is_among keys key) (Contains keys key)
 among_decides keys key =
     Decides-contains keys key (is_among keys key)
     (Decides-by_or (λ k. bytes_eq k key) (λ k. k ≡ key) (λ ks. is_among ks key) (λ k. bytes_eq-Decides k key) refl (λ _ _. refl) keys)
@@ -77,7 +77,7 @@ among-push (k ∷ ks) key q = ap (λ b. bytes_eq k q || b) (among-push ks key q)
 among-again : (keys : List (List ℕ)) (key q : List ℕ) → is_among keys key ≡ true → is_among keys q ≡ (bytes_eq key q || is_among keys q)
 among-again keys key q e = search rules
 
-turned : (k q : List ℕ) → bytes_eq q k ≡ bytes_eq k q
+pub turned : (k q : List ℕ) → bytes_eq q k ≡ bytes_eq k q
 turned k q = same_from_decides (bytes_eq q k) (bytes_eq k q) (λ e. sym ((bytes_eq-Decides q k).0 e), λ p. (bytes_eq-Decides q k).1 (sym p)) (bytes_eq-Decides k q)
 
 module _ {K : Type 0} (bytes_of : K → List ℕ) where

@@ -99,10 +99,10 @@ module _ (n : ℕ) (rest value : List ℕ) (total : Result (List ℕ × List ℕ
 
 -- ---- the bytes at the front that are written as themselves
 
-len_yes : (p : ℕ → Bool) (x : ℕ) (xs : List ℕ) → p x ≡ true → prefix_len p (x ∷ xs) ≡ suc (prefix_len p xs)
+pub len_yes : (p : ℕ → Bool) (x : ℕ) (xs : List ℕ) → p x ≡ true → prefix_len p (x ∷ xs) ≡ suc (prefix_len p xs)
 len_yes p x xs t = rw t (omega arith)
 
-len_no : (p : ℕ → Bool) (x : ℕ) (xs : List ℕ) → p x ≡ false → prefix_len p (x ∷ xs) ≡ 0
+pub len_no : (p : ℕ → Bool) (x : ℕ) (xs : List ℕ) → p x ≡ false → prefix_len p (x ∷ xs) ≡ 0
 len_no p x xs t = rw t refl
 
 -- one byte more in front of those that were read

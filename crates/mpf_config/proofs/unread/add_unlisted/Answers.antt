@@ -1,5 +1,4 @@
 use Rattle.std.proofs.Common.{◌≡◌, ◌+◌, true, false, [], ◌∷◌, ◌++◌, drop, get_or, sym, ap, ◌∙◌}
-use Rattle.section_tables.proofs.Finding.{cut}
 use Rattle.mpf_config.specs.declared.texts.Text as texts
 use Rattle.mpf_config.specs.Unread.{mode_text_of, is_unlisted, unlisted_note, unlisted_notes}
 use Rattle.mpf_config.specs.{View.name_view, Inside.{text_view, texts_view, modes_view, notes_view}}
@@ -7,6 +6,7 @@ use Rattle.mpf_config.proofs.ListLoops.{not_among}
 use Rattle.mpf_config.proofs.NoteLoops.{one_pushed, is_machine, is_listed, is_neither, one_more, no_more}
 use Rattle.mpf_config.proofs.unread.add_unlisted.Goals as goal
 use Rattle.mpf_config.proofs.unread.add_unlisted.Goals.{then-ne+then-is_none+in_ok-note+in_ok-push, else-ne, else-ne-via-then-ne+else-is_none, else-ne-via-else-ne}
+use Rattle.std.proofs.lemmas.List.{drop_more}
 
 -- the text that a place past the end would have
 abbrev nothing : texts.Text
@@ -24,7 +24,7 @@ loop-text-preserved c =
     let rest = texts_view (drop (i + 1) texts) in
     let all = texts_view (drop i texts) in
     let total = notes_view c.args.notes.now ++ unlisted_notes listed (texts_view texts) in
-    let first : all ≡ seen ∷ rest = ap texts_view (cut texts i nothing c.loop-text-test.true) in
+    let first : all ≡ seen ∷ rest = ap texts_view (drop_more texts i nothing c.loop-text-test.true) in
     let so_far = c.loop-text.invariant in
     elim c.if-ne.branch [
       | then-ne+then-is_none+in_ok-note+in_ok-push w ↦

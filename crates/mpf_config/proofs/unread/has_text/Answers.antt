@@ -1,8 +1,8 @@
 use Rattle.std.{proofs.Common.{sym, ◌∙◌, rules, tests}, specs.Str.bytes_eq}
 use Rattle.std.proofs.lemmas.Iterator.{YieldsList-from_slice, Search.any_from_yields_List}
 use Rattle.mpf_config.specs.{declared.texts.Text.Text, Inside.text_view}
-use Rattle.mpf_sections.proofs.Each.{any_mapped}
 use Rattle.mpf_config.proofs.unread.has_text.Goals as goal
+use Rattle.yaml_bytes.proofs.Each.{any_mapped}
 
 pub returns : goal.returns
 returns c =

@@ -1,8 +1,9 @@
 use Rattle.std.proofs.Common.{sym, ◌∙◌, rules, tests}
 use Rattle.std.proofs.lemmas.Iterator.{YieldsList-from_slice, Search.any_from_yields_List}
-use Rattle.mpf_sections.{specs.{declared.section.Section.Section, View.section_view}, proofs.Each.any_mapped}
+use Rattle.mpf_sections.specs.{declared.section.Section.Section, View.section_view}
 use Rattle.row_contributions.specs.BallEntries.{is_game}
 use Rattle.row_contributions.proofs.collect_balls.has_game.Goals as goal
+use Rattle.yaml_bytes.proofs.Each.{any_mapped}
 
 pub returns : goal.returns
 returns c =

@@ -1,10 +1,11 @@
 use Rattle.std.proofs.Common.{rules, ◌≡◌, ◌||◌, ◌+◌, Bool, true, false, not, List, map, drop, sym, ap, ◌∙◌}
 use Rattle.std.specs.Str.{bytes_eq}
-use Rattle.machine_definitions.{specs.Found.is_found, proofs.Finding.{name-found, took-name, or_more, next-is}}
+use Rattle.machine_definitions.{specs.Found.is_found, proofs.Finding.{name-found, took-name, next-is}}
 use Rattle.mpf_sections.specs.View.{name_view}
 use Rattle.row_faults.specs.Routes.{taken_too, all_taken, is_one_taken}
 use Rattle.row_faults.proofs.routes.take_switches.Goals as goal
 use Rattle.row_faults.proofs.routes.take_switches.Goals.{then-again, else-again}
+use Rattle.std.proofs.Math.Bool.{or_assoc}
 
 not-not : (b : Bool) → not (not b) ≡ b
 not-not x1 = search rules
@@ -34,7 +35,7 @@ loop-switch-preserved c =
     record {
       again =
           (λ i. joint i || is_one_taken rest (taken i))
-          ∙ or_more l.again (before name) (is_one_taken rest (taken_too name before))
+          ∙ or_assoc l.again (before name) (is_one_taken rest (taken_too name before))
           ∙ next-is (λ names. l.again || is_one_taken (texts names) before) given l.switch-index c.switch-item.result c.loop-switch-test.true c.switch-item.is
           ∙ l.invariant.again;
       taken =

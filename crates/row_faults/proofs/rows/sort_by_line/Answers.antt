@@ -1,8 +1,9 @@
 use Rattle.std.proofs.{Common.{rules, ◌≡◌, ap, sym, subst, ◌∙◌}, lemmas.Fn.always_returns_same}
 use Rattle.row_faults.specs.{declared.fault.RowFault.RowFault, View.{row_fault_view, row_faults_view}}
 use Rattle.row_faults.specs.{AsWritten.ordered_by, RowFaults.fault_line}
-use Rattle.row_faults.proofs.ByLine.{at-most, in-order, sorted-is, ordered-seen}
+use Rattle.row_faults.proofs.ByLine.{in-order, sorted-is, ordered-seen}
 use Rattle.row_faults.proofs.rows.sort_by_line.Goals as goal
+use Rattle.std.proofs.lemmas.Map.Keys.{le_from_is_le}
 
 pub returns-then-is_sorted_by_key : goal.returns-then-is_sorted_by_key
 returns-then-is_sorted_by_key c =
@@ -10,7 +11,7 @@ returns-then-is_sorted_by_key c =
     let given = c.args.faults.now.items in
     let adjacent = c.if-is_sorted_by_key.ensures.cases key (always_returns_same _ _ _ (λ a r q k. search rules)) in
     ap row_faults_view
-    (subst (λ xs. xs ≡ ordered_by key xs) c.deref.ensures.value (in-order key c.deref.result.now (λ k d within. at-most _ _ (sym (adjacent k d within)))))
+    (subst (λ xs. xs ≡ ordered_by key xs) c.deref.ensures.value (in-order key c.deref.result.now (λ k d within. le_from_is_le _ _ (sym (adjacent k d within)))))
     ∙ ordered-seen row_fault_view fault_line given
 
 pub returns : goal.returns

@@ -1,7 +1,8 @@
 use Rattle.std.{proofs.Common.{◌||◌, Bool, List, map, drop, ◌+◌, ap, ◌∙◌}, specs.{List.list_any, Str.bytes_eq}}
 use Rattle.mpf_sections.specs.{TypedShots.shot_of, View.entry_view}
-use Rattle.machine_definitions.{specs.Found.is_found, proofs.Finding.{took-name, or_more, next-is}}
+use Rattle.machine_definitions.{specs.Found.is_found, proofs.Finding.{took-name, next-is}}
 use Rattle.row_faults.proofs.shot_faults.take_shots.Goals as goal
+use Rattle.std.proofs.Math.Bool.{or_assoc}
 
 pub loop-entry-preserved : goal.loop-entry-preserved
 unfolding shot_of
@@ -11,6 +12,6 @@ loop-entry-preserved c = λ name.
     let rest = others (drop (l.entry-index + 1) c.args.entries.now) in
     let took = took-name l.shots c.insert.new.self c.deref.result c.in_ok-insert.ensures.updates name in
     ap (λ (b : Bool). b || rest) (took ∙ ap (λ key. is_found l.shots name || bytes_eq name key) c.deref.ensures)
-    ∙ or_more (is_found l.shots name) _ rest
+    ∙ or_assoc (is_found l.shots name) _ rest
     ∙ next-is (λ entries. is_found l.shots name || others entries) c.args.entries.now l.entry-index c.entry-item.result c.loop-entry-test.true c.entry-item.is
     ∙ l.invariant name

@@ -1,6 +1,7 @@
 use Rattle.std.{proofs.Common.{rules, ℕ, List, [], get_or}, specs.Borrow.Bor}
-use Rattle.section_tables.{specs.Reading.is_one_of, proofs.{Steps.word_is, Finding.any_here}}
+use Rattle.section_tables.{specs.Reading.is_one_of, proofs.Finding.any_here}
 use Rattle.section_tables.proofs.scalars.word_in.Goals as goal
+use Rattle.yaml_bytes.proofs.Words.{word_is}
 
 -- the word that a place past the end would have
 abbrev no_word : Bor (List ℕ)

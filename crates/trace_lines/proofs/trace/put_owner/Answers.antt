@@ -1,7 +1,8 @@
 use Rattle.std.{proofs.Common.{◌≡◌, ℕ, ◌+◌, ◌++◌, codes, take, ap, ◌∙◌, refl}, specs.Fmt.decimal}
 use Rattle.plan_tables.specs.PlanView.{mode_at}
-use Rattle.trace_lines.proofs.{Writing.last-piece, Fronts.front-to-blank}
+use Rattle.trace_lines.proofs.Fronts.{front-to-blank}
 use Rattle.trace_lines.proofs.trace.put_owner.Goals as goal
+use Rattle.yaml_bytes.proofs.Writing.{last_piece}
 
 pub returns-in_ok-put_start-in-Mode : goal.returns-in_ok-put_start-in-Mode
 returns-in_ok-put_start-in-Mode g c =
@@ -11,5 +12,5 @@ returns-in_ok-put_start-in-Mode g c =
     let front : take (c.digits-in-Mode.result + 1) text ≡ digits ++ codes " " =
     ap (λ (n : ℕ). take (n + 1) text) c.digits-in-Mode.ensures.count ∙ front-to-blank digits text c.text-in-Mode.ensures in
     rw c.in-Mode.is
-    (last-piece c.put.result _ _ _ (digits ++ codes " ") name _ refl
+    (last_piece c.put.result _ _ _ (digits ++ codes " ") name _ refl
     (rw front at c.in_ok-put_start-in-Mode.ensures) (rw c.mode_name.ensures at c.put.ensures))
