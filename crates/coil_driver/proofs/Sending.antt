@@ -1,7 +1,7 @@
 -- The lines of a cascade have just the commands that its guard has sent.
 use Rattle.std.proofs.Common.{◌≡◌, ℕ, ◌<◌, ◌^◌, inl, inr, Bool, true, false, cond, if◌then◌else◌, List, [], ◌∷◌, ◌++◌, length, refl, sym, ap, ◌∙◌, subst, arith}
-use Rattle.std.specs.{Prelude.{◌&&◌, nat_le, nat_lt, ◌||◌}, List.All}
-use Rattle.std.proofs.lemmas.Bool.{cases_lt, and_parts, cond_both, leb-true, ltb-true, false≢true}
+use Rattle.std.specs.{List.All}
+use Rattle.std.proofs.lemmas.Bool.{cases_lt, cond_both}
 use Rattle.std.proofs.lemmas.List.{get_or_past, Elements.All-cons}
 use Rattle.plan_tables.specs.{PlanView.{PlanView, work_of}, declared.entries.{Owner.Owner, CoilId.CoilId}}
 use Rattle.coil_guard.specs.declared.{command.{Command.Command, Answer.Answer}, state.CoilState.CoilState}
@@ -16,7 +16,7 @@ use Rattle.written_machine.specs.declared.line.{Line.Line, Happening.Happening}
 use Rattle.written_machine.specs.declared.line.Happening.TheVariants as lines
 use Rattle.written_machine.specs.Machine.{Machine, write, set_ledger, told, ask_coil, book, counts_of}
 use Rattle.written_machine.specs.{EventStep.{taken, EventStep, EventSteps}, Run.{Stimulus, begin}}
-use Rattle.written_machine.specs.Moves.{Move, Wrote, Sent, Began, Ended, Asked, Booked, do_move, Licence, MayDo, Does, IsNoCommand, TakesPart, Begins, ordinary, working}
+use Rattle.written_machine.specs.Moves.{Move, Wrote, Began, Ended, Asked, Booked, do_move, Licence, MayDo, Does, IsNoCommand, TakesPart, Begins, ordinary, working}
 use Rattle.written_machine.proofs.{Does.{start-by, stop-by, does-keeps}, Parts.{does-before, does-after, does-begin}}
 use Rattle.written_machine.proofs.{Held.asked-count, Keeps.{step-keeps, steps-keep}}
 use Rattle.coil_driver.specs.Board.{after_happening, after_line, after_lines}

@@ -1,5 +1,5 @@
 -- A board in memory tells a list that has grown by the command, or tells none any more.
-use Rattle.std.proofs.Common.{rules, ◌≡◌, ℕ, ◌+◌, ◌-◌, Ok, List, [], ◌∷◌, ◌++◌, min}
+use Rattle.std.proofs.Common.{rules, ◌≡◌, ℕ, ◌+◌, Ok, List, [], ◌∷◌, ◌++◌, min}
 use Rattle.std.proofs.{lemmas.{Bool.{le-leb, cases_lt}, List.length-append}, Math.Nat.{min-eq_left, min-eq_right}}
 use Rattle.circular_buffer.specs.Buffer.{keep_last}
 use Rattle.coil_guard.specs.{declared.command.Command.Command, Inside.IsMemory}

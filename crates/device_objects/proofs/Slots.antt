@@ -1,5 +1,5 @@
 -- Steps of slots.
-use Rattle.std.proofs.Common.{rules, ◌≡◌, ℕ, ◌-◌, ◌≤◌, Bool, true, Option, None, Some, List, [], ◌∷◌, length, map, option_map, set, slice_get, if◌then◌else◌, get_or, sym, ap, subst, ◌∙◌, arith}
+use Rattle.std.proofs.Common.{rules, ◌≡◌, ℕ, ◌≤◌, Bool, true, Option, None, Some, List, [], ◌∷◌, length, map, option_map, set, slice_get, if◌then◌else◌, get_or, sym, ap, subst, ◌∙◌, arith}
 use Rattle.std.{specs.List.All, proofs.lemmas.List.{length-map, map-set}}
 use Rattle.std.proofs.lemmas.Option.{slice_get_past, slice_get_within, slice_get-get_or, slice_get-map}
 use Rattle.device_objects.specs.{declared.state.World.World, Slots.{slot_in_use, step_at, step_in_use}}

@@ -1,5 +1,5 @@
 -- A table of first names, one name more.
-use Rattle.std.proofs.Common.{◌≡◌, ℕ, ◌+◌, ◌<◌, ◌≤◌, Bool, true, false, cond, ◌||◌, inl, inr, List, [], ◌∷◌, ◌++◌, length, map, Vec, Global, refl, sym, ◌∙◌, ap, subst, true≢false, arith}
+use Rattle.std.proofs.Common.{◌≡◌, ℕ, ◌+◌, ◌<◌, ◌≤◌, Bool, true, false, cond, inl, inr, List, [], ◌∷◌, ◌++◌, length, Vec, Global, refl, sym, ◌∙◌, ap, subst, true≢false, arith}
 use Rattle.std.specs.{Str.bytes_eq, List.{list_any, position, position_or_len}, Prelude.{Option, None, Some, unwrap_or}}
 use Rattle.std.proofs.lemmas.{Bool.eq-eqb, Slice.Eq.bytes_eq-Decides}
 use Rattle.std.proofs.lemmas.List.{map-append, length_push, length-map, Folds.position_or_len_push}

@@ -1,15 +1,14 @@
 -- The coils that an owner holds are put off, the lowest first.
 use Rattle.std.proofs.Common.{rules, ◌≡◌, ℕ, zero, suc, ◌+◌, ◌-◌, ◌<◌, ◌≤◌, Bool, true, false, if◌then◌else◌, Option, None, Some, option_map, List, [], ◌∷◌, ◌++◌, length, take, drop, get_or, refl, sym, ap, ◌∙◌, subst, length-append, arith}
-use Rattle.std.proofs.lemmas.{Bool.{cond-true, cond-false, or_right}, Option.same_Some}
+use Rattle.std.proofs.lemmas.{Bool.{cond-true, cond-false}, Option.same_Some}
 use Rattle.std.proofs.lemmas.List.{take-append-drop, drop_more, take_more, take_all, length-set, get_or-set_same, get_or-set_other}
 use Rattle.std.proofs.lemmas.List.FromFn.{length-map-range_with_len, get_or-map-range_with_len}
-use Rattle.std.specs.Prelude.{nat_lt, is_some}
 use Rattle.plan_tables.specs.PlanView.{PlanView, coil_numbers}
 use Rattle.plan_tables.specs.declared.entries.{ModeId.ModeId, CoilId.CoilId, Owner.Owner}
 use Rattle.plan_tables.specs.declared.entries.{ModeEvent.TheVariants.Stopping, Work.{Work, TheVariants.Mode}}
 use Rattle.device_objects.specs.declared.device.Call.TheVariants as calls
 use Rattle.coil_guard.specs.declared.{command.Command.{Command, TheVariants.Disable}, state.CoilState.CoilState}
-use Rattle.coil_guard.specs.{Limits.no_limits, Lowest.IsLowest, Owners.is_holder}
+use Rattle.coil_guard.specs.{Limits.no_limits, Lowest.IsLowest}
 use Rattle.coil_guard.{specs.CoilStep.{off, is_on_at, is_held_by, disabled}, proofs.Lowest.lowest-is}
 use Rattle.coil_guard.specs.Coils.{coil_at, set_coil, put_off, next_held, after_release, answer_release}
 use Rattle.written_machine.specs.declared.line.Happening.TheVariants as lines

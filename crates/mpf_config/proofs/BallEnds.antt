@@ -1,5 +1,5 @@
 -- A mode that holds the end of the ball starts at that alone: what the test of it means.
-use Rattle.std.proofs.Common.{rules, ◌≡◌, ◌≢◌, ℕ, Bool, true, false, not, ◌&&◌, ◌||◌, List, [], ◌∷◌, length, ◌==◌, refl, arith}
+use Rattle.std.proofs.Common.{rules, ◌≡◌, ◌≢◌, ℕ, Bool, true, false, not, ◌||◌, List, [], ◌∷◌, length, ◌==◌, refl, arith}
 use Rattle.std.specs.{List.{All, list_all}, Str.bytes_eq}
 use Rattle.std.proofs.lemmas.{Bool.ne_eqb, List.Elements.{All-nil, All-cons, All-head, All-tail}}
 use Rattle.mpf_sections.specs.{Rows.{Handled, Content, ModeSettings}, Typed.{ball_ending, starts_at_ball_end}}

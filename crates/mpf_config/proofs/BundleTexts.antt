@@ -1,5 +1,5 @@
 -- The texts of a bundle are those that are read, and no others.
-use Rattle.std.proofs.Common.{rules, ◌≡◌, ◌≢◌, ℕ, ◌+◌, true, false, List, [], ◌∷◌, ◌++◌, Option, Some, None, Ok, refl, sym, ap, subst, ◌∙◌, append_assoc}
+use Rattle.std.proofs.Common.{rules, ◌≡◌, ◌≢◌, ℕ, ◌+◌, true, false, List, [], ◌∷◌, ◌++◌, Option, Some, Ok, refl, sym, ap, subst, ◌∙◌, append_assoc}
 use Rattle.std.proofs.lemmas.List.{append-nil}
 use Rattle.yaml_bytes.specs.{Bytes.{is_blank, begins_blank}, Plain.{AreBlank, EndsInNoBlank}}
 use Rattle.yaml_bytes.specs.Scanning.{behind_blanks, trimmed}

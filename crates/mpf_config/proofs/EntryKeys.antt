@@ -1,5 +1,5 @@
 -- Entries of which each is new, by their keys.
-use Rattle.std.proofs.Common.{◌≡◌, ◌≢◌, ℕ, suc, zero, List, [], ◌∷◌, ◌++◌, map, Ok, refl, sym, ap, subst, ◌⊎◌, inl, inr, arith}
+use Rattle.std.proofs.Common.{◌≡◌, ◌≢◌, ℕ, suc, zero, List, [], ◌∷◌, map, Ok, refl, sym, ap, subst, ◌⊎◌, inl, inr, arith}
 use Rattle.std.specs.List.{Contains, flat_map}
 use Rattle.yaml_subset.specs.Keys.{is_among}
 use Rattle.config_faults.specs.{declared.fault.FaultKind.TheVariants.Duplicate, Faults.rows_fault_at}

@@ -1,13 +1,10 @@
 -- Names of which each is new.
-use Rattle.std.proofs.Common.{rules, ◌≡◌, ◌≢◌, ℕ, suc, zero, Bool, false, List, [], ◌∷◌, map, refl, sym, subst, arith}
-use Rattle.std.specs.{Str.bytes_eq, List.{Contains, All, AllPairs, filter}, Bool.Decides}
-use Rattle.std.proofs.lemmas.{Bool.{cases_Bool, both_ways, Decides.Decides-by_or}, Slice.Eq.bytes_eq-Decides}
-use Rattle.std.proofs.lemmas.List.{Elements.{All-nil, All-cons, Decides-contains}, Kept.AllPairs-cons}
-use Rattle.yaml_subset.specs.Keys.{is_among}
+use Rattle.std.proofs.Common.{rules, ◌≡◌, ◌≢◌, ℕ, suc, zero, Bool, List, [], ◌∷◌, map, sym, subst, arith}
+use Rattle.std.specs.{List.{Contains, All, AllPairs, filter}}
+use Rattle.std.proofs.lemmas.List.{Elements.{All-nil, All-cons}, Kept.AllPairs-cons}
 use Rattle.mpf_config.specs.RowsOf.{AreNew}
 use Rattle.yaml_bytes.proofs.Each.{here}
 use Rattle.yaml_bytes.proofs.Each.{there}
-use Rattle.yaml_subset.proofs.KeySets.{among_decides}
 
 -- ---- lists that have an element
 

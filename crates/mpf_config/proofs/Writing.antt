@@ -1,7 +1,6 @@
 -- The line of a fault, as it is written piece by piece.
-use Rattle.std.proofs.Common.{rules, ◌≡◌, ℕ, ◌+◌, ◌<◌, ◌≤◌, Bool, false, ◌||◌, List, [], ◌∷◌, ◌++◌, length, take, get_or, Option, Result, OnOk, refl, sym, ap, subst, ◌∙◌, append_assoc, append-nil, codes}
+use Rattle.std.proofs.Common.{◌≡◌, ℕ, ◌≤◌, false, List, [], ◌∷◌, ◌++◌, length, take, Option, Result, OnOk, refl, ap, subst, append_assoc, codes}
 use Rattle.std.specs.{List.{flat_map, list_any}, Fmt.decimal, Io.KnownBytes.Appends}
-use Rattle.std.proofs.lemmas.{List.{take_more, take_all}, Grind.flat_map-append}
 use Rattle.mpf_config.specs.{Rows.RowsFault, FaultLine.{spaced, fault_line}}
 use Rattle.config_faults.specs.FaultNames.{number_of, kind_name}
 use Rattle.mpf_config.specs.Escaped.{is_control, escaped_byte, escaped}

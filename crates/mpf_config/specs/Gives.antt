@@ -2,7 +2,7 @@
 -- ran out: this, or the first fault.
 use Rattle.std.specs.Prelude.{◌≡◌, ◌||◌, ℕ, Bool, not, List, [], ◌++◌, map, Option, Result}
 use Rattle.std.specs.{List.flat_map, HashSet.HashSet, declared.borrow.CowSlice.CowSlice}
-use Rattle.std.specs.{Str.bytes_eq, Borrow.Bor, Global.{Vec, Global}}
+use Rattle.std.specs.{Borrow.Bor, Global.{Vec, Global}}
 use Rattle.yaml_subset.specs.{declared.tree.{Key.Key, Tree.Tree}, Keys.{is_among, copies_view}}
 use Rattle.yaml_subset.specs.{Node.{Node, Pair}, View.{node_view, pair_view}}
 use Rattle.mpf_tables.specs.declared.tables.TextKind.{TextKind}

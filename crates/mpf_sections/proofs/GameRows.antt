@@ -1,12 +1,12 @@
 -- What holds of variable players, of the game and of the machine, by the names of their settings: their names are names, and their settings are in their ranges.
-use Rattle.std.proofs.Common.{rules, ◌≡◌, ◌≤◌, ℤ, pos, negsuc, neg_ℤ, ◌≤ℤ◌, Bool, true, if◌then◌else◌, List, Option, slice_get, refl}
+use Rattle.std.proofs.Common.{rules, ◌≤◌, ℤ, pos, neg_ℤ, ◌≤ℤ◌, List}
 use Rattle.std.proofs.lemmas.List.{length-map}
 use Rattle.mpf_values.specs.Names.{IsName}
-use Rattle.section_tables.specs.{Rows.{Plain, Keyed, Entry, Player}, EntryOf.within}
+use Rattle.section_tables.specs.{Rows.{Entry, Player}}
 use Rattle.section_tables.specs.Named.{IsNamedPlayer, IsShortPlayer}
 use Rattle.mpf_sections.specs.{Rows.SectionRows, Named.IsNamedVariablePlayer}
-use Rattle.mpf_sections.specs.TypedGame.{change_in, variable_item_of, variable_player_of, game_of, min_balls_of}
-use Rattle.mpf_sections.specs.Short.{IsShortVariablePlayer, IsChangeInRange, IsGameInRange}
+use Rattle.mpf_sections.specs.TypedGame.{variable_item_of, variable_player_of, game_of, min_balls_of}
+use Rattle.mpf_sections.specs.Short.{IsShortVariablePlayer, IsGameInRange}
 use Rattle.mpf_sections.proofs.{RowNames.{event_named, keyed_named}, CoilRows.keyed_short}
 
 -- ---- names

@@ -3,7 +3,7 @@ use Rattle.std.proofs.Common.{rules, ◌≢◌, ℕ, zero, suc, Bool, if◌then�
 use Rattle.std.specs.{List.{All, AllByRecursion}, Str.bytes_eq}
 use Rattle.std.proofs.lemmas.List.Elements.{All-nil, All-map, All-tail, All-weaker, All-from_recursion}
 use Rattle.mpf_values.specs.Names.{IsName}
-use Rattle.section_tables.specs.Rows.{Plain, name, event, Keyed, Value, keyed, posts, Entry, Player}
+use Rattle.section_tables.specs.Rows.{Plain, Keyed, Value, keyed, Entry, Player}
 use Rattle.section_tables.specs.Named.{IsNamedHandled, IsNamedKeyed, IsNamedValue, IsNamedEvent, IsNamedEntry, IsNamedPlayer}
 use Rattle.mpf_sections.specs.Rows.{Written, Content, SectionRows}
 use Rattle.mpf_tables.specs.SectionTables.{switches_name}

@@ -1,5 +1,5 @@
 -- A row of a plan has few effect lists.
-use Rattle.std.proofs.Common.{rules, ◌≤◌, Bool, if◌then◌else◌}
+use Rattle.std.proofs.Common.{rules, ◌≤◌}
 use Rattle.plan_tables.specs.{declared.devices.Settings.Settings, Devices.{IsWithinLimits, list_count}}
 
 pub few_lists : (s : Settings) → IsWithinLimits s → list_count s ≤ 288

@@ -1,11 +1,10 @@
 -- The work of each event, one event after the other.
-use Rattle.std.proofs.Common.{◌≡◌, ℕ, zero, suc, ◌+◌, ◌<◌, ◌-◌, ◌≤◌, ◌==◌, Bool, true, cond, ◌&&◌, List, [], ◌∷◌, length, get_or, slice_get, Option, Some, None, is_some, unwrap_or, rules, refl, sym, ◌∙◌, ap, arith}
+use Rattle.std.proofs.Common.{◌≡◌, ℕ, zero, suc, ◌+◌, ◌<◌, ◌-◌, ◌≤◌, ◌==◌, Bool, true, ◌&&◌, List, [], ◌∷◌, length, get_or, slice_get, Option, Some, is_some, rules, refl, sym, ◌∙◌, ap, arith}
 use Rattle.std.{specs.List.position, proofs.lemmas.List.FromFn.{length-map-range_with_len, get_or-map-range_with_len}}
 use Rattle.std.proofs.lemmas.{Bool.{eqb-true, and_parts}, Option.none-some, List.Quantifiers.position-Some}
 use Rattle.plan_tables.specs.declared.entries.{EventId.EventId, GameEvent.GameEvent}
 use Rattle.plan_tables.specs.declared.entries.{ModeId.ModeId, ModeEvents.ModeEvents, Work.Work}
 use Rattle.plan_tables.specs.declared.entries.{ModeEvent.ModeEvent, GameRules.GameRules}
-use Rattle.plan_tables.specs.declared.entries.ModeEvent.TheVariants.{WillStart, Starting, Started, Stopping, Stopped}
 use Rattle.plan_tables.specs.declared.entries.Work.TheVariants as works
 use Rattle.plan_tables.specs.{GameEvents.{game_events, order_of}, Valid.{HasGame, IsWorkAt}, Inside.HasWorks}
 use Rattle.plan_tables.specs.PlanView.{PlanMode, PlanView, no_event, no_mode, event_among, which_event, work_or, work_from, game_work, or_work, work_of, event_of_game, game_event}

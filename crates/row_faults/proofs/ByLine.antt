@@ -1,7 +1,7 @@
 -- What a stable sort by number makes of a list.
 use Rattle.std.proofs.Common.{rules, ◌≡◌, ℕ, ◌<◌, ◌≤◌, nat_lt, Bool, true, false, List, [], ◌∷◌, filter, map, length, suc, refl, sym, ap, ◌∙◌, inl, inr, arith}
 use Rattle.std.specs.List.{All, AllAdjacentBelow, Sorted.{IsSortedByKey, IsStableByKey, IsNonDecreasingBy, ties}}
-use Rattle.std.{specs.Ordering.{is_lt, is_le, nat_cmp}, proofs.lemmas.Bool.{cases_lt, le-ltb, lt-ltb}}
+use Rattle.std.{specs.Ordering.{is_lt, nat_cmp}, proofs.lemmas.Bool.{cases_lt, le-ltb, lt-ltb}}
 use Rattle.std.proofs.lemmas.List.Elements.{All-nil, All-cons, All-head, All-tail, All-weaker}
 use Rattle.std.proofs.lemmas.List.Sorted.{IsNonDecreasingBy-from_sort, IsNonDecreasingBy-from_all_adjacent}
 use Rattle.row_faults.specs.AsWritten.{put_by, ordered_by}

@@ -1,11 +1,10 @@
 -- Lists without items, and the faults that they are made of.
-use Rattle.std.proofs.Common.{rules, ◌≡◌, ℕ, nat_lt, Bool, true, false, ◌||◌, if◌then◌else◌, List, [], ◌∷◌, ◌++◌, map, refl, sym, ◌∙◌, inl, inr}
+use Rattle.std.proofs.Common.{rules, ◌≡◌, ℕ, nat_lt, Bool, true, false, if◌then◌else◌, List, [], ◌∷◌, ◌++◌, map, refl, sym, ◌∙◌, inl, inr}
 use Rattle.std.specs.List.{All, filter, flat_map}
-use Rattle.std.proofs.lemmas.{Bool.cases_Bool, List.Elements.{All-nil, All-cons, All-head, All-tail, All-append}}
+use Rattle.std.proofs.lemmas.{Bool.cases_Bool, List.Elements.{All-nil, All-cons}}
 use Rattle.mpf_sections.specs.Rows.{Written}
 use Rattle.row_faults.specs.{declared.fault.RowFaultKind.RowFaultKind, CoilFaults.fault_if, RowFaults.listed_once}
 use Rattle.row_faults.specs.{FaultView.RowFaultView, AsWritten.{put_by, ordered_by}}
-use Rattle.yaml_bytes.proofs.Each.{All-parts}
 
 pub filled : {X : Type 0} (x : X) (xs : List X) → x ∷ xs ≡ [] → ⊥
 filled x xs e = cc

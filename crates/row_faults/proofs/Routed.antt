@@ -1,9 +1,9 @@
 -- Where nothing is wrong with the ways of balls, they lead to the playfield, and each ball switch is of one device.
-use Rattle.std.proofs.Common.{rules, ◌≡◌, ◌≢◌, ℕ, suc, ◌≤◌, Bool, true, false, not, ◌&&◌, ◌||◌, List, [], ◌∷◌, ◌++◌, Option, is_some, sym, ◌∙◌, true≢false, arith}
-use Rattle.std.specs.{Option.is_none, List.{All, AllPairs, flat_map}, Str.bytes_eq}
+use Rattle.std.proofs.Common.{rules, ◌≡◌, ◌≢◌, ℕ, suc, ◌≤◌, Bool, false, List, [], ◌∷◌, ◌++◌, sym, ◌∙◌, true≢false, arith}
+use Rattle.std.specs.{List.{All, AllPairs, flat_map}, Str.bytes_eq}
 use Rattle.std.proofs.lemmas.List.{Elements.{All-nil, All-cons, All-weaker}, Kept.AllPairs-cons}
 use Rattle.std.proofs.lemmas.Slice.Eq.{bytes_eq-Decides}
-use Rattle.mpf_sections.specs.Rows.{Written, BallDevice}
+use Rattle.mpf_sections.specs.Rows.{BallDevice}
 use Rattle.row_faults.specs.declared.fault.RowFaultKind.TheVariants.{BallRoute}
 use Rattle.row_faults.specs.{CoilFaults.fault_if, Sound.{IsRouted, AreRouted}}
 use Rattle.row_faults.specs.Routes.{switch_names, taken_too, all_taken, is_one_taken}

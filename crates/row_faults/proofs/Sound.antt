@@ -1,5 +1,5 @@
 -- Rows without faults are sound.
-use Rattle.std.proofs.Common.{rules, ◌≡◌, ℕ, get_or, Bool, true, false, not, ◌||◌, List, [], ◌∷◌, ◌++◌, map, filter, Option, Some, None, IfSome, is_some, unwrap_or, codes, refl, arith}
+use Rattle.std.proofs.Common.{rules, ◌≡◌, ℕ, get_or, Bool, true, false, not, ◌||◌, List, [], ◌∷◌, ◌++◌, map, filter, Option, Some, None, IfSome, is_some, codes, refl, arith}
 use Rattle.std.specs.{Option.is_none, List.{All, flat_map}}
 use Rattle.std.proofs.lemmas.{Bool.{ltb-false, not-false}, List.Elements.{All-nil, All-cons, All-weaker}}
 use Rattle.mpf_tables.specs.SectionTables as tables

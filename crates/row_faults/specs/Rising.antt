@@ -1,5 +1,5 @@
 -- Faults of one text, each on a later line than the one before it.
-use Rattle.std.specs.{Prelude.{ℕ, ◌<◌, ◌^◌, nat_lt, Bool, true, ◌&&◌, List, [], ◌∷◌}, Str.bytes_eq}
+use Rattle.std.specs.{Prelude.{◌<◌, ◌^◌, nat_lt, Bool, true, ◌&&◌, List, [], ◌∷◌}, Str.bytes_eq}
 use Rattle.row_faults.specs.FaultView.{RowFaultView}
 
 -- whether a fault is of the text of the next one, and on an earlier line, if there is a next one

@@ -6,7 +6,7 @@ use Rattle.yaml_subset.specs.{Node.{Node, Pair}, View.line_of}
 use Rattle.mpf_values.specs.{Names.IsName, Events.{Condition, IsUnder}, Lists.Item}
 use Rattle.section_tables.specs.{Rows.{Written, Handled, Plain, Keyed, Value, Entry, Player}, Entries.is_ignored}
 use Rattle.section_tables.specs.Kinds.{Scalar, Bounds, at_least, Field, Kind, single, name_list, post_list, event_list, step_list, map_list, named_maps, keyed_maps, Setting, PlayerKinds}
-use Rattle.section_tables.specs.Tables.{behind_one, found_in, field_key, field_default, setting_key, setting_default}
+use Rattle.section_tables.specs.Tables.{found_in, field_key, field_default, setting_key, setting_default}
 use Rattle.section_tables.specs.EntryOf.{IsScalar, IsPlain, AreListed, AreNodes, AreNamesListed, IsWritten, IsHandled, OverwritesAt, IsOverwritten, IsField, pass, AreFields, IsKeyedRow, IsKeyed, AreKeyed, IsStep, IsValue, IsSetting, IsEntry, IsOtherEntry, AreEntries, IsPlayer, ArePlayers}
 use Rattle.section_tables.specs.Named.{IsNamedPlain, IsNamedEvent, AreNames, AreNamedEvents, AreNamedPlains, IsNamedKeyed, IsNamedValue, IsNamedEntry, IsNamedPlayer, AreNamedFields, IsNamedKind, IsNamedTable, IsEventKind, IsNamedKinds, IsShortValue, IsShortEntry, IsShortPlayer, IsShortTable}
 

@@ -2,7 +2,7 @@
 use Rattle.std.proofs.Common.{rules, ◌≡◌, ◌<◌, ℕ, Bool, true, false, if◌then◌else◌, List, length, map, set, Option, Some, None, Result, Ok, refl, sym, ap, subst, inl, arith}
 use Rattle.std.proofs.lemmas.Bool.{le-leb}
 use Rattle.yaml_subset.specs.{Node.{Node, Pair}, View.{line_of, text_in}}
-use Rattle.mpf_values.{specs.Reading.is_name, proofs.NameTexts.{IsName-from_is_name, is_name-from_IsName}}
+use Rattle.mpf_values.{proofs.NameTexts.{IsName-from_is_name, is_name-from_IsName}}
 use Rattle.config_faults.specs.declared.fault.FaultKind.TheVariants.{BadValue}
 use Rattle.section_tables.specs.Rows.{Handled, Plain, Fields, Keyed, Value, one, names, posts, events, steps, maps, keyed}
 use Rattle.config_faults.specs.Faults.{RowsFault, Spot, rows_fault_at, refused}

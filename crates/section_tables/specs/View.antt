@@ -1,5 +1,5 @@
 -- What contracts see of the rows, and of an answer.
-use Rattle.std.specs.{Prelude.{ℕ, map, set, List, [], ◌∷◌, Option, Some, None}, Borrow.Bor, Global.{Box, Vec}}
+use Rattle.std.specs.{Prelude.{ℕ, map, set, List, ◌∷◌, Option, Some, None}, Borrow.Bor, Global.{Box, Vec}}
 use Rattle.yaml_subset.specs.{declared.tree.{Key.Key, Tree.Tree}, Node.{Node, Pair}, View.{node_view, pair_view}}
 use Rattle.section_tables.specs.{declared.nodes.{MapPairs.MapPairs, ListNodes.ListNodes}, Entries.written_at}
 use Rattle.mpf_values.specs.Events.{Condition}

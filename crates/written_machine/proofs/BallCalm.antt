@@ -11,7 +11,7 @@ use Rattle.plan_tables.specs.declared.devices.BallTarget.{BallTarget, TheVariant
 use Rattle.plan_tables.specs.declared.devices.Settings.TheVariants as kinds
 use Rattle.ball_devices.specs.declared.booking.Origin.{Origin}
 use Rattle.ball_devices.specs.Ledger.{Ledger, counted_in, transit_to, all_counted, all_in_transit, IsLedger}
-use Rattle.ball_devices.specs.Bookings.{LedgerCall, MayBook, after_call, booked, can_book, is_new, one, Says}
+use Rattle.ball_devices.specs.Bookings.{LedgerCall, MayBook, after_call, booked, is_new, one, Says}
 use Rattle.cascade_rank.proofs.Rows.{length-rows}
 use Rattle.device_objects.specs.declared.state.{BallState.BallState, DeviceState.DeviceState}
 use Rattle.device_objects.specs.declared.state.DeviceState.TheVariants as states

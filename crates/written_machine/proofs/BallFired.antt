@@ -3,7 +3,7 @@ use Rattle.std.proofs.Common.{rules, ◌≡◌, ℕ, inl, inr, ◌⊎◌, false,
 use Rattle.std.proofs.lemmas.Bool.{cond_both}
 use Rattle.plan_tables.specs.declared.devices.BallSettings.{BallSettings}
 use Rattle.device_objects.{specs.declared.state.{BallState.BallState, Eject.Eject}, proofs.BallDue.first_due-is_due}
-use Rattle.device_objects.specs.BallDevice.{empty, switch_at, first_due, timeout_of, earlier, is_timeout_first, time_out, turned, gone, count, count_due, fire, due_of}
+use Rattle.device_objects.specs.BallDevice.{empty, switch_at, first_due, timeout_of, earlier, is_timeout_first, time_out, turned, count, count_due, fire, due_of}
 
 -- one ball switch, which was due at this moment, has turned
 pub record HasTurned (b t : BallState) (at : ℕ) : Type 0 where

@@ -10,15 +10,15 @@ use Rattle.plan_tables.specs.declared.entries.{Action.Action, Owner.Owner, Switc
 use Rattle.plan_tables.specs.declared.entries.Action.TheVariants.{Post, Pulse, Enable, Disable, Change as ChangeVariable, Enter, Leave, Lose, Arrive, Request, AddBalls}
 use Rattle.ball_devices.specs.{declared.booking.Origin.Origin, Ledger.origin_of, Bookings.LedgerCall}
 use Rattle.ball_devices.specs.Bookings as ledger_calls
-use Rattle.device_objects.specs.declared.{device.Call.Call, state.{BallState.BallState, Eject.Eject}}
+use Rattle.device_objects.specs.declared.{device.Call.Call, state.{BallState.BallState}}
 use Rattle.device_objects.specs.declared.device.Call.TheVariants as calls
 use Rattle.device_objects.specs.declared.state.{BallSwitch.BallSwitch, DeviceState.DeviceState}
 use Rattle.device_objects.specs.declared.state.DeviceState.TheVariants as states
-use Rattle.device_objects.specs.{BallDevice.confirm, DeviceStep.first_state}
+use Rattle.device_objects.specs.{BallDevice.confirm}
 use Rattle.device_objects.specs.BallDevice as balls
 use Rattle.written_machine.{specs.SwitchLines.changes_of, proofs.Does.book-by}
 use Rattle.plan_tables.specs.declared.devices.Telling.{Telling, TheVariants.{Arrived, Wanted}}
-use Rattle.written_machine.specs.Machine.{Machine, post, set_device, all_do, book, drain_if, after_entry, do_action_by, device_at, called, do_answer_by, call_device_by, tell_nobody, tell_device, tell_first, told_device, want_balls}
+use Rattle.written_machine.specs.Machine.{Machine, post, set_device, all_do, book, after_entry, do_action_by, device_at, called, do_answer_by, call_device_by, tell_nobody, tell_device, tell_first, told_device, want_balls}
 use Rattle.written_machine.proofs.BallPlays.{IsOther, one_row, post-other, action-other, Plays, still, ball, arrival, both, IsNoCall, request, same-other}
 
 -- the state of a ball device

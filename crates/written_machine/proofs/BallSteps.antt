@@ -8,7 +8,7 @@ use Rattle.plan_tables.specs.declared.devices.BallTarget.{BallTarget, TheVariant
 use Rattle.device_objects.specs.declared.{device.Call.Call, state.Eject.{Eject, TheVariants.{Idle, Pulsing, Away}}}
 use Rattle.device_objects.specs.declared.device.Call.TheVariants as calls
 use Rattle.device_objects.specs.declared.state.{Attempt.Attempt, BallSwitch.BallSwitch, BallState.BallState}
-use Rattle.device_objects.specs.BallDevice.{empty, switch_at, set_switch, first_due, entered, attempted, left, lost, succeeded, arrived, failed, attempt, is_idle, is_away, begin, after, ended, stuck, may_try_again, next_number, overdue, confirmed, time_out, confirm, noted, switched, turned, gone, count, count_due, fire, requested, act_step, ball_step}
+use Rattle.device_objects.specs.BallDevice.{empty, switch_at, set_switch, first_due, entered, attempted, left, lost, succeeded, arrived, failed, attempt, is_away, begin, after, ended, stuck, may_try_again, next_number, overdue, confirmed, time_out, confirm, noted, switched, turned, gone, count, count_due, fire, requested, act_step, ball_step}
 use Rattle.device_objects.proofs.BallDue.{first_due-is_due}
 use Rattle.ball_devices.specs.Bookings.{one}
 

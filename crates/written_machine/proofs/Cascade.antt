@@ -10,7 +10,7 @@ use Rattle.cascade_rank.proofs.Switches.{acceptance-within_bound}
 use Rattle.event_queue.specs.{declared.queue.Posted.Posted, PlanOrder.by_priority}
 use Rattle.written_machine.specs.Machine.{Machine, initial, all_do, do_handler}
 use Rattle.written_machine.specs.EventStep.{taken, is_kept, before_handlers, handlers_in, EventStep, EventSteps, after_event}
-use Rattle.written_machine.specs.Run.{switch, Stimulus, IsAllowed, begin, InEveryRun}
+use Rattle.written_machine.specs.Run.{Stimulus, IsAllowed, begin, InEveryRun}
 use Rattle.written_machine.specs.StimulusCost.{cost_if_accepted, cost_of_stimulus, weigh}
 use Rattle.written_machine.proofs.Does.{potential, potential-does, AreOfPlan, WaitsInPlan, waits-does, HasStates, has_states-does, due-row, has_devices-does}
 use Rattle.written_machine.specs.Moves.{TakesPart, Begins, ordinary, working}

@@ -1,5 +1,5 @@
 -- What one cost pays for: single changes of the machine, one after another, each by a licence.
-use Rattle.std.proofs.Common.{rules, ◌≡◌, ◌&&◌, ℕ, ℤ, ◌+◌, ◌-◌, ◌≤◌, ◌<◌, inl, inr, Option, Some, Bool, true, List, [], ◌∷◌, ◌++◌, length, length-append, slice_index_or, slice_set, if◌then◌else◌, map, refl, ap, sym, subst, ◌∙◌, arith}
+use Rattle.std.proofs.Common.{rules, ◌≡◌, ◌&&◌, ℕ, ℤ, ◌+◌, ◌≤◌, ◌<◌, inl, inr, Option, Some, Bool, true, List, [], ◌∷◌, ◌++◌, length, length-append, slice_index_or, slice_set, if◌then◌else◌, map, refl, ap, sym, subst, ◌∙◌, arith}
 use Rattle.std.{proofs.lemmas.Bool.{cases_eq, cases_lt, false≢true}, specs.List.{All, AllByRecursion}}
 use Rattle.std.proofs.lemmas.{Option.none-some, List.Elements.{All-head, All-tail}}
 use Rattle.std.proofs.lemmas.List.{length-map, length-set, get_or-map, get_or_past, get_or-set_same, get_or-set_other, set_past}

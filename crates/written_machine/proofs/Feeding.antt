@@ -1,5 +1,5 @@
 -- The ball devices that may be told of a ball that has arrived, and the first trough.
-use Rattle.std.proofs.Common.{rules, ◌≡◌, suc, ◌<◌, Bool, true, false, cond, Some, List, [], ◌∷◌, length, refl, subst, arith}
+use Rattle.std.proofs.Common.{rules, ◌≡◌, suc, ◌<◌, Bool, true, false, cond, Some, List, [], ◌∷◌, length, refl, arith}
 use Rattle.std.{specs.{Prelude.{Contains, find}, List.All}, proofs.lemmas.{Bool.cases_lt, Option.none-some}}
 use Rattle.std.proofs.lemmas.List.{get_or_past, Elements.{All-filter, All-get_or, filter_passes}}
 use Rattle.plan_tables.specs.PlanView.{PlanView, feeders_of, feeds, first_trough, is_trough, row_at, row_numbers, multiball_rows, save_rows, is_save, is_multiball}

@@ -1,16 +1,14 @@
 -- What the machine does only adds to its lines and waiting events.
-use Rattle.std.proofs.Common.{rules, ℕ, ℤ, ◌≤◌, ◌<◌, Bool, Option, List, [], ◌∷◌, length, length-append, arith}
-use Rattle.plan_tables.specs.{PlanView.{PlanView, work_of}, declared.devices.Telling.{Telling, TheVariants.Arrived}}
-use Rattle.plan_tables.specs.declared.devices.{BallTarget.TheVariants.Device, RowId.RowId}
-use Rattle.ball_devices.specs.{declared.booking.Origin.{Origin, TheVariants.Awaited}, Bookings.LedgerCall}
+use Rattle.std.proofs.Common.{rules, ℕ, ℤ, ◌≤◌, ◌<◌, Option, List, [], ◌∷◌, length, length-append, arith}
+use Rattle.plan_tables.specs.{PlanView.{PlanView, work_of}}
 use Rattle.plan_tables.specs.declared.entries.{EventId.EventId, BindingId.BindingId, Owner.Owner, VariableId.VariableId}
 use Rattle.coil_guard.specs.declared.command.Command.{Command}
-use Rattle.written_machine.specs.{declared.line.Line.Line, Moves.{Booked, Grows}}
+use Rattle.written_machine.specs.{declared.line.Line.Line, Moves.{Grows}}
 use Rattle.written_machine.specs.declared.line.Happening.TheVariants as lines
 use Rattle.event_queue.specs.declared.queue.Posted.{Posted}
-use Rattle.written_machine.specs.Machine.{Machine, post, ask_coil, all_do, tell_change, book, drain_if, after_entry, do_handler}
+use Rattle.written_machine.specs.Machine.{Machine, post, ask_coil, all_do, tell_change, do_handler}
 use Rattle.written_machine.specs.EventStep.{taken, is_kept, before_handlers, after_event}
-use Rattle.written_machine.proofs.{Does.{grows-does, grows-move}, Parts.{does-handler, does-before, does-after}}
+use Rattle.written_machine.proofs.{Does.{grows-does}, Parts.{does-handler, does-before, does-after}}
 
 -- where each adds, all do
 pub all_do-grows : {X : Type 0} (f : X → Machine → Machine) → ((x : X) (s : Machine) → Grows s (f x s)) → (xs : List X) (s : Machine) → Grows s (all_do f xs s)

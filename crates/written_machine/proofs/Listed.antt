@@ -1,5 +1,5 @@
 -- The actions of a plan, by their owners.
-use Rattle.std.proofs.Common.{rules, ◌≡◌, ℕ, zero, suc, ◌<◌, Bool, true, List, [], ◌∷◌, length, get_or, if◌then◌else◌, refl, sym, ap, ◌∙◌, subst, arith}
+use Rattle.std.proofs.Common.{rules, ◌≡◌, ℕ, zero, suc, ◌<◌, Bool, true, List, [], ◌∷◌, length, if◌then◌else◌, refl, sym, ap, ◌∙◌, subst, arith}
 use Rattle.std.specs.{Prelude.{Contains, ◌||◌}, List.{flat_map, list_any, range_with_len}}
 use Rattle.std.proofs.lemmas.{Bool.eq-eqb, List.Elements.{Contains-append_left, Contains-append_right}}
 use Rattle.std.proofs.lemmas.List.FromFn.{length-range_with_len, get_or-range_with_len, length-map-range_with_len, get_or-map-range_with_len}

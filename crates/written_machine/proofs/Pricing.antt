@@ -5,7 +5,7 @@ use Rattle.std.proofs.lemmas.{Bool.cases_lt, List.{get_or_past, FromFn.length-ra
 use Rattle.std.proofs.lemmas.List.Elements.{All-get_or, All-head, All-nil, All-tail}
 use Rattle.plan_tables.specs.PlanView.{PlanView, act_of_listener, actions_at, actions_of, coil_numbers, feeders_of, first_trough, is_enable_of, list_of_row, listeners_of, row_at, row_numbers, rows_of, switch_at, target_of, multiball_rows, save_rows, act_told, work_of}
 use Rattle.plan_tables.specs.declared.entries.{Action.Action, ListId.ListId, CoilId.CoilId, Owner.Owner}
-use Rattle.plan_tables.specs.declared.entries.Action.TheVariants.{Disable, Change as ChangeVariable, Enter, Leave, Lose, Arrive, Request, AddBalls}
+use Rattle.plan_tables.specs.declared.entries.Action.TheVariants.{Change as ChangeVariable, Enter, Leave, Lose, Arrive, Request, AddBalls}
 use Rattle.plan_tables.specs.declared.entries.{VariableId.VariableId, GameRules.GameRules}
 use Rattle.plan_tables.specs.declared.entries.GameEvent.{GameEvent, TheVariants.BallDrain}
 use Rattle.plan_tables.specs.declared.devices.{Act.TheVariants.{Save, End}, RowId.RowId}

@@ -4,9 +4,9 @@ use Rattle.std.proofs.Common.{◌≡◌, ◌&&◌, ℕ, ◌<◌, inl, inr, Bool,
 use Rattle.std.{specs.List.AllByRecursion, proofs.lemmas.Bool.{cases_eq, eq-eqb, ne_eqb}}
 use Rattle.std.proofs.lemmas.List.{append-nil, get_or-set_same, get_or-set_other, get_or-map, length-set}
 use Rattle.plan_tables.specs.PlanView.{PlanView, may_hold_ball_end, mode_event, work_of}
-use Rattle.plan_tables.specs.{Valid.IsValid, declared.entries.Work.{Work, TheVariants.{Nothing, Mode}}}
+use Rattle.plan_tables.specs.{Valid.IsValid, declared.entries.Work.{Work, TheVariants.{Nothing}}}
 use Rattle.plan_tables.specs.declared.entries.{EventId.EventId, ModeId.ModeId, Owner.Owner}
-use Rattle.plan_tables.specs.declared.entries.ModeEvent.{ModeEvent, TheVariants.{WillStart, Starting, Stopping}}
+use Rattle.plan_tables.specs.declared.entries.ModeEvent.{ModeEvent, TheVariants.{WillStart, Stopping}}
 use Rattle.plan_tables.specs.declared.entries.Owner.TheVariants as owners
 use Rattle.player_game.specs.GameStep.{GameState, held_if}
 use Rattle.mode_stack.specs.declared.phase.{Phase.Phase, ModeState.ModeState}
@@ -20,7 +20,7 @@ use Rattle.coil_guard.specs.{declared.command.{Command.Command, Answer.Answer}, 
 use Rattle.ball_devices.specs.Bookings.{LedgerCall, after_call, booked}
 use Rattle.written_machine.specs.Machine.{Machine, write, post, set_ledger, counts_of, book, set_coils, told, ask_coil, set_mode, set_game, has_game, is_post, post_if, start_mode, stop_mode}
 use Rattle.written_machine.proofs.Cycles.{mine, waiting_of, IsTurn, waiting_of-push, turn-start, turn-stop, IsNoEnd}
-use Rattle.written_machine.proofs.Hearing.{Said, work_written, written, all_written, all_awaited, heard_at, heard_after, heard, IsFine, written-push, awaited-push, heard-push, fine-push}
+use Rattle.written_machine.proofs.Hearing.{Said, work_written, written, all_written, all_awaited, heard_after, heard, IsFine, written-push, awaited-push, heard-push, fine-push}
 use Rattle.written_machine.proofs.Does.{begun_mode, book-by}
 
 -- Of the mode's events: the one that is being handled, as long as its work is still to come, and those that wait. And

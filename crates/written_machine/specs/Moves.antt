@@ -1,12 +1,12 @@
 -- What handlers and works do, one change of the machine after another, and which changes are theirs to make.
-use Rattle.std.specs.{Prelude.{◌≡◌, ℕ, ℤ, ◌-◌, ◌≤◌, ◌<◌, ◌⊎◌, Option, true, length}, List.list_any}
+use Rattle.std.specs.{Prelude.{◌≡◌, ℕ, ℤ, ◌≤◌, ◌<◌, ◌⊎◌, Option, true, length}, List.list_any}
 use Rattle.plan_tables.specs.PlanView.{PlanView, actions_of, is_enable_of, mode_event, row_at, work_of}
 use Rattle.plan_tables.specs.{Valid.{HasEntries, IsValid}, declared.entries.ModeEvent.TheVariants.{WillStart, Stopping}}
 use Rattle.plan_tables.specs.declared.entries.{EventId.EventId, SwitchId.SwitchId, ModeId.ModeId, VariableId.VariableId}
-use Rattle.plan_tables.specs.declared.entries.{Owner.Owner, CoilId.CoilId, Work.TheVariants.{Mode, Game}}
+use Rattle.plan_tables.specs.declared.entries.{Owner.Owner, CoilId.CoilId, Work.TheVariants.{Game}}
 use Rattle.plan_tables.specs.declared.entries.GameEvent.{GameEvent, TheVariants.BallDrain}
 use Rattle.plan_tables.specs.declared.entries.Owner.TheVariants as owners
-use Rattle.plan_tables.specs.declared.{devices.RowId.RowId, entries.Action.TheVariants.{Pulse, Enable, Disable}}
+use Rattle.plan_tables.specs.declared.{devices.RowId.RowId}
 use Rattle.device_objects.specs.declared.device.Call.{Call}
 use Rattle.ball_devices.specs.Bookings.{LedgerCall}
 use Rattle.mode_stack.specs.{declared.phase.ModeState.ModeState, Modes.running_of}
@@ -18,8 +18,8 @@ use Rattle.cascade_rank.specs.Cost.{Cost, Lines, Both, price, cost_of_post}
 use Rattle.coil_guard.specs.{declared.command.Command.Command, Limits.IsWithin, Asked.limits_of}
 use Rattle.coil_guard.specs.declared.command.Command.TheVariants as commands
 use Rattle.written_machine.specs.{CoilActions.ActionsKeepLimits, Devices.ActsAreOwn}
-use Rattle.written_machine.specs.Machine.{ask_coil, told, Machine, write, post, set_switches, set_mode, set_device, set_players, set_game, book, home_of, start_mode, stop_mode, drop_hold, called}
-use Rattle.event_queue.specs.Handlers.{takes_part, handlers}
+use Rattle.written_machine.specs.Machine.{ask_coil, Machine, write, post, set_switches, set_mode, set_device, set_players, set_game, book, home_of, start_mode, stop_mode, drop_hold, called}
+use Rattle.event_queue.specs.Handlers.{takes_part}
 use Rattle.written_machine.specs.Run.{switch, device, Stimulus, SwitchChange, Alarm, Wait}
 
 -- ---- single changes

@@ -1,4 +1,4 @@
-use Rattle.std.proofs.Common.{rules, ◌+◌, get_or}
+use Rattle.std.proofs.Common.{rules, get_or}
 use Rattle.event_queue.proofs.Owned.{machine-is, owned-machine, owned-mode}
 use Rattle.event_queue.proofs.orders.owned_places.Goals as goal
 use Rattle.event_queue.proofs.orders.owned_places.Goals.{in-Mode+in_ok-push, in_default}

@@ -1,6 +1,5 @@
 use Rattle.std.{proofs.Common.{rules, ◌<◌, length, sym, ◌∙◌, subst}, specs.List.All}
 use Rattle.plan_tables.specs.{PlanView.row_at, Devices.list_count}
-use Rattle.written_machine.specs.Machine.{called}
 use Rattle.machine_core.{specs.Core.CoreView, proofs.{Going.{goes-can, goes-turn}, Listing.answer-lists}}
 use Rattle.machine_core.proofs.lists.call_by.Goals as goal
 

@@ -1,4 +1,4 @@
-use Rattle.std.proofs.Common.{rules, ◌≡◌, ℕ, ◌+◌, ◌<◌, Bool, true, if◌then◌else◌, List, [], ◌∷◌, ◌++◌, length, take, Option, Some, IfSome, option_map, sym, ap, subst, ◌∙◌, arith}
+use Rattle.std.proofs.Common.{rules, ◌≡◌, ℕ, ◌+◌, ◌<◌, Bool, if◌then◌else◌, List, [], ◌∷◌, ◌++◌, length, take, Option, Some, IfSome, option_map, sym, ap, subst, ◌∙◌, arith}
 use Rattle.std.specs.{List.slice_get, Str.bytes_eq}
 use Rattle.std.proofs.lemmas.List.{take_more, length-map, get_or-map, Sums.fold_push}
 use Rattle.std.proofs.lemmas.{Iterator.Adapters.option_map_id, Option.{slice_get-map, slice_get-get_or}}
