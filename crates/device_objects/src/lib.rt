@@ -11,6 +11,7 @@ pub mod law;
 pub mod same;
 pub mod shape;
 pub mod slot;
+pub mod slotted;
 pub mod state;
 pub mod values;
 
