@@ -3,7 +3,7 @@ use Rattle.std.proofs.Common.{rules, ℕ}
 use Rattle.plan_tables.specs.declared.devices.Settings.{Settings}
 use Rattle.device_objects.specs.declared.device.Call.TheVariants as calls
 use Rattle.device_objects.specs.declared.state.{DeviceState.DeviceState, World.World}
-use Rattle.device_objects.specs.{DeviceStep.{first_state, device_step, IsInactive}, Laws.HasShape}
+use Rattle.device_objects.specs.{DeviceStep.{device_step, IsInactive}, Laws.HasShape}
 
 pub stopped-inactive : (settings : Settings) (now : ℕ) (world : World) (state : DeviceState) → HasShape settings state
     → IsInactive (device_step settings calls.ModeStop now world state).0

@@ -14,7 +14,7 @@ use Rattle.device_objects.specs.declared.state.{SequenceSlot.SequenceSlot, Autof
 use Rattle.device_objects.specs.declared.state.{BankSlot.BankSlot, MultiballState.MultiballState, World.World}
 use Rattle.device_objects.specs.declared.state.{FlipperState.FlipperState, DeviceState.DeviceState}
 use Rattle.device_objects.specs.declared.state.DeviceState.TheVariants as states
-use Rattle.device_objects.specs.Slots.{slot_in_use, step_at, step_in_use}
+use Rattle.device_objects.specs.Slots.{slot_in_use, step_in_use}
 use Rattle.device_objects.specs.Counter as counter
 use Rattle.device_objects.specs.Accrual as accrual
 use Rattle.device_objects.specs.Sequence as sequence

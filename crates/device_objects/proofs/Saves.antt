@@ -1,7 +1,7 @@
 -- Ball saves: their states, what they answer, and when they are due.
-use Rattle.std.proofs.Common.{rules, ◌≡◌, ℕ, ◌-◌, ◌==◌, ◌<◌, ◌≤◌, ◌⊎◌, nat_lt, Bool, true, false, if◌then◌else◌, Option, None, Some, is_some, IfSome, List, [], ◌∷◌, ◌++◌, refl, sym, ◌∙◌, arith}
+use Rattle.std.proofs.Common.{rules, ◌≡◌, ℕ, ◌-◌, ◌==◌, ◌<◌, ◌≤◌, ◌⊎◌, nat_lt, true, false, Option, None, Some, IfSome, List, [], ◌∷◌, ◌++◌, refl, arith}
 use Rattle.std.{specs.List.All, proofs.lemmas.Bool.{eqb-false, lt-ltb, ltb-true, false≢true}}
-use Rattle.std.proofs.lemmas.{List.Elements.{All-append, All-cons}, Option.none-some}
+use Rattle.std.proofs.lemmas.{List.Elements.{All-append, All-cons}}
 use Rattle.plan_tables.specs.declared.devices.Act.{Act}
 use Rattle.plan_tables.specs.declared.devices.Act.TheVariants as acts
 use Rattle.machine_settings.specs.declared.settings.SaveSettings.{SaveSettings}
@@ -13,7 +13,6 @@ use Rattle.device_objects.specs.BallSave.{enabled, disabled, saving, first_state
 use Rattle.device_objects.specs.Laws.{HasSaveShape, IsAnswer, IsDone, MayCome}
 use Rattle.device_objects.specs.Outcomes.{only_if, of_save, of_save_act}
 use Rattle.device_objects.proofs.Among.{In, here, there, at_last, at_left, if_holds, by, either, one, all_if, if_true, two}
-use Rattle.std.proofs.lemmas.List.Elements.{All-nil}
 
 -- the state of a ball save that is active no more
 abbrev shut : SaveState → SaveState

@@ -1,10 +1,11 @@
 //! Devices whose state is a slot for each player, or one slot for all.
 
-ghost use Rattle.std.specs.Prelude.{◌≡◌, ◌<◌, ◌^◌};
+ghost use Rattle.std.specs.Prelude.{◌≡◌, ◌<◌, ◌^◌, map};
+ghost use Rattle.device_objects.specs.Slotted.{act_step, current};
 
 use crate::device::{Device, Outcome};
 use crate::shape::has_shape;
-use crate::slot::{SlotStep, is_of_other_game, slot_in_use, step_in_use};
+use crate::slot::{is_of_other_game, slot_in_use};
 use crate::state::{DeviceState, World};
 use plan_tables::{Act, DeviceRow, Settings};
 
@@ -158,40 +159,40 @@ impl<K: SlotKind> Device for Slotted<K> {
     }
 
     fn act(&mut self, act: Act, now: u64, world: World) -> Outcome {
-        let at = slot_in_use(self.kind.persists(), world);
-        let step = ActInWorld {
-            kind: self.kind,
-            act,
-            now,
-            world,
-        };
-        step_in_use(&mut self.slots, at, &step)
+        step_in_use(&self.kind, &mut self.slots, act, now, world)
     }
 }
 
-/// An act, at a moment, in this world.
-#[derive(Drop)]
-struct ActInWorld<K: SlotKind> {
-    kind: K,
+/// An act, at a moment, in this world: a step of the slot in use. Without one nothing is done.
+fn step_in_use<K: SlotKind>(
+    kind: &K,
+    slots: &mut [K::Slot],
     act: Act,
     now: u64,
     world: World,
-    ghost moment: { now < 2 ^ 40 },
+) -> Outcome
+    requires { now < 2 ^ 40 }
+    ensures slots { map K.seen slots.new ≡ (act_step (K.model kind.now) act now world (map K.seen slots.old)).0 }
+    ensures outcome { result.items ≡ (act_step (K.model kind.now) act now world (map K.seen slots.old)).1 }
+{
+    match slot_in_use(kind.persists(), world) {
+        Some(i) if i < slots.len() => {
+            let mut slot = current(kind, world, slots[i]);
+            let lists = kind.step(&mut slot, act, now);
+            slots[i] = slot;
+            lists
+        }
+        _ => Outcome::new(),
+    }
 }
 
-impl<K: SlotKind> SlotStep<K::Slot> for ActInWorld<K> {
-    ghost use Rattle.device_objects.specs.Slotted.{current};
-
-    type Seen = K::Seen;
-
-    ghost seen = { K.seen };
-
-    ghost step_of = { λ s slot. (K.model s.kind).step s.act s.now (current (K.model s.kind) s.world slot) };
-
-    fn step(&self, slot: &mut K::Slot) -> Outcome {
-        if is_of_other_game(self.kind.persists(), self.world, self.kind.game(slot)) {
-            *slot = self.kind.first_slot(self.world.games);
-        }
-        self.kind.step(slot, self.act, self.now)
+/// A slot as it counts in this world.
+fn current<K: SlotKind>(kind: &K, world: World, slot: K::Slot) -> K::Slot
+    ensures { K.seen result ≡ current (K.model kind.now) world (K.seen slot) }
+{
+    if is_of_other_game(kind.persists(), world, kind.game(&slot)) {
+        kind.first_slot(world.games)
+    } else {
+        slot
     }
 }
