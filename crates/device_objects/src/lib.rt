@@ -8,6 +8,7 @@ pub mod device;
 pub mod first;
 pub mod flags;
 pub mod law;
+pub mod outcome;
 pub mod same;
 pub mod shape;
 pub mod slot;

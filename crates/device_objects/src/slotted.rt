@@ -63,13 +63,13 @@ pub trait SlotKind: Copy + Drop {
 
 /// A kind whose devices can be made in any state.
 pub trait Resume: SlotKind {
-    ghost use Rattle.std.specs.Prelude.{◌≡◌, map};
+    ghost use Rattle.std.specs.Prelude.{◌≡◌, map, IsSome, IfSome};
     ghost use Rattle.device_objects.specs.Laws.{HasShape};
 
-    /// The slots of a state.
-    fn slots_of(&self, state: &DeviceState) -> [Self::Slot; 4]
-        requires { HasShape (Self.model self.now).settings state.now }
-        ensures { (Self.model self.now).state_of (map Self.seen result) ≡ state.now };
+    /// The slots of a state. There are some if the state is of the shape that the settings ask for.
+    fn slots_of(&self, state: &DeviceState) -> Option<[Self::Slot; 4]>
+        ensures shape { HasShape (Self.model self.now).settings state.now → IsSome result }
+        ensures state { IfSome result (λ slots. (Self.model self.now).state_of (map Self.seen slots) ≡ state.now) };
 }
 
 /// A device whose state is slots.
@@ -118,7 +118,7 @@ impl<K: Resume> Slotted<K> {
         Some(Slotted {
             row: *row,
             kind,
-            slots: kind.slots_of(state),
+            slots: kind.slots_of(state)?,
         })
     }
 }

@@ -5,7 +5,8 @@ ghost use Rattle.std.specs.List.{list_all};
 ghost use Rattle.device_objects.specs.Accrual.{is_step_open, are_all_done, completed, stepped, slot_step};
 ghost use Rattle.plan_tables.specs.declared.devices.Act.TheVariants as acts;
 
-use crate::lists::{hit, reset, silent};
+use crate::lists::{hit, reset};
+use device_objects::outcome::silent;
 use device_objects::slotted::{SlotKind, Slotted};
 use device_objects::{AccrualSlot, DeviceState, Outcome};
 use machine_settings::StepSettings;

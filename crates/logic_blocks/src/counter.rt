@@ -4,7 +4,8 @@ ghost use Rattle.std.specs.Prelude.{◌≡◌, ◌<◌, ◌^◌};
 ghost use Rattle.device_objects.specs.Counter.{is_early, completed, counted, slot_step};
 ghost use Rattle.plan_tables.specs.declared.devices.Act.TheVariants as acts;
 
-use crate::lists::{hit, reset, silent};
+use crate::lists::{hit, reset};
+use device_objects::outcome::silent;
 use device_objects::slotted::{SlotKind, Slotted};
 use device_objects::values::moved;
 use device_objects::{CounterSlot, DeviceState, Outcome};

@@ -6,8 +6,9 @@ ghost use Rattle.device_objects.specs.Flags.{flags};
 ghost use Rattle.logic_blocks.specs.Mask.{slot_of};
 ghost use Rattle.plan_tables.specs.declared.devices.Act.TheVariants as acts;
 
-use crate::lists::{hit, reset, silent};
+use crate::lists::{hit, reset};
 use device_objects::flags::{are_set, flags_of, is_set, mask_of, with_flag};
+use device_objects::outcome::silent;
 use device_objects::slotted::{Resume, SlotKind, Slotted};
 use device_objects::{AccrualSlot, DeviceState, Outcome};
 use machine_settings::StepSettings;
@@ -102,11 +103,10 @@ impl SlotKind for MaskAccrualKind {
 }
 
 impl Resume for MaskAccrualKind {
-    fn slots_of(&self, state: &DeviceState) -> [MaskSlot; 4] {
+    fn slots_of(&self, state: &DeviceState) -> Option<[MaskSlot; 4]> {
         match state {
-            DeviceState::Accrual(slots) => masked(slots),
-            // Never comes: the state is of the shape of an accrual.
-            _ => [self.first_slot(0); 4],
+            DeviceState::Accrual(slots) => Some(masked(slots)),
+            _ => None,
         }
     }
 }

@@ -103,11 +103,10 @@ impl SlotKind for MaskBankKind {
 }
 
 impl Resume for MaskBankKind {
-    fn slots_of(&self, state: &DeviceState) -> [MaskSlot; 4] {
+    fn slots_of(&self, state: &DeviceState) -> Option<[MaskSlot; 4]> {
         match state {
-            DeviceState::Bank(slots) => masked(slots),
-            // Never comes: the state is of the shape of a bank.
-            _ => [self.first_slot(0); 4],
+            DeviceState::Bank(slots) => Some(masked(slots)),
+            _ => None,
         }
     }
 }
