@@ -4,7 +4,7 @@ ghost use Rattle.std.specs.Prelude.{◌≡◌};
 ghost use Rattle.device_objects.specs.Autofire.{act_step};
 ghost use Rattle.plan_tables.specs.declared.devices.Settings.TheVariants as kinds;
 
-use crate::lists::{one, silent};
+use device_objects::outcome::{one, silent};
 use device_objects::{AutofireState, Device, DeviceState, Outcome, World};
 use plan_tables::{Act, DeviceRow, Settings};
 

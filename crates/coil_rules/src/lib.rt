@@ -3,7 +3,6 @@
 
 pub mod autofire;
 pub mod flipper;
-mod lists;
 
 pub use autofire::Autofire;
 pub use flipper::Flipper;

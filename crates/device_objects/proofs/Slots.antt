@@ -1,7 +1,7 @@
 -- Steps of slots.
-use Rattle.std.proofs.Common.{rules, ◌≡◌, ℕ, ◌≤◌, Bool, true, Option, None, Some, List, [], ◌∷◌, length, map, option_map, set, slice_get, if◌then◌else◌, get_or, sym, ap, subst, ◌∙◌, arith}
-use Rattle.std.{specs.List.All, proofs.lemmas.List.{length-map, map-set}}
-use Rattle.std.proofs.lemmas.Option.{slice_get_past, slice_get_within, slice_get-get_or, slice_get-map}
+use Rattle.std.proofs.Common.{rules, ◌≡◌, ℕ, Bool, true, Option, None, Some, List, [], ◌∷◌, length, map, option_map, set, slice_get, if◌then◌else◌, get_or, sym, ap, subst, ◌∙◌, arith}
+use Rattle.std.{specs.List.All, proofs.lemmas.List.{map-set}}
+use Rattle.std.proofs.lemmas.Option.{slice_get_within, slice_get-get_or, slice_get-map}
 use Rattle.device_objects.specs.{declared.state.World.World, Slots.{slot_in_use, step_at, step_in_use}}
 
 abbrev value_or : {S : Type 0} → S → Option S → S
@@ -47,8 +47,3 @@ module _ {S V : Type 0} (seen : S → V) (step : V → V × List ℕ) where
       → (map seen (set slots i new) ≡ (step_in_use step (map seen slots) at).0)
       × (lists ≡ (step_in_use step (map seen slots) at).1)
   seen-step slots at i slot new lists is here becomes answers = search (rules, slice_get, slice_get-map, option_map, map-set)
-
-  -- where there is no such slot, nothing is done
-  pub seen-past : (slots : List S) (at : Option ℕ) (i : ℕ) → at ≡ Some i → length slots ≤ i
-      → step_in_use step (map seen slots) at ≡ (map seen slots, [])
-  seen-past slots at i is past = search (rules, slice_get_past, length-map)

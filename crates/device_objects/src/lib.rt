@@ -8,9 +8,11 @@ pub mod device;
 pub mod first;
 pub mod flags;
 pub mod law;
+pub mod outcome;
 pub mod same;
 pub mod shape;
 pub mod slot;
+pub mod slotted;
 pub mod state;
 pub mod values;
 

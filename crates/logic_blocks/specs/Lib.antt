@@ -1,2 +1,3 @@
 pub mod Kind
+pub mod Slots
 pub mod Mask

@@ -1,142 +1,92 @@
 //! A counter.
 
 ghost use Rattle.std.specs.Prelude.{◌≡◌, ◌<◌, ◌^◌};
-ghost use Rattle.device_objects.specs.Counter.{first_slot, is_early, completed, counted, slot_step, current};
+ghost use Rattle.device_objects.specs.Counter.{is_early, completed, counted, slot_step};
 ghost use Rattle.plan_tables.specs.declared.devices.Act.TheVariants as acts;
-ghost use Rattle.plan_tables.specs.declared.devices.Settings.TheVariants as kinds;
 
-use crate::lists::{hit, reset, silent};
-use device_objects::slot::{SlotStep, is_of_other_game, slot_in_use, step_in_use};
+use crate::lists::{hit, reset};
+use device_objects::outcome::silent;
+use device_objects::slotted::{SlotKind, Slotted};
 use device_objects::values::moved;
-use device_objects::{CounterSlot, Device, DeviceState, Outcome, World};
+use device_objects::{CounterSlot, DeviceState, Outcome};
 use machine_settings::CounterSettings;
-use plan_tables::{Act, DeviceRow, Settings};
+use plan_tables::{Act, Settings};
 
 /// A counter: it counts hits, and completes when its value reaches or passes the one that is set.
-#[derive(Drop)]
-pub struct Counter {
-    row: DeviceRow,
-    settings: CounterSettings,
-    slots: [CounterSlot; 4],
-    ghost kind: { row.settings ≡ kinds.Counter settings },
-}
+pub type Counter = Slotted<CounterKind>;
 
-impl Counter {
-    ghost use Rattle.std.specs.Prelude.{◌≡◌, ◌↔◌, IsSome, IfSome};
-    ghost use Rattle.device_objects.specs.DeviceStep.{first_state};
-    ghost use Rattle.logic_blocks.specs.Kind.{IsCounter};
-
-    /// The counter of a row, in its first state. None exactly where the row is of another kind.
-    pub fn new(row: &DeviceRow) -> Option<Self>
-        ensures kind { IsSome result ↔ IsCounter row.now.settings }
-        ensures row { IfSome result (λ d. ⟦<Counter as Device>⟧.row_of d ≡ row.now) }
-        ensures first { IfSome result (λ d. ⟦<Counter as Device>⟧.state_of d ≡ first_state row.now.settings) }
-    {
-        match row.settings {
-            Settings::Counter(settings) => Some(Counter {
-                row: *row,
-                settings,
-                slots: [first_slot(&settings, 0); 4],
-            }),
-            _ => None,
-        }
-    }
-}
-
-impl Device for Counter {
-    ghost use Rattle.std.specs.Prelude.{◌≡◌, []};
-    ghost use Rattle.device_objects.specs.declared.state.DeviceState.TheVariants as states;
-
-    ghost row_of = { λ d. d.row };
-
-    ghost state_of = { λ d. states.Counter d.slots };
-
-    fn row(&self) -> DeviceRow {
-        self.row
-    }
-
-    fn state(&self) -> DeviceState {
-        DeviceState::Counter(self.slots)
-    }
-
-    fn due(&self) -> Option<u64> {
-        None
-    }
-
-    fn start(&mut self, _now: u64, _world: World) -> Outcome {
-        if !self.settings.block.persist {
-            self.slots[0] = first_slot(&self.settings, 0);
-        }
-        silent()
-    }
-
-    fn stop(&mut self, _now: u64, _world: World) -> Outcome {
-        silent()
-    }
-
-    /// Never comes: nothing of a counter is due.
-    fn fire(&mut self, _now: u64, _world: World) -> Outcome
-        ensures same { self.new ≡ self.old }
-        ensures outcome { result.items ≡ [] }
-    {
-        silent()
-    }
-
-    fn act(&mut self, act: Act, now: u64, world: World) -> Outcome {
-        let at = slot_in_use(self.settings.block.persist, world);
-        let step = ActInWorld {
-            settings: self.settings,
-            act,
-            now,
-            world,
-        };
-        step_in_use(&mut self.slots, at, &step)
-    }
-}
-
-/// An act, in this world.
+/// The settings of a counter.
 #[derive(Clone, Copy)]
-struct ActInWorld {
+pub struct CounterKind {
     settings: CounterSettings,
-    act: Act,
-    now: u64,
-    world: World,
-    ghost moment: { now < 2 ^ 40 },
 }
 
-impl SlotStep<CounterSlot> for ActInWorld {
+impl SlotKind for CounterKind {
+    ghost use Rattle.std.specs.Prelude.{refl};
+    ghost use Rattle.logic_blocks.specs.{Kind.IsCounter, Slots.counter_slots};
+
+    type Slot = CounterSlot;
+
     type Seen = CounterSlot;
+
+    ghost IsOfKind = { IsCounter };
+
+    ghost model = { λ k. counter_slots k.settings };
 
     ghost seen = { λ slot. slot };
 
-    ghost step_of = { λ s slot. slot_step s.settings s.act s.now (current s.settings s.world slot) };
+    ghost acts = { λ k. record { first = refl; never_due = λ slots. refl; start = λ now world slots. refl; stop = λ now world slots. refl; act = λ act now world slots. refl } };
 
-    fn step(&self, slot: &mut CounterSlot) -> Outcome {
-        *slot = current(&self.settings, self.world, *slot);
-        step(&self.settings, slot, self.act, self.now)
+    fn of_row(settings: &Settings) -> Option<Self> {
+        match *settings {
+            Settings::Counter(settings) => Some(CounterKind { settings }),
+            _ => None,
+        }
     }
-}
 
-/// A slot at first, for a game.
-fn first_slot(settings: &CounterSettings, game: u64) -> CounterSlot
-    ensures { result ≡ first_slot settings.now game }
-{
-    CounterSlot {
-        game,
-        enabled: settings.block.enabled,
-        value: settings.start,
-        last_hit: None,
+    fn state(&self, slots: &[CounterSlot; 4]) -> DeviceState {
+        DeviceState::Counter(*slots)
     }
-}
 
-/// A slot as it counts in this world.
-fn current(settings: &CounterSettings, world: World, slot: CounterSlot) -> CounterSlot
-    ensures { result ≡ current settings.now world slot }
-{
-    if is_of_other_game(settings.block.persist, world, slot.game) {
-        first_slot(settings, world.games)
-    } else {
-        slot
+    fn persists(&self) -> bool {
+        self.settings.block.persist
+    }
+
+    fn first_slot(&self, game: u64) -> CounterSlot {
+        CounterSlot {
+            game,
+            enabled: self.settings.block.enabled,
+            value: self.settings.start,
+            last_hit: None,
+        }
+    }
+
+    fn game(&self, slot: &CounterSlot) -> u64 {
+        slot.game
+    }
+
+    fn step(&self, slot: &mut CounterSlot, act: Act, now: u64) -> Outcome {
+        match act {
+            Act::Count => count(&self.settings, slot, now),
+            Act::Enable => {
+                slot.enabled = true;
+                silent()
+            }
+            Act::Disable => {
+                slot.enabled = false;
+                silent()
+            }
+            Act::Reset => {
+                slot.value = self.settings.start;
+                reset()
+            }
+            Act::Restart => {
+                slot.value = self.settings.start;
+                slot.enabled = true;
+                reset()
+            }
+            _ => silent(),
+        }
     }
 }
 
@@ -172,35 +122,6 @@ fn complete(settings: &CounterSettings, slot: &mut CounterSlot)
     }
     if settings.block.reset_on_complete {
         slot.value = settings.start;
-    }
-}
-
-/// What an act does to a slot.
-fn step(settings: &CounterSettings, slot: &mut CounterSlot, act: Act, now: u64) -> Outcome
-    requires { now < 2 ^ 40 }
-    ensures slot { slot.new ≡ (slot_step settings.now act now slot.old).0 }
-    ensures outcome { result.items ≡ (slot_step settings.now act now slot.old).1 }
-{
-    match act {
-        Act::Count => count(settings, slot, now),
-        Act::Enable => {
-            slot.enabled = true;
-            silent()
-        }
-        Act::Disable => {
-            slot.enabled = false;
-            silent()
-        }
-        Act::Reset => {
-            slot.value = settings.start;
-            reset()
-        }
-        Act::Restart => {
-            slot.value = settings.start;
-            slot.enabled = true;
-            reset()
-        }
-        _ => silent(),
     }
 }
 

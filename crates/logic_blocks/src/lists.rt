@@ -1,26 +1,10 @@
-//! The lists that devices answer.
+//! The lists that blocks answer.
 
 ghost use Rattle.std.specs.Prelude.{◌≡◌, [], ◌∷◌, if◌then◌else◌};
 ghost use Rattle.device_objects.specs.Slots.{updated, hit, complete};
 
-use arrayvec::ArrayVec;
 use device_objects::Outcome;
-
-/// No list.
-pub(crate) fn silent() -> Outcome
-    ensures { result.items ≡ [] }
-{
-    ArrayVec::new()
-}
-
-/// One list.
-pub(crate) fn one(list: u16) -> Outcome
-    ensures { result.items ≡ list ∷ [] }
-{
-    let mut lists = ArrayVec::new();
-    lists.push(list);
-    lists
-}
+use device_objects::outcome::one;
 
 /// The list of a block that is reset.
 pub(crate) fn reset() -> Outcome

@@ -7,7 +7,7 @@ ghost use Rattle.plan_tables.specs.declared.devices.Act.TheVariants as acts;
 ghost use Rattle.device_objects.specs.declared.device.Call.TheVariants as calls;
 ghost use Rattle.plan_tables.specs.declared.devices.Settings.TheVariants as kinds;
 
-use crate::lists::{one, silent};
+use device_objects::outcome::{one, silent};
 use device_objects::values::{clamped, moved};
 use device_objects::{Device, DeviceState, Outcome, TimerState, World};
 use machine_settings::TimerSettings;

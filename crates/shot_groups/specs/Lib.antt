@@ -1,4 +1,5 @@
 pub mod Kind
+pub mod Slots
 pub mod Mask
 -- what the contracts of private functions cite, and no public one
 pub mod Hit

@@ -1,5 +1,5 @@
 use Rattle.std.proofs.Common.{rules}
-use Rattle.shot_groups.proofs.bank.step.Goals as goal
+use Rattle.shot_groups.proofs.bank.BankKindSlotKind.step.Goals as goal
 
 pub returns-in-Hit-clause-slot : goal.returns-in-Hit-clause-slot
 returns-in-Hit-clause-slot c = search rules

@@ -2,21 +2,20 @@
 
 ghost use Rattle.std.specs.Prelude.{◌≡◌, [], ◌∷◌};
 
-use arrayvec::ArrayVec;
-use device_objects::Outcome;
+use crate::device::Outcome;
 
 /// No list.
-pub(crate) fn silent() -> Outcome
+pub fn silent() -> Outcome
     ensures { result.items ≡ [] }
 {
-    ArrayVec::new()
+    Outcome::new()
 }
 
-/// One list.
-pub(crate) fn one(list: u16) -> Outcome
+/// One list, by its number.
+pub fn one(list: u16) -> Outcome
     ensures { result.items ≡ list ∷ [] }
 {
-    let mut lists = ArrayVec::new();
+    let mut lists = Outcome::new();
     lists.push(list);
     lists
 }

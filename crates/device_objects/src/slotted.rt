@@ -1,0 +1,198 @@
+//! Devices whose state is a slot for each player, or one slot for all.
+
+ghost use Rattle.std.specs.Prelude.{◌≡◌, ◌<◌, ◌^◌, map};
+ghost use Rattle.device_objects.specs.Slotted.{act_step, current};
+
+use crate::device::{Device, Outcome};
+use crate::shape::has_shape;
+use crate::slot::{is_of_other_game, slot_in_use};
+use crate::state::{DeviceState, World};
+use plan_tables::{Act, DeviceRow, Settings};
+
+/// The settings of a kind of device whose state is slots, and what the slots do. Nothing of such a device is ever due.
+pub trait SlotKind: Copy + Drop {
+    ghost use Rattle.std.specs.Prelude.{◌≡◌, ◌↔◌, ◌<◌, ◌^◌, map, IsSome, IfSome};
+    ghost use Rattle.plan_tables.specs.declared.devices.Settings.{Settings};
+    ghost use Rattle.device_objects.specs.Slotted.{SlotModel, ActsOnSlots};
+
+    /// A slot as the device keeps it.
+    type Slot: Copy;
+
+    /// A slot as others see it.
+    type Seen;
+
+    /// Whether settings are of this kind.
+    ghost IsOfKind: { Settings → Type 0 };
+
+    /// What is known of the slots.
+    ghost model: { Self → SlotModel Self.Seen };
+
+    /// What is seen of a slot.
+    ghost seen: { Self.Slot → Self.Seen };
+
+    /// The settings of a row, if they are of this kind.
+    fn of_row(settings: &Settings) -> Option<Self>
+        ensures kind { IsSome result ↔ IsOfKind settings.now }
+        ensures settings { IfSome result (λ k. (model k).settings ≡ settings.now) };
+
+    /// The state that has these slots.
+    fn state(&self, slots: &[Self::Slot; 4]) -> DeviceState
+        ensures { result ≡ (model self.now).state_of (map seen slots.now) };
+
+    /// Whether each player has a slot. If not, all share the first.
+    fn persists(&self) -> bool
+        ensures { result ≡ (model self.now).persist };
+
+    /// A slot at first, for a game.
+    fn first_slot(&self, game: u64) -> Self::Slot
+        ensures { seen result ≡ (model self.now).first game };
+
+    /// The game to which a slot belongs.
+    fn game(&self, slot: &Self::Slot) -> u64
+        ensures { result ≡ (model self.now).game_of (seen slot.now) };
+
+    /// What an act does to a slot of the game that is played.
+    fn step(&self, slot: &mut Self::Slot, act: Act, now: u64) -> Outcome
+        requires { now < 2 ^ 40 }
+        ensures slot { seen slot.new ≡ ((model self.now).step act now (seen slot.old)).0 }
+        ensures outcome { result.items ≡ ((model self.now).step act now (seen slot.old)).1 };
+
+    /// What is done with the device is done to its slots.
+    ghost acts: { (k : Self) → ActsOnSlots (model k) };
+}
+
+/// A kind whose devices can be made in any state.
+pub trait Resume: SlotKind {
+    ghost use Rattle.std.specs.Prelude.{◌≡◌, map, IsSome, IfSome};
+    ghost use Rattle.device_objects.specs.Laws.{HasShape};
+
+    /// The slots of a state. There are some if the state is of the shape that the settings ask for.
+    fn slots_of(&self, state: &DeviceState) -> Option<[Self::Slot; 4]>
+        ensures shape { HasShape (Self.model self.now).settings state.now → IsSome result }
+        ensures state { IfSome result (λ slots. (Self.model self.now).state_of (map Self.seen slots) ≡ state.now) };
+}
+
+/// A device whose state is slots.
+#[derive(Drop)]
+pub struct Slotted<K: SlotKind> {
+    row: DeviceRow,
+    kind: K,
+    slots: [K::Slot; 4],
+    ghost of_row: { (K.model kind).settings ≡ row.settings },
+}
+
+impl<K: SlotKind> Slotted<K> {
+    ghost use Rattle.std.specs.Prelude.{◌≡◌, ◌↔◌, IsSome, IfSome};
+    ghost use Rattle.device_objects.specs.DeviceStep.{first_state};
+
+    /// The device of a row, in its first state. None exactly where the row is of another kind.
+    pub fn new(row: &DeviceRow) -> Option<Self>
+        ensures kind { IsSome result ↔ K.IsOfKind row.now.settings }
+        ensures row { IfSome result (λ d. ⟦<Slotted<K> as Device>⟧.row_of d ≡ row.now) }
+        ensures first { IfSome result (λ d. ⟦<Slotted<K> as Device>⟧.state_of d ≡ first_state row.now.settings) }
+    {
+        let kind = K::of_row(&row.settings)?;
+        Some(Slotted {
+            row: *row,
+            kind,
+            slots: [kind.first_slot(0); 4],
+        })
+    }
+}
+
+impl<K: Resume> Slotted<K> {
+    ghost use Rattle.std.specs.Prelude.{◌≡◌, ◌↔◌, IsSome, IfSome};
+    ghost use Rattle.device_objects.specs.Laws.{HasShape};
+
+    /// The device of a row, in this state. None exactly where [`new`](Slotted::new) gives none, or the state is not of
+    /// the shape that the row asks for.
+    pub fn resume(row: &DeviceRow, state: &DeviceState) -> Option<Self>
+        ensures kind { IsSome result ↔ (K.IsOfKind row.now.settings × HasShape row.now.settings state.now) }
+        ensures row { IfSome result (λ d. ⟦<Slotted<K> as Device>⟧.row_of d ≡ row.now) }
+        ensures state { IfSome result (λ d. ⟦<Slotted<K> as Device>⟧.state_of d ≡ state.now) }
+    {
+        let kind = K::of_row(&row.settings)?;
+        if !has_shape(&row.settings, state) {
+            return None;
+        }
+        Some(Slotted {
+            row: *row,
+            kind,
+            slots: kind.slots_of(state)?,
+        })
+    }
+}
+
+impl<K: SlotKind> Device for Slotted<K> {
+    ghost use Rattle.std.specs.Prelude.{map};
+
+    ghost row_of = { λ d. d.row };
+
+    ghost state_of = { λ d. (K.model d.kind).state_of (map K.seen d.slots) };
+
+    fn row(&self) -> DeviceRow {
+        self.row
+    }
+
+    fn state(&self) -> DeviceState {
+        self.kind.state(&self.slots)
+    }
+
+    fn due(&self) -> Option<u64> {
+        None
+    }
+
+    fn start(&mut self, _now: u64, _world: World) -> Outcome {
+        if !self.kind.persists() {
+            self.slots[0] = self.kind.first_slot(0);
+        }
+        Outcome::new()
+    }
+
+    fn stop(&mut self, _now: u64, _world: World) -> Outcome {
+        Outcome::new()
+    }
+
+    /// Never comes: nothing of the device is due.
+    fn fire(&mut self, _now: u64, _world: World) -> Outcome {
+        Outcome::new()
+    }
+
+    fn act(&mut self, act: Act, now: u64, world: World) -> Outcome {
+        step_in_use(&self.kind, &mut self.slots, act, now, world)
+    }
+}
+
+/// An act, at a moment, in this world: a step of the slot in use. Without one nothing is done.
+fn step_in_use<K: SlotKind>(
+    kind: &K,
+    slots: &mut [K::Slot],
+    act: Act,
+    now: u64,
+    world: World,
+) -> Outcome
+    requires { now < 2 ^ 40 }
+    ensures slots { map K.seen slots.new ≡ (act_step (K.model kind.now) act now world (map K.seen slots.old)).0 }
+    ensures outcome { result.items ≡ (act_step (K.model kind.now) act now world (map K.seen slots.old)).1 }
+{
+    match slot_in_use(kind.persists(), world) {
+        Some(i) if i < slots.len() => {
+            let mut slot = current(kind, world, slots[i]);
+            let lists = kind.step(&mut slot, act, now);
+            slots[i] = slot;
+            lists
+        }
+        _ => Outcome::new(),
+    }
+}
+
+/// A slot as it counts in this world.
+fn current<K: SlotKind>(kind: &K, world: World, slot: K::Slot) -> K::Slot
+    ensures { K.seen result ≡ current (K.model kind.now) world (K.seen slot) }
+{
+    if is_of_other_game(kind.persists(), world, kind.game(&slot)) {
+        kind.first_slot(world.games)
+    } else {
+        slot
+    }
+}
