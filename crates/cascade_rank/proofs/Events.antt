@@ -1,6 +1,6 @@
 -- Events by their numbers, and the events of a plan.
 use Rattle.std.proofs.Common.{◌≡◌, ℕ, ◌<◌, length, get_or, ap, arith}
-use Rattle.std.proofs.lemmas.{List.FromFn.{length-map-range_with_len, get_or-map-range_with_len}}
+use Rattle.std.proofs.lemmas.List.FromFn.{length-map-range_with_len, get_or-map-range_with_len}
 use Rattle.plan_tables.specs.{PlanView.PlanView, declared.entries.EventId.EventId}
 use Rattle.cascade_rank.specs.Events.{events_of, no_event}
 

@@ -1,9 +1,9 @@
 -- Marks of coils, action by action.
 use Rattle.std.proofs.Common.{rules, ◌≡◌, ℕ, ◌+◌, ◌<◌, ◌≤◌, Bool, true, false, if◌then◌else◌, cond, replicate, length-append, List, [], ◌∷◌, ◌++◌, length, map, take, get_or, refl, sym, ap, ◌∙◌, subst, arith}
 use Rattle.std.specs.{Prelude.◌||◌, List.{All, flat_map, list_any, filter, range_with_len}}
-use Rattle.std.proofs.lemmas.{Grind.flat_map-append, List.{append-nil, take_more, get_or-replicate, length-replicate}}
+use Rattle.std.proofs.lemmas.{Grind.flat_map-append, List.{Elements.All-weaker, Folds.list_any-append}}
+use Rattle.std.proofs.lemmas.List.{append-nil, take_more, get_or-replicate, length-replicate}
 use Rattle.std.proofs.lemmas.List.FromFn.{fill_by_all, length-map-range_with_len, get_or-map-range_with_len, filter_of_map_range_with_len_more}
-use Rattle.std.proofs.lemmas.List.{Elements.{All-weaker}, Folds.list_any-append}
 use Rattle.plan_tables.specs.PlanView.{PlanView, actions_at, actions_of, actions_of_binding, actions_of_row, actions_of_target, binding_at, coil_numbers, coils_enabled, is_enable_of, is_owner, list_of_row, no_binding, row_at, row_numbers, rows_of}
 use Rattle.plan_tables.specs.{Owned.{binding_numbers, bindings_of_owner}, Devices.list_count}
 use Rattle.plan_tables.specs.declared.entries.{Action.Action, BindingId.BindingId, Owner.Owner}

@@ -2,10 +2,9 @@
 use Rattle.std.proofs.Common.{rules, ◌≡◌, ℕ, ◌+◌, ◌≤◌, min, Bool, true, false, cond, ◌||◌, ◌==◌, refl, sym, subst, inl, inr, arith}
 use Rattle.std.proofs.lemmas.Bool.{and_parts, and_cases, or_left, or_right, or_cases, eq-eqb, false≢true}
 use Rattle.std.proofs.lemmas.Bool.Decides.{nat_tests}
-use Rattle.plan_tables.specs.declared.entries.EventId.{EventId}
+use Rattle.plan_tables.{specs.declared.entries.EventId.EventId, proofs.Worked.number_same}
 use Rattle.cascade_rank.specs.Cost.{Cost, Lines, Weight, Both, Greater, price, mentions, all_mentioned}
 use Rattle.cascade_rank.specs.Order.{unmet, occurrences}
-use Rattle.plan_tables.proofs.Worked.{number_same}
 
 -- what holds of each mentioned event, at one
 pub all_mentioned_at : (p : EventId → Bool) (c : Cost) (e : EventId) → all_mentioned p c ≡ true → mentions e c ≡ true → p e ≡ true

@@ -3,13 +3,12 @@ use Rattle.std.proofs.Common.{rules, ◌≡◌, ◌≢◌, ℕ, zero, suc, ◌+�
 use Rattle.std.proofs.lemmas.Bool.{cases_lt, cases_eq, eq-eqb, ne_eqb, lt-ltb, le-ltb, or_right, or_from, false≢true}
 use Rattle.std.proofs.lemmas.List.{take-append-le, get_or_append_left, get_or_push, length_push}
 use Rattle.std.proofs.lemmas.List.Sums.{count_by_more_yes, count_by_more_no, sum_by-take-le, sum_by-set}
-use Rattle.std.proofs.lemmas.List.Folds.{list_any-append, list_any_more}
+use Rattle.std.proofs.{lemmas.List.Folds.{list_any-append, list_any_more}, Math.Bool.or-false}
 use Rattle.plan_tables.specs.{PlanView.PlanView, declared.entries.EventId.EventId}
 use Rattle.cascade_rank.specs.{Cost.{Cost, all_mentioned, cost_of_event}, Events.{no_event, nth_event}}
 use Rattle.cascade_rank.specs.Order.{unmet, occurrences, is_in, times, left_of, CountsPosts, EachAfter, IsOrdering, IsMeeting}
 use Rattle.cascade_rank.proofs.Events.{same_event}
 use Rattle.cascade_rank.proofs.Mentioned.{unmet-none, unmet_met, occurrences-unmet, all_mentioned-weaker}
-use Rattle.std.proofs.Math.Bool.{or-false}
 
 -- ---- one event more
 
@@ -56,7 +55,6 @@ pub record IsStart (plan : PlanView) (left : List ℕ) (count : ℕ) (order : Li
 
 module _ (plan : PlanView) (left : List ℕ) (length_is : length left ≡ length plan.events)
     (left_is : CountsPosts plan left) where
-
   module _ (order : List EventId) (x : EventId) (s : IsStart plan left x.0 order) (here : x.0 < length plan.events) where
     inside : x.0 < length left
     inside = omega (arith, here, length_is)
@@ -82,7 +80,6 @@ module _ (plan : PlanView) (left : List ℕ) (length_is : length left ≡ length
 
 module _ (plan : PlanView) (taken : ℕ) (order : List EventId) (leaders : List EventId) (turn : taken < length order)
     (leaders_are : (e : EventId) → e.0 < length plan.events → times leaders e ≡ occurrences (nth_event order taken) (cost_of_event plan e)) where
-
   module _ (left : List ℕ) (apart : EachAfter (λ before e. is_in before e ≡ false) order) where
     fresh : is_in (take taken order) (nth_event order taken) ≡ false
     fresh = apart taken turn
@@ -190,7 +187,6 @@ module _ (plan : PlanView) (taken : ℕ) (order : List EventId) (leaders : List 
 -- ---- the same, of those that lead to the next event from the first
 
 module _ (plan : PlanView) (taken : ℕ) (leaders : List EventId) where
-
   leaders_of : (order : List EventId) → ((e : EventId) → times leaders e ≡ cond (nat_lt e.0 (length plan.events)) (occurrences (nth_event order taken) (cost_of_event plan e)) 0) → (e : EventId) → e.0 < length plan.events → times leaders e ≡ occurrences (nth_event order taken) (cost_of_event plan e)
   leaders_of order is e l = is e ∙ ap (λ (b : Bool). cond b (occurrences (nth_event order taken) (cost_of_event plan e)) 0) (lt-ltb e.0 (length plan.events) l)
 

@@ -1,9 +1,8 @@
 -- Laws of prices, by cases on the cost.
 use Rattle.std.proofs.Common.{◌≡◌, ℕ, zero, suc, ◌+◌, ◌≤◌, ◌<◌, max, true, List, [], ◌∷◌, length, take, get_or, sum_by, refl, subst, inl, inr, arith, rules}
 use Rattle.std.proofs.lemmas.{Bool.{or_left, or_right, or_cases, eq-eqb, false≢true}, List.Sums.sum_by-cons}
-use Rattle.plan_tables.specs.declared.entries.EventId.{EventId}
+use Rattle.plan_tables.{specs.declared.entries.EventId.EventId, proofs.Worked.number_same}
 use Rattle.cascade_rank.specs.Cost.{Cost, Lines, Weight, Both, Greater, price, mentions, each_of, dearest_of}
-use Rattle.plan_tables.proofs.Worked.{number_same}
 
 -- at greater weights nothing is cheaper
 pub price_at_most : (w v : EventId → ℕ) (c : Cost) → ((e : EventId) → mentions e c ≡ true → w e ≤ v e) → price w c ≤ price v c

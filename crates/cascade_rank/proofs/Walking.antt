@@ -1,16 +1,15 @@
 -- The walk along events that are not grounded, and the cycle in which it ends.
 use Rattle.std.proofs.Common.{rules, ◌≡◌, ◌≢◌, ℕ, suc, ◌+◌, ◌-◌, ◌<◌, Bool, true, false, not, cond, ◌&&◌, ◌||◌, ◌==◌, List, [], ◌∷◌, ◌++◌, length, take, drop, set, get_or, slice_index_or, count_by, All, Option, position, unwrap_or, refl, sym, ◌∙◌, ap, subst, inl, inr, arith, length-append, length-drop, length-set, get_or-drop, get_or-set_same, get_or-set_other}
-use Rattle.std.{specs.List.{list_any, position_or_len}, proofs.lemmas.List.Elements.{All-push, All-drop}}
+use Rattle.std.{specs.List.{list_any, position_or_len}, proofs.lemmas.List.{get_or_append_left, get_or_push, take_rest}}
+use Rattle.std.proofs.lemmas.List.{Elements.{All-push, All-drop}, Folds.{list_any-append, list_any_at}}
 use Rattle.std.proofs.lemmas.Bool.{cases_lt, cases_eq, lt-ltb, le-ltb, and_parts, or_right, eq-eqb, ne_eqb, false≢true}
-use Rattle.std.proofs.lemmas.List.{get_or_append_left, get_or_push, take_rest}
 use Rattle.std.proofs.lemmas.List.Sums.{sum_by-set, passes_at_first, prefix_len-le-length}
-use Rattle.std.proofs.lemmas.List.Folds.{list_any-append, list_any_at}
 use Rattle.plan_tables.specs.{PlanView.PlanView, Valid.HasEntries, declared.entries.EventId.EventId}
 use Rattle.cascade_rank.specs.{Cost.cost_of_event, Events.{no_event, nth_event}, Lowest.LeadsOn}
 use Rattle.cascade_rank.specs.LeadsTo.{leads, grounded, is_open, IsCycle}
 use Rattle.cascade_rank.specs.Cycle.{IsFirst, GoesOn, IsWalk, IsReportedCycle, next_open, from_first, cycle_from, cycle_of}
-use Rattle.cascade_rank.proofs.{Events.same_event, Ranking.mentioned_below, Ordering.counted_one}
-use Rattle.cascade_rank.proofs.{Mentioned.all_mentioned-fails, Firsts.{first_is, first_below}}
+use Rattle.cascade_rank.proofs.{Events.same_event, Ordering.counted_one, Firsts.{first_is, first_below}}
+use Rattle.cascade_rank.proofs.{Ranking.mentioned_below, Mentioned.all_mentioned-fails}
 use Rattle.plan_tables.proofs.Worked.{number_same}
 
 -- ---- where an event goes on to

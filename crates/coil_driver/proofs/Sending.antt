@@ -1,8 +1,6 @@
 -- The lines of a cascade have just the commands that its guard has sent.
 use Rattle.std.proofs.Common.{◌≡◌, ℕ, ◌<◌, ◌^◌, inl, inr, Bool, true, false, cond, if◌then◌else◌, List, [], ◌∷◌, ◌++◌, length, refl, sym, ap, ◌∙◌, subst, arith}
-use Rattle.std.specs.{List.All}
-use Rattle.std.proofs.lemmas.Bool.{cases_lt, cond_both}
-use Rattle.std.proofs.lemmas.List.{get_or_past, Elements.All-cons}
+use Rattle.std.{specs.List.All, proofs.lemmas.{Bool.{cases_lt, cond_both}, List.{get_or_past, Elements.All-cons}}}
 use Rattle.plan_tables.specs.{PlanView.{PlanView, work_of}, declared.entries.{Owner.Owner, CoilId.CoilId}}
 use Rattle.coil_guard.specs.declared.{command.{Command.Command, Answer.Answer}, state.CoilState.CoilState}
 use Rattle.coil_guard.specs.declared.command.Command.TheVariants as commands
@@ -21,9 +19,7 @@ use Rattle.written_machine.proofs.{Does.{start-by, stop-by, does-keeps}, Parts.{
 use Rattle.written_machine.proofs.{Held.asked-count, Keeps.{step-keeps, steps-keep}}
 use Rattle.coil_driver.specs.Board.{after_happening, after_line, after_lines}
 use Rattle.coil_driver.specs.{Driver.{IsToCoil, IsSendable}, Agrees.{IsSent, AreSent, Agrees}}
-use Rattle.coil_guard.proofs.Following.{never-pulsed}
-use Rattle.coil_guard.proofs.Following.{never-enabled}
-use Rattle.coil_guard.proofs.Following.{never-on}
+use Rattle.coil_guard.proofs.Following.{never-pulsed, never-enabled, never-on}
 
 -- ---- one command
 

@@ -52,7 +52,6 @@ onwards-after zero b = refl
 onwards-after (suc n) b = onwards-after n (after_sending b)
 
 module _ (k n : ℕ) (onwards : Bool) where
-
   -- before the k-th command, after it, and at it
   fault-is : (((k - n) == 1) || (onwards && ((k - n) == 0))) ≡ is_fault_at k onwards (n + 1)
   fault-is = search rules

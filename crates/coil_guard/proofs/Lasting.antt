@@ -1,10 +1,8 @@
 -- One more sending: what lasts after it, and what rests after it.
 use Rattle.std.proofs.Common.{rules, ◌≡◌, ℕ, ◌≤◌, Bool, true, false, not, ◌&&◌, ◌||◌, List, [], ◌∷◌, ◌++◌, nat_lt, ap, ap₂, ◌∙◌}
-use Rattle.std.{specs.List.{list_all, list_any}, proofs.lemmas.List.Folds.{list_all-append, list_any-append}}
+use Rattle.std.specs.List.{list_all, list_any}
+use Rattle.std.proofs.{lemmas.List.Folds.{list_all-append, list_any-append}, Math.Bool.{and-true, and-false, or-false}}
 use Rattle.coil_guard.specs.SentCommands.{Sending, lasts}
-use Rattle.std.proofs.Math.Bool.{and-true}
-use Rattle.std.proofs.Math.Bool.{and-false}
-use Rattle.std.proofs.Math.Bool.{or-false}
 
 -- a: the first one begins; l: none of the later ones ends it; n: the new one does not; r: one of the later ones lasts; b: the new one begins
 regroup : (a l n r b : Bool) → ((a && (l && n)) || ((r && n) || b)) ≡ ((((a && l) || r) && n) || b)

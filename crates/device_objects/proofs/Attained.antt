@@ -1,7 +1,7 @@
 -- Each outcome is the answer of some state.
 use Rattle.std.proofs.Common.{rules, ◌≡◌, ◌≢◌, ◌⊎◌, inl, inr, ℕ, zero, ◌==◌, suc, nat_lt, ◌<◌, ◌≤◌, Bool, true, false, Option, None, Some, List, [], ◌∷◌, ◌++◌, length, replicate, take, get_or, slice_get, slice_set, if◌then◌else◌, is_some, refl, sym, ap, not, ◌∙◌, ◌&&◌, ℤ, pos, neg_ℤ, ◌+ℤ◌, ◌-ℤ◌, arith}
 use Rattle.std.{specs.{List.{All, list_all}, Prelude.{int_le, ◌≤ℤ◌}}, proofs.lemmas.{Int.ints, Option.slice_get-get_or}}
-use Rattle.std.proofs.lemmas.List.{Elements.{All-cons, All-append, All-replicate, All-set}, Folds.list_all_at}
+use Rattle.std.proofs.lemmas.List.{Elements.{All-cons, All-append, All-replicate, All-set, All-nil}, Folds.list_all_at}
 use Rattle.std.proofs.lemmas.List.{get_or-replicate, get_or-set_other, get_or-set_same, get_or-take, length-replicate, length-set, length-take, set-set, take-replicate}
 use Rattle.std.proofs.lemmas.Bool.{and_from, and_parts, cases_Bool, eq-eqb, eqb-false, ltb-true, ne_eqb, false≢true}
 use Rattle.plan_tables.specs.declared.devices.{BankSettings.BankSettings, Settings.Settings, Act.Act}
@@ -32,7 +32,6 @@ use Rattle.device_objects.proofs.{Saves.save-comes, Answered.completed-is}
 use Rattle.device_objects.proofs.{Multiballs.multiball_acts, Shapes.{first-shape, next-within}}
 use Rattle.device_objects.specs.Laws.{HasBankShape, IsAnswer, MayCome, OutcomesComeAbout}
 use Rattle.device_objects.specs.Outcomes.{only_if, completing, going_on, resetting, of_counter, of_accrual, of_sequence, of_timer, of_timer_act, of_change, can_complete, hit_completing, of_hit_in, of_hit, of_bank, of_switch, of_flipper, of_autofire, timer_completing}
-use Rattle.std.proofs.lemmas.List.Elements.{All-nil}
 
 -- ---- values
 

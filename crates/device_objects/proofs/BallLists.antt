@@ -1,10 +1,9 @@
 -- Each effect list that a ball device answers is one of its seven.
-use Rattle.std.proofs.Common.{rules, ℕ, ◌<◌, Bool, Option, List, [], if◌then◌else◌}
-use Rattle.std.{specs.List.All}
+use Rattle.std.proofs.{Common.{rules, ℕ, ◌<◌, Bool, Option, List, [], if◌then◌else◌}, lemmas.List.Elements.All-nil}
+use Rattle.std.specs.List.{All}
 use Rattle.plan_tables.specs.declared.devices.{Act.Act, BallSettings.BallSettings}
 use Rattle.device_objects.specs.declared.{device.Call.Call, state.{BallState.BallState, Eject.Eject}}
-use Rattle.device_objects.{specs.BallDevice.{time_out, count_due, fire, act_step, ball_step}}
-use Rattle.std.proofs.lemmas.List.Elements.{All-nil}
+use Rattle.device_objects.specs.BallDevice.{time_out, count_due, fire, act_step, ball_step}
 
 -- each is one of the seven
 abbrev AreLists : List ℕ → Type 0

@@ -14,7 +14,7 @@ use Rattle.device_objects.specs.declared.state.{SequenceSlot.SequenceSlot, Autof
 use Rattle.device_objects.specs.declared.state.{BankSlot.BankSlot, MultiballState.MultiballState, World.World}
 use Rattle.device_objects.specs.declared.state.{FlipperState.FlipperState, DeviceState.DeviceState}
 use Rattle.device_objects.specs.declared.state.DeviceState.TheVariants as states
-use Rattle.device_objects.specs.Slots.{slot_in_use, step_in_use}
+use Rattle.device_objects.specs.{Slots.{slot_in_use, step_in_use}, Bank.{next_state, group_complete, hit_lists}}
 use Rattle.device_objects.specs.Counter as counter
 use Rattle.device_objects.specs.Accrual as accrual
 use Rattle.device_objects.specs.Sequence as sequence
@@ -22,7 +22,6 @@ use Rattle.device_objects.specs.Flipper as flipper
 use Rattle.device_objects.specs.Autofire as autofire
 use Rattle.device_objects.specs.Bank as bank
 use Rattle.device_objects.specs.Multiball as multiball
-use Rattle.device_objects.specs.Bank.{next_state, group_complete, hit_lists}
 use Rattle.device_objects.specs.{DeviceStep.device_step, Laws.OutcomesAreOfTheRow}
 use Rattle.device_objects.specs.Outcomes.{only_if, hit_completing, of_hit_in, of_hit, of_bank, outcomes}
 use Rattle.device_objects.proofs.{Among.{In, contains}, BallLists.ball_step-lists, Shapes.next-within}
@@ -43,7 +42,6 @@ more n k ks l h = All-cons (λ j. j < n) k ks l h
 
 -- of the slot in use
 module _ {S : Type 0} (n : ℕ) (step : S → S × List ℕ) (each : (slot : S) → AreBelow n (step slot).1) where
-
   in_use-below : (slots : List S) (o : Option ℕ) → AreBelow n (step_in_use step slots o).1
   in_use-below slots o = search rules
 

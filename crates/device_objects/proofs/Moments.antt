@@ -1,7 +1,7 @@
 -- When devices are due.
 use Rattle.std.proofs.Common.{rules, ◌≡◌, ℕ, ◌<◌, ◌≤◌, ◌⊎◌, Bool, true, false, None, Some, IfSome}
 use Rattle.std.proofs.lemmas.Option.{none-some}
-use Rattle.plan_tables.specs.{declared.devices.{Settings.Settings}, Devices.IsWithinLimits}
+use Rattle.plan_tables.specs.{declared.devices.Settings.Settings, Devices.IsWithinLimits}
 use Rattle.machine_settings.specs.declared.settings.TimerSettings.{TimerSettings}
 use Rattle.plan_tables.specs.declared.devices.Settings.TheVariants as kinds
 use Rattle.device_objects.specs.{declared.device.Call.Call, DeviceStep.{due_of, part_due, first_state, device_step}}

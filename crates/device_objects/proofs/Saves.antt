@@ -1,7 +1,7 @@
 -- Ball saves: their states, what they answer, and when they are due.
 use Rattle.std.proofs.Common.{rules, ◌≡◌, ℕ, ◌-◌, ◌==◌, ◌<◌, ◌≤◌, ◌⊎◌, nat_lt, true, false, Option, None, Some, IfSome, List, [], ◌∷◌, ◌++◌, refl, arith}
-use Rattle.std.{specs.List.All, proofs.lemmas.Bool.{eqb-false, lt-ltb, ltb-true, false≢true}}
-use Rattle.std.proofs.lemmas.{List.Elements.{All-append, All-cons}}
+use Rattle.std.specs.List.{All}
+use Rattle.std.proofs.lemmas.{Bool.{eqb-false, lt-ltb, ltb-true, false≢true}, List.Elements.{All-append, All-cons}}
 use Rattle.plan_tables.specs.declared.devices.Act.{Act}
 use Rattle.plan_tables.specs.declared.devices.Act.TheVariants as acts
 use Rattle.machine_settings.specs.declared.settings.SaveSettings.{SaveSettings}
@@ -29,7 +29,6 @@ with_fewer s = record s { left = s.left - 1 }
 -- ---- states keep their shape
 
 module _ (b : SaveSettings) where
-
   pub first_save-shape : HasSaveShape b first_state
   first_save-shape = record { left = omega arith; due = λ some. absurd (false≢true some) }
 
@@ -129,7 +128,6 @@ abbrev AreLists : List ℕ → Type 0
 AreLists lists = All (λ k. k < 3) lists
 
 module _ (b : SaveSettings) where
-
   pub save_step-lists : (call : Call) (now : ℕ) (s : SaveState) → AreLists (save_step b call now s).1
   save_step-lists call now s = search rules
 

@@ -1,7 +1,7 @@
 -- Steps of slots.
 use Rattle.std.proofs.Common.{rules, ◌≡◌, ℕ, Bool, true, Option, None, Some, List, [], ◌∷◌, length, map, option_map, set, slice_get, if◌then◌else◌, get_or, sym, ap, subst, ◌∙◌, arith}
-use Rattle.std.{specs.List.All, proofs.lemmas.List.{map-set}}
-use Rattle.std.proofs.lemmas.Option.{slice_get_within, slice_get-get_or, slice_get-map}
+use Rattle.std.specs.List.{All}
+use Rattle.std.proofs.lemmas.{List.map-set, Option.{slice_get_within, slice_get-get_or, slice_get-map}}
 use Rattle.device_objects.specs.{declared.state.World.World, Slots.{slot_in_use, step_at, step_in_use}}
 
 abbrev value_or : {S : Type 0} → S → Option S → S
@@ -27,7 +27,6 @@ step_in_use-all P step keeps slots (Some i) all = step_at-all P step keeps i slo
 
 -- what every slot answers, and what no slot answers where each player has one, is what the slots answer
 module _ {S : Type 0} (P : List ℕ → Type 0) (step : S → S × List ℕ) (each : (s : S) → P (step s).1) where
-
   of_player : (is_none : Bool) (slots : List S) (i : ℕ) → P [] → P (step_in_use step slots (if is_none then None else Some i)).1
   of_player is_none slots i none = search rules
 

@@ -1,7 +1,7 @@
 -- Alarms in order: the first is the least, and where a row's due moment is set, its alarm is taken out and another put in.
 use Rattle.std.proofs.Common.{rules, ◌≡◌, ℕ, zero, suc, ◌+◌, ◌<◌, ◌≤◌, nat_lt, ◌==◌, ◌&&◌, ◌||◌, Bool, false, Option, Some, None, List, [], ◌∷◌, length, replicate, get_or, slice_get, slice_set, Bor, refl, ap, sym, ◌∙◌, arith}
 use Rattle.std.specs.{Cmp.IsStrictWeakOrder, List.HoldsAt, Option.{MatchOption, option_copied}}
-use Rattle.std.proofs.lemmas.{List.{length-set, set-get_or}}
+use Rattle.std.proofs.lemmas.List.{length-set, set-get_or}
 use Rattle.plan_tables.specs.declared.devices.RowId.{RowId}
 use Rattle.event_queue.specs.Alarms.{comes_before, first_of, alarm_of, least_from, least_of}
 use Rattle.event_queue.specs.Inside.{IsOrdered, put_alarm, ordered_from, ordered_alarms}

@@ -2,13 +2,12 @@
 use Rattle.std.proofs.Common.{rules, ◌≡◌, ◌≢◌, ℕ, suc, ◌<◌, nat_lt, ◌==◌, ◌&&◌, ◌||◌, not, Bool, true, false, true≢false, cond, List, [], ◌∷◌, filter, get_or, refl, ap, sym, subst, ◌∙◌, inl, inr, arith}
 use Rattle.std.specs.{List.{All, AllPairs, list_any}, Cmp.IsStrictWeakOrder}
 use Rattle.std.proofs.lemmas.Bool.{cases_eq, eq-eqb, ne_eqb, or_right, and_right, not_from_true, Decides.nat_tests}
-use Rattle.std.proofs.lemmas.List.{Kept.AllPairs-filter, Sorted.All-permutation}
+use Rattle.std.proofs.{lemmas.List.{Kept.AllPairs-filter, Sorted.All-permutation}, Math.Bool.or-false}
 use Rattle.plan_tables.specs.{declared.entries.BindingId.BindingId, PlanView.PlanView}
 use Rattle.event_queue.specs.{Handlers.priority_at, PlanOrder.{insert_place, by_priority}}
 use Rattle.event_queue.specs.Inside.{put, IsOrdered, runs_before, also, without}
 use Rattle.event_queue.proofs.{Put.{ordered-put, put_comm}, Sort.by_priority-permutes, PlanOrder.IsBelow}
 use Rattle.yaml_bytes.proofs.Each.{filter-agree}
-use Rattle.std.proofs.Math.Bool.{or-false}
 
 -- ---- tests that agree
 

@@ -25,7 +25,6 @@ agree P R o to from p = search rules
 
 -- all of `P` and of `Q` is in `R`, and nothing else
 module _ (P Q R : ℕ → ℕ → Type 0) (from_P : (r t : ℕ) → P r t → R r t) (from_Q : (r t : ℕ) → Q r t → R r t) (split : (r t : ℕ) → R r t → P r t ⊎ Q r t) where
-
   first_of-least : (a b : Option (ℕ × RowId)) → LeastAmong P a → LeastAmong Q b → LeastAmong R (first_of a b)
   first_of-least a b p q = search rules
 

@@ -4,14 +4,13 @@ use Rattle.std.specs.List.{All, AllPairs, range_with_len}
 use Rattle.std.proofs.lemmas.Bool.{cases_eq, eqb-true, eq-eqb, ne_eqb, and_from, or_from, not_from_false}
 use Rattle.std.proofs.lemmas.List.{length-set, get_or-set_same, get_or-set_other, get_or-take, get_or_default, length-take-le, take_all}
 use Rattle.std.proofs.lemmas.List.{Elements.{All-filter, filter_passes}, Kept.AllPairs-filter}
-use Rattle.std.proofs.lemmas.List.Folds.{list_any_at, list_any_more, list_any_none}
+use Rattle.std.proofs.{lemmas.List.Folds.{list_any_at, list_any_more, list_any_none}, Math.Bool.or_assoc}
 use Rattle.std.proofs.lemmas.List.FromFn.{length-map-range_with_len, get_or-map-range_with_len, filter_of_map_range_with_len_more}
 use Rattle.plan_tables.specs.declared.entries.{BindingId.BindingId, EventId.EventId, ModeId.ModeId}
 use Rattle.plan_tables.specs.declared.entries.Owner.{Owner, TheVariants.{Machine, Mode}}
 use Rattle.plan_tables.specs.PlanView.{PlanView, binding_at, is_owner, places_of}
 use Rattle.event_queue.specs.{Handlers.{takes_part, runs_at}, Inside.{all_places, places_in, also, without}}
 use Rattle.event_queue.proofs.{Joined.{has, place-same}, PlanOrder.{IsBelow, all_places-increase}}
-use Rattle.std.proofs.Math.Bool.{or_assoc}
 
 abbrev place : ℕ → BindingId
 place n = record { 0 = n }
@@ -142,7 +141,6 @@ pub record HasFirstOwned (plan : PlanView) (n : ℕ) (lists : List (Vec BindingI
   pub each : (m : ℕ) (d : Vec BindingId Global) → m < length plan.modes → (get_or lists m d).items ≡ filter (λ p. is_owner (Mode (record { 0 = m })) (binding_at plan p).owner) (map (λ k. record { 0 = k }) (range_with_len 0 n))
 
 module _ (plan : PlanView) where
-
   module _ (n : ℕ) (lists : List (Vec BindingId Global)) (has : HasFirstOwned plan n lists) (within : n < length plan.bindings) where
     one_more-in : (m : ModeId) (b : Bool) → is_owner (Mode m) (binding_at plan (place n)).owner ≡ b → filter (is_own plan m) (map place (range_with_len 0 (n + 1))) ≡ filter (is_own plan m) (map place (range_with_len 0 n)) ++ cond b (place n ∷ []) []
     one_more-in m b is =

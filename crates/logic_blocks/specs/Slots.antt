@@ -1,12 +1,12 @@
 -- The slots of logic blocks.
 use Rattle.machine_settings.specs.declared.settings.{CounterSettings.CounterSettings, StepSettings.StepSettings}
 use Rattle.plan_tables.specs.declared.devices.Settings.TheVariants as kinds
-use Rattle.device_objects.specs.declared.state.{CounterSlot.CounterSlot, AccrualSlot.AccrualSlot, SequenceSlot.SequenceSlot}
+use Rattle.device_objects.specs.declared.state.{CounterSlot.CounterSlot, AccrualSlot.AccrualSlot}
+use Rattle.device_objects.specs.{declared.state.SequenceSlot.SequenceSlot, Slotted.SlotModel}
 use Rattle.device_objects.specs.declared.state.DeviceState.TheVariants as states
 use Rattle.device_objects.specs.Counter as counter
 use Rattle.device_objects.specs.Accrual as accrual
 use Rattle.device_objects.specs.Sequence as sequence
-use Rattle.device_objects.specs.Slotted.{SlotModel}
 
 abbrev pub counter_slots : CounterSettings → SlotModel CounterSlot
 counter_slots c = record {

@@ -1,8 +1,7 @@
 -- A ball enters a device.
 use Rattle.std.proofs.Common.{rules, ◌≡◌, ◌<◌, Bool, true, false, length, length-append, ap, sym, ◌∙◌, subst}
 use Rattle.plan_tables.specs.{Valid.HasGame, declared.entries.{EventId.EventId, Owner.Owner}}
-use Rattle.plan_tables.specs.declared.devices.{BallTarget.TheVariants.Device, RowId.RowId}
-use Rattle.plan_tables.specs.declared.devices.Telling.{TheVariants.Arrived}
+use Rattle.plan_tables.specs.declared.devices.{BallTarget.TheVariants.Device, RowId.RowId, Telling.TheVariants.Arrived}
 use Rattle.ball_devices.specs.{declared.booking.Origin.Origin, Ledger.origin_of, Bookings.is_awaited}
 use Rattle.ball_devices.specs.Bookings as calls_of_ledger
 use Rattle.written_machine.specs.Machine.{Machine, post, book, drain_if, enter_ball}

@@ -12,7 +12,7 @@ use Rattle.coil_guard.specs.declared.command.Command.{Command}
 use Rattle.coil_guard.specs.declared.command.Command.TheVariants as commands
 use Rattle.device_objects.specs.declared.device.Call.{Call}
 use Rattle.device_objects.specs.declared.device.Call.TheVariants as calls
-use Rattle.player_game.specs.{Players.PlayersState}
+use Rattle.player_game.specs.Players.{PlayersState}
 use Rattle.switch_core.specs.declared.change.Change.{Change}
 use Rattle.written_machine.specs.{declared.line.Happening.Happening, Moves.{Turned, Does, moved}}
 use Rattle.written_machine.specs.Machine.{Machine, write, post, set_device, set_players, all_do, ask_coil, tell_change, book, drain_if, after_entry, enter_ball, add_balls, do_action_by, do_list_by, do_answer_by, called, call_device_by, tell_nobody, told_device, tell_device, tell_first, call_device, ask_ball, end_multiballs, confirm_on_playfield}

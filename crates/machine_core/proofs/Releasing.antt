@@ -8,14 +8,14 @@ use Rattle.plan_tables.specs.declared.entries.{ModeId.ModeId, CoilId.CoilId, Own
 use Rattle.plan_tables.specs.declared.entries.{ModeEvent.TheVariants.Stopping, Work.{Work, TheVariants.Mode}}
 use Rattle.device_objects.specs.declared.device.Call.TheVariants as calls
 use Rattle.coil_guard.specs.declared.{command.Command.{Command, TheVariants.Disable}, state.CoilState.CoilState}
-use Rattle.coil_guard.specs.{Limits.no_limits, Lowest.IsLowest}
-use Rattle.coil_guard.{specs.CoilStep.{off, is_on_at, is_held_by, disabled}, proofs.Lowest.lowest-is}
+use Rattle.coil_guard.specs.{Limits.no_limits, Lowest.IsLowest, CoilStep.{off, is_on_at, is_held_by, disabled}}
+use Rattle.coil_guard.proofs.Lowest.{lowest-is}
 use Rattle.coil_guard.specs.Coils.{coil_at, set_coil, put_off, next_held, after_release, answer_release}
 use Rattle.written_machine.specs.declared.line.Happening.TheVariants as lines
 use Rattle.written_machine.specs.Machine.{Machine, write, set_coils, all_do, ask_coil, call_devices, release_coil, release_coils}
-use Rattle.written_machine.{specs.EventStep.do_after, proofs.{Parts.does-calls, Growth.{asked-grows, all_do-grows}}}
+use Rattle.written_machine.specs.EventStep.{do_after}
+use Rattle.written_machine.proofs.{Parts.does-calls, Growth.{asked-grows, all_do-grows}, Held.held-on}
 use Rattle.machine_core.{specs.Core.{CoreView, CanCall, HasRoom, after}, proofs.{Callable.can-does, Room.Grows}}
-use Rattle.written_machine.proofs.Held.{held-on}
 
 all_do-append : {X : Type 0} (f : X → Machine → Machine) (xs ys : List X) (s : Machine) → all_do f (xs ++ ys) s ≡ all_do f ys (all_do f xs s)
 all_do-append f [] ys s = refl

@@ -1,9 +1,9 @@
 -- One event step more in plan order, from a core whose steps all have room.
 use Rattle.std.proofs.Common.{rules, ◌≡◌, ℕ, ◌+◌, ◌-◌, ◌<◌, List, ◌∷◌, length, refl, ap, sym, ◌∙◌, subst, arith}
-use Rattle.plan_tables.specs.{PlanView.PlanView}
+use Rattle.plan_tables.specs.PlanView.{PlanView}
 use Rattle.event_queue.specs.declared.queue.Posted.{Posted}
 use Rattle.written_machine.specs.declared.line.Happening.TheVariants as happenings
-use Rattle.written_machine.specs.{Machine.{Machine, write}, EventStep.{taken}}
+use Rattle.written_machine.specs.{Machine.{Machine, write}, EventStep.taken}
 use Rattle.written_machine.specs.PlanOrder.{plan_step_from, plan_step, plan_steps}
 use Rattle.written_machine.proofs.{Growth.event-grows, PlanSteps.plan_steps-more}
 use Rattle.machine_core.specs.Core.{CoreView, CanCall, HasHandlers, HasRoom, StaysWithin, after, follow, after_taken}

@@ -3,7 +3,7 @@ use Rattle.std.proofs.Common.{◌≡◌, ℕ, if◌then◌else◌, ◌+◌, ◌<
 use Rattle.std.specs.{List.list_any, Str.bytes_eq, Borrow.Bor, HashMap.HashMap, HashSet.HashSet, Map.lookup}
 use Rattle.std.specs.HashMap as maps
 use Rattle.std.specs.HashSet as sets
-use Rattle.std.proofs.lemmas.{List.at_drop_more}
+use Rattle.std.proofs.lemmas.List.{at_drop_more}
 use Rattle.machine_definitions.specs.Found.{has_bytes, is_found}
 use Rattle.yaml_subset.proofs.KeySets.{turned}
 

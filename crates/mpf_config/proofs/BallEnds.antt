@@ -1,12 +1,10 @@
 -- A mode that holds the end of the ball starts at that alone: what the test of it means.
 use Rattle.std.proofs.Common.{rules, ◌≡◌, ◌≢◌, ℕ, Bool, true, false, not, ◌||◌, List, [], ◌∷◌, length, ◌==◌, refl, arith}
 use Rattle.std.specs.{List.{All, list_all}, Str.bytes_eq}
-use Rattle.std.proofs.lemmas.{Bool.ne_eqb, List.Elements.{All-nil, All-cons, All-head, All-tail}}
+use Rattle.std.proofs.lemmas.{Bool.{ne_eqb, and_parts}, List.Elements.{All-nil, All-cons, All-head, All-tail}}
 use Rattle.mpf_sections.specs.{Rows.{Handled, Content, ModeSettings}, Typed.{ball_ending, starts_at_ball_end}}
 use Rattle.mpf_config.specs.{RowsOf.{StartsAtBallEnd, KeepsToBallEnd}, Reading.keeps_to_ball_end}
-use Rattle.yaml_bytes.proofs.Words.{word_is}
-use Rattle.yaml_bytes.proofs.Words.{is_word}
-use Rattle.std.proofs.lemmas.Bool.{and_parts}
+use Rattle.yaml_bytes.proofs.Words.{word_is, is_word}
 
 -- ---- tests
 

@@ -2,15 +2,13 @@
 use Rattle.std.proofs.Common.{rules, ◌≡◌, ◌≢◌, ℕ, ◌+◌, true, false, List, [], ◌∷◌, ◌++◌, Option, Some, Ok, refl, sym, ap, subst, ◌∙◌, append_assoc}
 use Rattle.std.proofs.lemmas.List.{append-nil}
 use Rattle.yaml_bytes.specs.{Bytes.{is_blank, begins_blank}, Plain.{AreBlank, EndsInNoBlank}}
-use Rattle.yaml_bytes.specs.Scanning.{behind_blanks, trimmed}
+use Rattle.yaml_bytes.{specs.Scanning.{behind_blanks, trimmed}, proofs.Steps.{bind_ok, ok_is}}
 use Rattle.yaml_bytes.proofs.PlainTexts.{trimmed_parts, trimmed_ends, trimmed_is, is_behind_blanks, no_blanks, in_front}
 use Rattle.mpf_config.specs.BundleText.{Text, first_line, behind_first_line, name_in, pieces_of, line_ends, numbered}
 use Rattle.mpf_config.specs.RowsOf.{IsFirstLine, IsBare, IsPiece, EndsLine, AreTexts}
 use Rattle.section_tables.specs.Reading.{◌>>=◌, each_read}
 use Rattle.mpf_config.{specs.Reading.{text_from, text_at, texts_at}, proofs.FirstLines.{splitting, begins_is}}
 use Rattle.mpf_config.proofs.Pieces.{piece_sound, none_is_empty, BeginsAt, piece_complete}
-use Rattle.yaml_bytes.proofs.Steps.{bind_ok}
-use Rattle.yaml_bytes.proofs.Steps.{ok_is}
 
 -- ---- the name
 

@@ -1,19 +1,12 @@
 -- Entries of which each is new, by their keys.
 use Rattle.std.proofs.Common.{◌≡◌, ◌≢◌, ℕ, suc, zero, List, [], ◌∷◌, map, Ok, refl, sym, ap, subst, ◌⊎◌, inl, inr, arith}
 use Rattle.std.specs.List.{Contains, flat_map}
-use Rattle.yaml_subset.specs.Keys.{is_among}
+use Rattle.yaml_subset.{specs.Keys.is_among, proofs.KeySets.{fresh_sound, fresh_complete}}
 use Rattle.config_faults.specs.{declared.fault.FaultKind.TheVariants.Duplicate, Faults.rows_fault_at}
 use Rattle.mpf_config.specs.Apart.{EntryName, Differ, AreDistinct, joined, entry_key, entry_keys}
-use Rattle.mpf_config.specs.{ModeReads.ModeRead, Reading.{entries_new_at, taken_by}}
-use Rattle.mpf_config.proofs.NewNames.{nothing_in}
-use Rattle.yaml_bytes.proofs.Steps.{guard_false}
-use Rattle.std.proofs.lemmas.List.Elements.{Contains-append_cases}
-use Rattle.std.proofs.lemmas.List.Elements.{Contains-append_left}
-use Rattle.std.proofs.lemmas.List.Elements.{Contains-append_right}
-use Rattle.yaml_bytes.proofs.Each.{here}
-use Rattle.yaml_bytes.proofs.Each.{there}
-use Rattle.yaml_subset.proofs.KeySets.{fresh_sound}
-use Rattle.yaml_subset.proofs.KeySets.{fresh_complete}
+use Rattle.mpf_config.{specs.{ModeReads.ModeRead, Reading.{entries_new_at, taken_by}}, proofs.NewNames.nothing_in}
+use Rattle.yaml_bytes.proofs.{Steps.guard_false, Each.{here, there}}
+use Rattle.std.proofs.lemmas.List.Elements.{Contains-append_cases, Contains-append_left, Contains-append_right}
 
 -- ---- keys
 

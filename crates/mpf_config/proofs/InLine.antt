@@ -1,7 +1,6 @@
 -- What is written of a text has no byte that could end a line.
 use Rattle.std.proofs.Common.{rules, ◌≡◌, ℕ, Bool, false, List, [], ◌∷◌, refl}
-use Rattle.std.specs.List.{All, flat_map}
-use Rattle.std.proofs.lemmas.{List.Elements.{All-nil, All-append}}
+use Rattle.std.{specs.List.{All, flat_map}, proofs.lemmas.List.Elements.{All-nil, All-append}}
 use Rattle.mpf_config.specs.Escaped.{is_control, escaped_byte, escaped}
 
 abbrev InLine : ℕ → Type 0

@@ -1,9 +1,8 @@
 -- Elements of a list, from a place on, and how they are found by their names.
 use Rattle.std.proofs.Common.{rules, ◌≡◌, ℕ, ◌+◌, ◌<◌, Bool, if◌then◌else◌, not, ◌||◌, List, [], ◌∷◌, length, drop, get_or, map, Option, Some, refl, sym, ap, ◌∙◌}
-use Rattle.std.specs.{Borrow.Bor, Option.is_some}
+use Rattle.std.{specs.{Borrow.Bor, Option.is_some}, proofs.lemmas.List.drop_more}
 use Rattle.yaml_subset.specs.Keys.{is_among}
 use Rattle.section_tables.specs.{Tables.{behind_one, found_in}, View.found_view}
-use Rattle.std.proofs.lemmas.List.{drop_more}
 
 pub mapped_at : {A B : Type 0} (f : A → B) (xs : List A) (i : ℕ) (x : A) → i < length xs → x ≡ get_or xs i x → map f (drop i xs) ≡ f x ∷ map f (drop (i + 1) xs)
 mapped_at f xs i x lt is = ap (map f) (drop_more xs i x lt) ∙ ap (λ y. f y ∷ map f (drop (i + 1) xs)) (sym is)

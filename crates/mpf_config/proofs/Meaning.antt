@@ -8,20 +8,14 @@ use Rattle.mpf_tables.specs.{declared.tables.TextKind.TextKind, SectionTables.sh
 use Rattle.section_tables.specs.Kinds.{Shape, by_entries, by_players, by_entry, by_names}
 use Rattle.section_tables.specs.Reading.{IsReadOr, ◌>>=◌, key_spot, entry_at, entries_at, players_at, names_at}
 use Rattle.config_faults.specs.Faults.{Spot, refused, rows_fault_at}
-use Rattle.section_tables.proofs.Steps.{expected}
-use Rattle.section_tables.proofs.Outcomes.{each_sound, weaker, then_or, each_or}
+use Rattle.section_tables.proofs.{Steps.expected, Outcomes.{each_sound, weaker, then_or, each_or}}
 use Rattle.section_tables.proofs.EntriesRead.{entry_sound, entry_complete, entries_sound, entries_complete, players_sound, players_complete, names_sound, names_complete}
 use Rattle.mpf_sections.specs.Rows.{Written, Content, entries, players, entry, listed, SectionRows}
-use Rattle.mpf_config.specs.{BundleText.machine_owner, Unread.read_of}
+use Rattle.mpf_config.{specs.{BundleText.machine_owner, Unread.read_of}, proofs.BallEnds.{keeps_sound, keeps_complete}}
 use Rattle.mpf_config.specs.RowsOf.{Sizes, within_limits, AreNew, AreModesListed, IsContent, KeepsToBallEnd, IsSection, AreManyItems}
 use Rattle.mpf_config.specs.Reading.{line_spot, modes_new_at, modes_at, content_at, section_from, section_at, sections_in, sections_at}
-use Rattle.mpf_config.proofs.BallEnds.{keeps_sound, keeps_complete}
-use Rattle.yaml_bytes.proofs.Steps.{bind_ok}
-use Rattle.yaml_bytes.proofs.Steps.{guard_true}
-use Rattle.yaml_bytes.proofs.Steps.{guard_false}
-use Rattle.yaml_bytes.proofs.Steps.{ok_is}
-use Rattle.yaml_subset.proofs.KeySets.{fresh_sound}
-use Rattle.yaml_subset.proofs.KeySets.{fresh_complete}
+use Rattle.yaml_bytes.proofs.Steps.{bind_ok, guard_true, guard_false, ok_is}
+use Rattle.yaml_subset.proofs.KeySets.{fresh_sound, fresh_complete}
 
 -- ---- lists of modes
 

@@ -2,8 +2,7 @@
 use Rattle.std.proofs.Common.{rules, ◌≡◌, ℕ, suc, zero, ◌<◌, length, List, [], ◌∷◌, Option, Some, None, Ok, set, slice_get, refl, arith}
 use Rattle.std.proofs.lemmas.List.{map-set, length-map}
 use Rattle.mpf_config.specs.declared.modes.ModeRead as modes
-use Rattle.mpf_config.specs.{Rows.Written, BundleText.Text, Reading.{new_mode_at, placed_at}}
-use Rattle.mpf_config.specs.{Apart.entry_keys}
+use Rattle.mpf_config.specs.{Rows.Written, BundleText.Text, Reading.{new_mode_at, placed_at}, Apart.entry_keys}
 use Rattle.mpf_config.specs.Inside.{mode_read_view, found_modes_view, placed_keys}
 
 -- a mode that was read is at its place

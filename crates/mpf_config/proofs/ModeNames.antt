@@ -6,8 +6,7 @@ use Rattle.mpf_config.specs.{BundleText.machine_name, Reading.{TextRows, text_ro
 use Rattle.mpf_sections.specs.{Rows.SectionRows, Typed.listed_modes}
 use Rattle.mpf_config.specs.RowsOf.{Sizes, within_limits, AreModesOf, IsTextOver}
 use Rattle.mpf_config.proofs.TextRows.{text_rows_sound, text_rows_or}
-use Rattle.yaml_bytes.proofs.Steps.{bind_ok}
-use Rattle.yaml_bytes.proofs.Steps.{ok_is}
+use Rattle.yaml_bytes.proofs.Steps.{bind_ok, ok_is}
 
 abbrev names_from : List SectionRows → List (List ℕ)
 names_from rows = map (λ w. w.text) (listed_modes rows)

@@ -4,7 +4,7 @@ use Rattle.std.proofs.Common.{List, [], ◌∷◌, ◌++◌, length, map, take, 
 use Rattle.std.specs.{Prelude.codes, List.{Contains, All, AllZip}, Str.bytes_eq}
 use Rattle.std.proofs.{Math.Seq.take-append_seam, lemmas.{Bool.{cases_Bool, both_ways}, Slice.Eq.bytes_eq-Decides}}
 use Rattle.std.proofs.lemmas.List.{append_cancel_left, length-append, length-map, Elements.{All-head, All-tail}}
-use Rattle.yaml_subset.specs.Keys.{is_among}
+use Rattle.yaml_subset.{specs.Keys.is_among, proofs.KeySets.{fresh_sound, fresh_complete}}
 use Rattle.config_faults.specs.{declared.fault.FaultKind.TheVariants.Duplicate, Faults.{RowsFault, rows_fault_at}}
 use Rattle.mpf_tables.specs.declared.tables.TextKind.TheVariants.{Mode}
 use Rattle.section_tables.specs.{Tables.{behind_one, found_in}, Reading.{IsReadOr, ◌>>=◌}}
@@ -14,17 +14,10 @@ use Rattle.mpf_config.specs.{BundleText.{Text, mode_text_name}, ModeReads.ModeRe
 use Rattle.mpf_config.specs.Unread.{mode_text_of, has_text, present_of, mode_notes}
 use Rattle.mpf_config.specs.RowsOf.{Sizes, within_limits, AreNew, IsText, AreRowsOf, IsModeRead, IsTextOver}
 use Rattle.mpf_config.specs.Reading.{TextRows, line_spot, text_rows_at, mode_read_at, entries_new_at, new_mode_at, placed_at, modes_from, none_found, found_of, taken_by}
-use Rattle.mpf_config.proofs.NewNames.{nothing_in, not_again, all_other}
+use Rattle.mpf_config.proofs.{NewNames.{nothing_in, not_again, all_other}, TextRows.{text_rows_sound, text_rows_or}}
 use Rattle.mpf_config.proofs.{TextNames.{named, names_in, text_name}, EntryKeys.{new_sound, new_complete}}
-use Rattle.mpf_config.proofs.TextRows.{text_rows_sound, text_rows_or}
 use Rattle.mpf_config.proofs.EntriesApart.{AreModesApart, IsNewMode, mode_entries, none_apart, still_apart, is_fresh}
-use Rattle.yaml_bytes.proofs.Steps.{bind_ok}
-use Rattle.yaml_bytes.proofs.Steps.{guard_false}
-use Rattle.yaml_bytes.proofs.Steps.{ok_is}
-use Rattle.yaml_bytes.proofs.Each.{here}
-use Rattle.yaml_bytes.proofs.Each.{there}
-use Rattle.yaml_subset.proofs.KeySets.{fresh_sound}
-use Rattle.yaml_subset.proofs.KeySets.{fresh_complete}
+use Rattle.yaml_bytes.proofs.{Steps.{bind_ok, guard_false, ok_is}, Each.{here, there}}
 
 -- ---- what is taken from texts
 

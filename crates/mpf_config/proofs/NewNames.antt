@@ -1,10 +1,9 @@
 -- Names of which each is new.
 use Rattle.std.proofs.Common.{rules, ◌≡◌, ◌≢◌, ℕ, suc, zero, Bool, List, [], ◌∷◌, map, sym, subst, arith}
-use Rattle.std.specs.{List.{Contains, All, AllPairs, filter}}
+use Rattle.std.specs.List.{Contains, All, AllPairs, filter}
 use Rattle.std.proofs.lemmas.List.{Elements.{All-nil, All-cons}, Kept.AllPairs-cons}
 use Rattle.mpf_config.specs.RowsOf.{AreNew}
-use Rattle.yaml_bytes.proofs.Each.{here}
-use Rattle.yaml_bytes.proofs.Each.{there}
+use Rattle.yaml_bytes.proofs.Each.{here, there}
 
 -- ---- lists that have an element
 

@@ -1,19 +1,15 @@
 -- Which modes were not found yet, and which keys are taken once one more is found.
 use Rattle.std.proofs.Common.{rules, ◌≡◌, ℕ, suc, Bool, true, false, cond, ◌||◌, List, [], ◌∷◌, length, set, slice_get, Option, Some, None, Ok, refl, sym, ap, subst, ◌∙◌}
 use Rattle.std.specs.{List.flat_map, Str.bytes_eq, Option.option_map}
-use Rattle.std.proofs.lemmas.{Bool.both_ways, List.{append-nil, length-map}, Slice.Eq.bytes_eq-Decides}
-use Rattle.yaml_subset.specs.Keys.{is_among}
+use Rattle.std.proofs.lemmas.{Bool.{both_ways, or_parts}, List.{append-nil, length-map}, Slice.Eq.bytes_eq-Decides}
+use Rattle.yaml_subset.{specs.Keys.is_among, proofs.KeySets.or_swap}
 use Rattle.section_tables.specs.Tables.{behind_one, found_in}
 use Rattle.mpf_config.specs.declared.modes.ModeRead as modes
 use Rattle.mpf_config.specs.{declared.listed_mode.ListedMode.ListedMode, Apart.entry_keys, ModeReads.ModeRead}
-use Rattle.mpf_config.specs.{Rows.Written, BundleText.Text, Unread.mode_text_of}
+use Rattle.mpf_config.{specs.{Rows.Written, BundleText.Text, Unread.mode_text_of}, proofs.TakenEntries.among_append}
 use Rattle.mpf_config.specs.Reading.{new_mode_at, placed_at, none_found, found_of, taken_by}
 use Rattle.mpf_config.specs.Inside.{modes_view, listed_view, mode_read_view, found_modes_view, mode_keys, placed_keys}
-use Rattle.mpf_config.proofs.TakenEntries.{among_append}
-use Rattle.yaml_bytes.proofs.Steps.{bind_ok}
-use Rattle.yaml_bytes.proofs.Steps.{ok_is}
-use Rattle.yaml_subset.proofs.KeySets.{or_swap}
-use Rattle.std.proofs.lemmas.Bool.{or_parts}
+use Rattle.yaml_bytes.proofs.Steps.{bind_ok, ok_is}
 
 -- a mode was found only where the name of its text was among these
 abbrev pub NoneBefore : List (List ℕ) → List Written → List (Option ModeRead) → Type 0

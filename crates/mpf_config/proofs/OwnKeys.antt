@@ -11,11 +11,8 @@ use Rattle.mpf_sections.specs.Rows.{Entry, Content, entries, SectionRows}
 use Rattle.mpf_config.specs.{Unread.{is_skipped, read_of}, RowsOf.{Sizes, AreNew, IsContent, IsSection, AreRowsOf}}
 use Rattle.mpf_config.specs.Apart.{EntryName, Differ, AreDistinct, named_entry, entries_named, entry_names}
 use Rattle.mpf_config.proofs.NewNames.{nothing_in, not_again, new_kept}
-use Rattle.std.proofs.lemmas.List.Elements.{Contains-append_cases}
-use Rattle.std.proofs.lemmas.List.Elements.{Contains-append_left}
-use Rattle.std.proofs.lemmas.List.Elements.{Contains-append_right}
-use Rattle.yaml_bytes.proofs.Each.{here}
-use Rattle.yaml_bytes.proofs.Each.{there}
+use Rattle.std.proofs.lemmas.List.Elements.{Contains-append_cases, Contains-append_left, Contains-append_right}
+use Rattle.yaml_bytes.proofs.Each.{here, there}
 
 -- ---- the pairs of a node
 

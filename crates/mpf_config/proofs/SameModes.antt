@@ -1,10 +1,9 @@
 -- Names of modes, of which each is taken once.
 use Rattle.std.proofs.Common.{rules, ◌≡◌, ℕ, Bool, true, false, not, ◌||◌, List, [], ◌∷◌, refl, ap}
-use Rattle.std.specs.Str.{bytes_eq}
+use Rattle.std.{specs.Str.bytes_eq, proofs.lemmas.Bool.not-true}
 use Rattle.yaml_subset.specs.Keys.{is_among}
 use Rattle.config_faults.specs.Faults.{Spot}
 use Rattle.mpf_config.specs.{BundleText.machine_owner, Rows.Written, Reading.modes_new_at}
-use Rattle.std.proofs.lemmas.Bool.{not-true}
 
 -- which names were taken matters, and not in which order
 abbrev SameNames : List (List ℕ) → List (List ℕ) → Type 0

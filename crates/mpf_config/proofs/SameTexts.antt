@@ -1,6 +1,6 @@
 -- Texts that are read as they are reached, where the names of those before are kept in a set.
 use Rattle.std.proofs.Common.{rules, ◌≡◌, ℕ, ◌+◌, ◌<◌, Bool, true, false, not, ◌||◌, if◌then◌else◌, List, [], ◌∷◌, length, drop, get_or, add-one, Option, Result, Ok, refl, sym, ap, ◌∙◌}
-use Rattle.std.{specs.Str.bytes_eq, proofs.Math.Seq.drop-cons}
+use Rattle.std.{specs.Str.bytes_eq, proofs.{Math.Seq.drop-cons, lemmas.Bool.not-true}}
 use Rattle.yaml_subset.specs.Keys.{is_among}
 use Rattle.config_faults.specs.declared.fault.{FaultKind.TheVariants.Duplicate, ConfigFault.ConfigFault}
 use Rattle.section_tables.specs.{Tables.found_in, Reading.◌>>=◌}
@@ -12,7 +12,6 @@ use Rattle.mpf_config.specs.{ModeReads.ModeRead, Unread.mode_text_of, Inside.{te
 use Rattle.mpf_config.specs.Apart.{AreDistinct, entry_names, entry_key, entry_keys}
 use Rattle.mpf_config.proofs.{NewNames.nothing_in, EntryKeys.new_complete, TakenEntries.{SameKeys, entries_same}}
 use Rattle.mpf_config.specs.Reading.{line_spot, new_mode_at, placed_at, modes_from, modes_in_texts, none_found, found_of, taken_by}
-use Rattle.std.proofs.lemmas.Bool.{not-true}
 
 -- which names were taken matters, and not in which order
 same_step : (names others : List (List ℕ)) (k : List ℕ) → SameKeys names others → SameKeys (k ∷ names) (k ∷ others)

@@ -1,6 +1,6 @@
 -- Entries that are taken one after the other, where the keys of those before are kept in a set.
 use Rattle.std.proofs.Common.{rules, ◌≡◌, ℕ, Bool, true, false, not, ◌||◌, if◌then◌else◌, List, [], ◌∷◌, ◌++◌, map, Result, Ok, Err, refl, sym, ap, ◌∙◌}
-use Rattle.std.{specs.Str.bytes_eq, proofs.lemmas.List.map-append}
+use Rattle.std.{specs.Str.bytes_eq, proofs.{lemmas.{List.map-append, Bool.not-true}, Math.Bool.or_assoc}}
 use Rattle.yaml_subset.specs.Keys.{is_among}
 use Rattle.config_faults.specs.declared.fault.{FaultKind.TheVariants.Duplicate, ConfigFault.ConfigFault}
 use Rattle.config_faults.specs.Faults.{refused, rows_fault_at}
@@ -8,8 +8,6 @@ use Rattle.mpf_sections.specs.Rows.{SectionRows}
 use Rattle.mpf_config.specs.{Rows.RowsFault, Reading.entries_new_at, View.FailsRows}
 use Rattle.mpf_config.specs.Apart.{EntryName, joined, entries_named, entry_names, entry_key, entry_keys}
 use Rattle.yaml_bytes.proofs.Steps.{guard_false}
-use Rattle.std.proofs.Math.Bool.{or_assoc}
-use Rattle.std.proofs.lemmas.Bool.{not-true}
 
 -- which keys were taken matters, and not in which order
 abbrev pub SameKeys : List (List ℕ) → List (List ℕ) → Type 0

@@ -3,10 +3,7 @@ use Rattle.std.proofs.Common.{◌≡◌, ℕ, suc, zero, false, List, [], ◌∷
 use Rattle.std.{specs.{List.Contains, Str.bytes_eq}, proofs.lemmas.{Bool.cases_Bool, Slice.Eq.bytes_eq-Decides}}
 use Rattle.mpf_config.specs.{BundleText.{Text, machine_name}, RowsOf.{AreNew, IsText}, Reading.machine_at}
 use Rattle.mpf_config.proofs.NewNames.{nothing_in, contains_map, not_again}
-use Rattle.yaml_bytes.proofs.Steps.{chosen}
-use Rattle.yaml_bytes.proofs.Steps.{ok_is}
-use Rattle.yaml_bytes.proofs.Each.{here}
-use Rattle.yaml_bytes.proofs.Each.{there}
+use Rattle.yaml_bytes.proofs.{Steps.{chosen, ok_is}, Each.{here, there}}
 
 -- a text by its name
 abbrev pub named : List ℕ → List ℕ → Text

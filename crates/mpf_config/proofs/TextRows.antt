@@ -3,7 +3,7 @@ use Rattle.std.proofs.Common.{rules, ◌≡◌, ℕ, true, List, Result, Ok, Err
 use Rattle.yaml_subset.specs.declared.fault.Fault as yaml
 use Rattle.yaml_subset.specs.declared.fault.YamlFault.TheVariants as yaml_faults
 use Rattle.yaml_subset.specs.{Node.{Node, Pair}, TreeOf.{IsTree, IsTreeOf}, Reading.read_at}
-use Rattle.yaml_bytes.specs.Lines.{lines_of}
+use Rattle.yaml_bytes.{specs.Lines.lines_of, proofs.Steps.{bind_ok, ok_is}}
 use Rattle.yaml_subset.proofs.{LineContents.one_content, Levels.one_tree, Theorem.{read_sound, is_refused as no_tree}}
 use Rattle.mpf_tables.specs.declared.tables.TextKind.{TextKind}
 use Rattle.section_tables.{specs.Reading.{IsReadOr, ◌>>=◌}, proofs.Outcomes.{weaker, then_or}}
@@ -13,8 +13,6 @@ use Rattle.mpf_config.specs.RowsOf.{Sizes, within_limits, AreRowsOf, AreManyItem
 use Rattle.mpf_config.specs.Reading.{TextRows, tree_from, text_tree_at, sections_in, sections_at, text_rows_at}
 use Rattle.mpf_config.proofs.FirstLines.{version_sound, version_complete}
 use Rattle.mpf_config.proofs.Meaning.{sections_sound, sections_or, pairs_sound, pairs_complete}
-use Rattle.yaml_bytes.proofs.Steps.{bind_ok}
-use Rattle.yaml_bytes.proofs.Steps.{ok_is}
 
 -- ---- the tree of a text
 

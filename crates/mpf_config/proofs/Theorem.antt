@@ -2,8 +2,7 @@
 use Rattle.std.proofs.Common.{rules, ◌≡◌, ℕ, ◌≤◌, ◌^◌, List, [], length, Option, Result, Ok, refl, sym, ap, subst, inl, inr}
 use Rattle.std.proofs.lemmas.Bool.{cases_lt, le-ltb, lt-ltb}
 use Rattle.mpf_tables.specs.declared.tables.TextKind.TheVariants.{Machine}
-use Rattle.section_tables.specs.Reading.{IsReadOr, ◌>>=◌}
-use Rattle.section_tables.proofs.Outcomes.{weaker, then_or}
+use Rattle.section_tables.{specs.Reading.{IsReadOr, ◌>>=◌}, proofs.Outcomes.{weaker, then_or}}
 use Rattle.mpf_sections.specs.{Rows.{Written, SectionRows}, Typed.listed_modes}
 use Rattle.mpf_config.specs.{Rows.{Rows, RowsFault}, BundleText.{Text, machine_name}}
 use Rattle.mpf_config.specs.{Unread.{read_of, machine_notes}, ModeReads.{MachineRead, ModeRead}}
@@ -14,9 +13,7 @@ use Rattle.mpf_config.proofs.{BundleTexts.{texts_sound, texts_complete}, TextRow
 use Rattle.mpf_config.proofs.{TextNames.{machine_sound, machine_complete}, NewNames.nothing_in, OwnKeys.rows_distinct}
 use Rattle.mpf_config.proofs.{ListedModes.modes_listed, EntryKeys.{new_sound, new_complete}}
 use Rattle.mpf_config.proofs.{EntriesApart.{rows_apart, modes_apart}, ModesFound.{modes_found, modes_found_or}}
-use Rattle.yaml_bytes.proofs.Steps.{bind_ok}
-use Rattle.yaml_bytes.proofs.Steps.{guard_false}
-use Rattle.yaml_bytes.proofs.Steps.{ok_is}
+use Rattle.yaml_bytes.proofs.Steps.{bind_ok, guard_false, ok_is}
 
 -- ---- the machine text
 

@@ -4,8 +4,7 @@ use Rattle.std.specs.{List.{flat_map, list_any}, Fmt.decimal, Io.KnownBytes.Appe
 use Rattle.mpf_config.specs.{Rows.RowsFault, FaultLine.{spaced, fault_line}}
 use Rattle.config_faults.specs.FaultNames.{number_of, kind_name}
 use Rattle.mpf_config.specs.Escaped.{is_control, escaped_byte, escaped}
-use Rattle.std.proofs.lemmas.Bool.{or_parts}
-use Rattle.std.proofs.KnownBytes.{Appends-trans}
+use Rattle.std.proofs.{lemmas.Bool.or_parts, KnownBytes.Appends-trans}
 use Rattle.yaml_bytes.proofs.Writing.{last_piece, all_pieces}
 
 abbrev front : List ℕ → List ℕ → List ℕ

@@ -1,8 +1,8 @@
 -- What is read, as the program has it, and what its lists and sets gain. An answer gives what reading gives, unless memory
 -- ran out: this, or the first fault.
 use Rattle.std.specs.Prelude.{◌≡◌, ◌||◌, ℕ, Bool, not, List, [], ◌++◌, map, Option, Result}
-use Rattle.std.specs.{List.flat_map, HashSet.HashSet, declared.borrow.CowSlice.CowSlice}
-use Rattle.std.specs.{Borrow.Bor, Global.{Vec, Global}}
+use Rattle.std.specs.{List.flat_map, declared.borrow.CowSlice.CowSlice, Borrow.Bor}
+use Rattle.std.specs.{HashSet.HashSet, Global.{Vec, Global}}
 use Rattle.yaml_subset.specs.{declared.tree.{Key.Key, Tree.Tree}, Keys.{is_among, copies_view}}
 use Rattle.yaml_subset.specs.{Node.{Node, Pair}, View.{node_view, pair_view}}
 use Rattle.mpf_tables.specs.declared.tables.TextKind.{TextKind}

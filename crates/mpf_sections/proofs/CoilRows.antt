@@ -12,8 +12,7 @@ use Rattle.mpf_sections.specs.Short.{IsPulseInRange, IsPowerInRange, IsCoilInRan
 use Rattle.mpf_sections.proofs.{ShortRows.IsShortOption, NumberRows.time_in_range}
 use Rattle.mpf_sections.proofs.RowNames.{IsNamedOption, value_at_named, events_named, event_named, keyed_named, entries_of_named}
 use Rattle.mpf_sections.proofs.DeviceRows.{IsNamedText, IsNamedWritten, name_in_named}
-use Rattle.yaml_bytes.proofs.Each.{all_mapped, made_each}
-use Rattle.yaml_bytes.proofs.Each.{or_else}
+use Rattle.yaml_bytes.proofs.Each.{all_mapped, made_each, or_else}
 
 -- ---- names
 

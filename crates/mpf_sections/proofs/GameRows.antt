@@ -1,9 +1,7 @@
 -- What holds of variable players, of the game and of the machine, by the names of their settings: their names are names, and their settings are in their ranges.
-use Rattle.std.proofs.Common.{rules, ◌≤◌, ℤ, pos, neg_ℤ, ◌≤ℤ◌, List}
-use Rattle.std.proofs.lemmas.List.{length-map}
+use Rattle.std.proofs.{Common.{rules, ◌≤◌, ℤ, pos, neg_ℤ, ◌≤ℤ◌, List}, lemmas.List.length-map}
 use Rattle.mpf_values.specs.Names.{IsName}
-use Rattle.section_tables.specs.{Rows.{Entry, Player}}
-use Rattle.section_tables.specs.Named.{IsNamedPlayer, IsShortPlayer}
+use Rattle.section_tables.specs.{Rows.{Entry, Player}, Named.{IsNamedPlayer, IsShortPlayer}}
 use Rattle.mpf_sections.specs.{Rows.SectionRows, Named.IsNamedVariablePlayer}
 use Rattle.mpf_sections.specs.TypedGame.{variable_item_of, variable_player_of, game_of, min_balls_of}
 use Rattle.mpf_sections.specs.Short.{IsShortVariablePlayer, IsGameInRange}

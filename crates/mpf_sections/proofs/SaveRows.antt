@@ -5,8 +5,7 @@ use Rattle.mpf_tables.specs.SectionTables as tables
 use Rattle.mpf_sections.specs.{Rows.SectionRows, Typed.entries_of, Short.{IsShortBallSave, IsShortMultiball}}
 use Rattle.mpf_sections.specs.TypedSaves.{ball_saves_name, multiballs_name, ball_save_of, multiball_of, ball_saves_in, multiballs_in}
 use Rattle.mpf_sections.specs.Named.{IsNamedBallSave, IsNamedMultiball, IsNamed}
-use Rattle.mpf_sections.proofs.NumberRows.{natural_in_range}
-use Rattle.mpf_sections.proofs.RowNames.{value_at_named, events_named, entries_of_named}
+use Rattle.mpf_sections.proofs.{NumberRows.natural_in_range, RowNames.{value_at_named, events_named, entries_of_named}}
 use Rattle.yaml_bytes.proofs.Each.{all_mapped, made_each}
 
 -- ---- names

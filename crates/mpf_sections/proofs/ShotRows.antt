@@ -3,12 +3,12 @@ use Rattle.std.proofs.Common.{rules, ◌≡◌, ℕ, suc, ◌≤◌, nat_le, Boo
 use Rattle.std.specs.List.{All, cons_option, filter_map}
 use Rattle.std.proofs.lemmas.List.Elements.{All-nil, All-head, All-tail, All-from_recursion}
 use Rattle.section_tables.specs.{Rows.{Fields, Value, Entry}, Named.{AreNamedPlains, IsNamedEntry, IsShortEntry}}
-use Rattle.mpf_sections.{specs.Rows.{Written, SectionRows}, proofs.CoilRows.{written_named, some_named, either_named}}
+use Rattle.mpf_sections.{specs.Rows.{Written, SectionRows}, proofs.ShortRows.{value_at_short, entries_of_short}}
+use Rattle.mpf_sections.proofs.CoilRows.{written_named, some_named, either_named}
 use Rattle.mpf_sections.specs.Typed.{listed_names, listed_events, listed_maps, entries_of}
 use Rattle.mpf_sections.specs.TypedShots.{few, shots_name, shot_groups_name, shot_profiles_name, shot_of, shot_group_of, state_of, shot_profile_of, shots_in, shot_groups_in, shot_profiles_in}
 use Rattle.mpf_sections.specs.Named.{AllNames, AllNamedEvents, IsNamedShot, IsNamedShotGroup, IsNamedShotProfile, IsNamed}
 use Rattle.mpf_sections.specs.Short.{IsShortShot, IsShortShotGroup, IsShortShotProfile, IsShortSection}
-use Rattle.mpf_sections.proofs.ShortRows.{value_at_short, entries_of_short}
 use Rattle.mpf_tables.proofs.TableNames.{default_profile_named}
 use Rattle.mpf_sections.proofs.RowNames.{IsNamedOption, is_name, value_at_named, names_named, events_named, entries_of_named}
 use Rattle.mpf_sections.proofs.DeviceRows.{IsNamedWritten, text_at_named, name_in_named}

@@ -2,7 +2,7 @@
 use Rattle.std.proofs.Common.{rules, ◌≡◌, ℕ, Bool, true, false, cond, eqb, List, [], ◌∷◌, ◌++◌, length, Option, Some, None, ℤ, codes, refl, sym, ap, subst, ◌∙◌, inl, inr, arith, take-append-drop}
 use Rattle.std.specs.Str.{bytes_eq}
 use Rattle.std.proofs.lemmas.{Bool.{eqb-true, ne_eqb}, Option.{same_Some, cond_some}, Slice.Eq.bytes_eq-Decides}
-use Rattle.yaml_bytes.specs.{Bytes.is_blank, Plain.{Are, AreBlank}, Numbers.AreDigits}
+use Rattle.yaml_bytes.{specs.{Bytes.is_blank, Plain.{Are, AreBlank}, Numbers.AreDigits}, proofs.Steps.chosen}
 use Rattle.mpf_values.specs.{declared.handled.Comparison.Comparison, Integers.{with_sign, IsInteger}, Names.IsName}
 use Rattle.mpf_values.specs.declared.handled.Comparison.TheVariants.{Equal, NotEqual, Less, LessOrEqual, Greater, GreaterOrEqual}
 use Rattle.mpf_values.specs.Bytes.{is_name_byte, is_operator_byte, is_word_byte}
@@ -12,7 +12,6 @@ use Rattle.mpf_values.proofs.{Steps.{bind_some, guard_true}, NameTexts.{name_sou
 use Rattle.mpf_values.proofs.Fronts.{begins, parts, are_front, front_is, behind_is, begins_behind, no_bytes}
 use Rattle.mpf_values.proofs.ByteKinds.{no_blank, digit_is_no_blank, digit_is_no_operator, digits_are_word}
 use Rattle.mpf_values.proofs.{IntegerTexts.integer_computes, Computing.Computes}
-use Rattle.yaml_bytes.proofs.Steps.{chosen}
 
 -- ---- words
 

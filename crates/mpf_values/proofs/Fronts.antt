@@ -3,8 +3,7 @@ use Rattle.std.proofs.Common.{rules, ◌≡◌, ℕ, Bool, true, false, List, []
 use Rattle.std.{specs.List.prefix_len, proofs.lemmas.Bool.cases_Bool}
 use Rattle.yaml_bytes.specs.Plain.{Are}
 use Rattle.mpf_values.specs.Reading.{front, behind}
-use Rattle.yaml_subset.proofs.QuotedTexts.{len_yes}
-use Rattle.yaml_subset.proofs.QuotedTexts.{len_no}
+use Rattle.yaml_subset.proofs.QuotedTexts.{len_yes, len_no}
 
 -- whether a byte comes first that passes the test
 abbrev pub begins : (ℕ → Bool) → List ℕ → Bool

@@ -4,8 +4,7 @@ use Rattle.std.proofs.lemmas.{Bool.{eqb-true, ne_eqb, ltb-false, le-ltb}, Option
 use Rattle.yaml_bytes.specs.Numbers.{value_of_digits, number_at, AreDigits}
 use Rattle.mpf_values.specs.{Integers.{with_sign, signed, IsInteger}, Reading.{◌>>=◌, magnitude_at, integer_at}}
 use Rattle.mpf_values.proofs.{Steps.{bind_some, guard_false}, Computing.Computes}
-use Rattle.yaml_bytes.proofs.WrittenNumbers.{number_sound, number_complete}
-use Rattle.yaml_bytes.proofs.Steps.{chosen}
+use Rattle.yaml_bytes.proofs.{WrittenNumbers.{number_sound, number_complete}, Steps.chosen}
 
 -- what digits are that are read
 record Magnitude (digits : List ℕ) (n : ℕ) : Type 0 where

@@ -1,14 +1,13 @@
 -- Times are read as they are written.
 use Rattle.std.proofs.Common.{rules, ◌≡◌, ℕ, ◌*◌, ◌<◌, ◌≤◌, ◌^◌, true, false, cond, ◌==◌, Option, List, [], ◌++◌, Some, None, codes, refl, sym, ap, ◌∙◌, inl, inr, arith}
 use Rattle.std.{specs.{Char.is_ascii_digit, Str.bytes_eq}, proofs.lemmas.{Option.same_Some, Slice.Eq.bytes_eq-Decides}}
-use Rattle.yaml_bytes.specs.Bytes.{is_blank}
+use Rattle.yaml_bytes.{specs.Bytes.is_blank, proofs.Steps.chosen}
 use Rattle.mpf_values.specs.Times.{IsUnit, bare, milliseconds, seconds, minutes, hours, days, IsTime}
 use Rattle.mpf_values.specs.Reading.{◌>>=◌, front, behind, within_64_bits, decimal_at, unit_at, whole_at, time_at}
 use Rattle.mpf_values.proofs.Steps.{bind_some, guard_true, within_64_bits-some, within_64_bits-is}
 use Rattle.mpf_values.proofs.Fronts.{begins, behind_is, begins_behind, parts, are_front}
 use Rattle.mpf_values.proofs.{ByteKinds.no_blank, Computing.Computes}
 use Rattle.mpf_values.proofs.WrittenNumbers.{decimal_sound, Ends, decimal_complete}
-use Rattle.yaml_bytes.proofs.Steps.{chosen}
 
 -- ---- units
 

@@ -2,12 +2,11 @@
 use Rattle.std.proofs.Common.{rules, ◌≡◌, ℕ, zero, suc, ◌+◌, ◌-◌, ◌*◌, ◌^◌, ◌<◌, ◌≤◌, false, cond, eqb, ◌==◌, List, [], ◌∷◌, ◌++◌, length, Option, Some, None, refl, sym, ap, subst, ◌∙◌, inl, inr, arith, append_assoc}
 use Rattle.std.{specs.Char.is_ascii_digit, proofs.lemmas.{Bool.eqb-true, Option.same_Some}}
 use Rattle.yaml_bytes.specs.{Numbers.{value_of_digits, number_at, AreDigits}, Plain.Are}
-use Rattle.yaml_bytes.proofs.WrittenNumbers.{number_sound, number_complete}
+use Rattle.yaml_bytes.proofs.{WrittenNumbers.{number_sound, number_complete}, Steps.chosen}
 use Rattle.mpf_values.specs.{declared.decimals.Decimal.Decimal, Numbers.{decimal_text, IsDecimal}}
 use Rattle.mpf_values.specs.Reading.{◌>>=◌, front, behind, within_64_bits, worth_of, fraction_at, decimal_from, decimal_at}
 use Rattle.mpf_values.proofs.Steps.{bind_some, guard_true, within_64_bits-some, within_64_bits-is}
 use Rattle.mpf_values.proofs.Fronts.{begins, parts, front_is, behind_is}
-use Rattle.yaml_bytes.proofs.Steps.{chosen}
 
 -- ---- decimals
 

@@ -1,14 +1,13 @@
 -- The work of each event, one event after the other.
 use Rattle.std.proofs.Common.{◌≡◌, ℕ, zero, suc, ◌+◌, ◌<◌, ◌-◌, ◌≤◌, ◌==◌, Bool, true, ◌&&◌, List, [], ◌∷◌, length, get_or, slice_get, Option, Some, is_some, rules, refl, sym, ◌∙◌, ap, arith}
 use Rattle.std.{specs.List.position, proofs.lemmas.List.FromFn.{length-map-range_with_len, get_or-map-range_with_len}}
-use Rattle.std.proofs.lemmas.{Bool.{eqb-true, and_parts}, Option.none-some, List.Quantifiers.position-Some}
+use Rattle.std.proofs.lemmas.{Bool.{eqb-true, and_parts}, Option.{none-some, same_Some}, List.Quantifiers.position-Some}
 use Rattle.plan_tables.specs.declared.entries.{EventId.EventId, GameEvent.GameEvent}
 use Rattle.plan_tables.specs.declared.entries.{ModeId.ModeId, ModeEvents.ModeEvents, Work.Work}
 use Rattle.plan_tables.specs.declared.entries.{ModeEvent.ModeEvent, GameRules.GameRules}
 use Rattle.plan_tables.specs.declared.entries.Work.TheVariants as works
 use Rattle.plan_tables.specs.{GameEvents.{game_events, order_of}, Valid.{HasGame, IsWorkAt}, Inside.HasWorks}
 use Rattle.plan_tables.specs.PlanView.{PlanMode, PlanView, no_event, no_mode, event_among, which_event, work_or, work_from, game_work, or_work, work_of, event_of_game, game_event}
-use Rattle.std.proofs.lemmas.Option.{same_Some}
 
 module _ (plan : PlanView) (works : List Work) (has : HasWorks plan works) where
   -- each event of the plan has its work
@@ -28,7 +27,6 @@ pub number_same : (e f : EventId) → (e.0 == f.0) ≡ true → e ≡ f
 number_same e f is = ap numbered (eqb-true e.0 f.0 is)
 
 module _ (events : ModeEvents) (e : EventId) (which : ModeEvent) where
-
   which-is : which_event events e ≡ Some which → e ≡ event_among events which
   which-is is = search rules
 

@@ -3,11 +3,11 @@ use Rattle.std.proofs.Common.{rules, ℕ, Bool, if◌then◌else◌, List, [], �
 use Rattle.std.specs.{Prelude.{Option, None, Some, IfSome, fold}, Str.bytes_eq, List.{All, flat_map}}
 use Rattle.std.proofs.lemmas.List.Elements.{All-nil, All-cons, All-tail}
 use Rattle.mpf_sections.{specs.declared.words.CoilAction.CoilAction, proofs.CoilRows.coils_in_range}
-use Rattle.mpf_sections.specs.Rows.{Written, Coil, CoilItem, Flipper, Autofire, SectionRows}
+use Rattle.mpf_sections.specs.Rows.{Coil, CoilItem, Flipper, Autofire, SectionRows}
 use Rattle.mpf_sections.specs.{TypedCoils.coils_in, Short.{IsCoilInRange, IsItemInRange}}
 use Rattle.machine_definitions.specs.Definitions.{latest_coil, no_coil, coil_of_name}
 use Rattle.row_contributions.specs.CoilEntries.{defaults_called, own_pulse, own_hold, deed_by, item_effect, flipper_device, autofire_device}
-use Rattle.plan_contributions.specs.Effects.{Deed, disable, Effect, works}
+use Rattle.plan_contributions.specs.Effects.{disable, Effect, works}
 use Rattle.row_contributions.specs.Facts.{IsDeedInRange, IsEffectInRange}
 use Rattle.yaml_bytes.proofs.Each.{or_else}
 use Rattle.yaml_bytes.proofs.Each.{All-flat_map}

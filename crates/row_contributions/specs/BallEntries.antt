@@ -1,6 +1,6 @@
 -- What the entries of ball devices say. Here `machine` is the sections of the machine text, which have the coils and the
 -- game.
-use Rattle.std.specs.Prelude.{ℕ, zero, suc, Bool, true, false, ◌&&◌, List, [], ◌∷◌, ◌++◌, length, min, Option, None, Some, is_some, codes}
+use Rattle.std.specs.Prelude.{ℕ, Bool, true, false, ◌&&◌, List, [], ◌∷◌, ◌++◌, length, min, Option, None, Some, is_some, codes}
 use Rattle.std.specs.{List.list_any, Str.bytes_eq}
 use Rattle.mpf_sections.specs.Rows.{Written, BallDevice, Content, entry, SectionRows}
 use Rattle.mpf_sections.specs.{TypedBalls.{is_trough, is_home, is_drain}, TypedGame.game_name}

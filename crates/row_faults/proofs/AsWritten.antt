@@ -7,8 +7,7 @@ use Rattle.mpf_sections.specs.{Rows.{Written, Switch, BlockEvents, Counter, Step
 use Rattle.row_faults.specs.AsWritten.{put_by, ordered_by, written_before, in_order, as_written}
 use Rattle.row_faults.specs.Reserved.{switch_posts, block_posts, counter_posts, step_posts}
 use Rattle.row_faults.proofs.{None.flat_map-none, ByLine.{ordered-all, ordered-seen}}
-use Rattle.yaml_bytes.proofs.Each.{All-from_flat_map}
-use Rattle.yaml_bytes.proofs.Each.{All-from_map}
+use Rattle.yaml_bytes.proofs.Each.{All-from_flat_map, All-from_map}
 
 -- what is of each item of what settings have is of all that each has
 module _ {X : Type 0} (table : List Setting) (order : List ℕ) (parts : List (List ℕ × List X)) where

@@ -1,7 +1,6 @@
 -- Lists without items, and the faults that they are made of.
 use Rattle.std.proofs.Common.{rules, ◌≡◌, ℕ, nat_lt, Bool, true, false, if◌then◌else◌, List, [], ◌∷◌, ◌++◌, map, refl, sym, ◌∙◌, inl, inr}
-use Rattle.std.specs.List.{All, filter, flat_map}
-use Rattle.std.proofs.lemmas.{Bool.cases_Bool, List.Elements.{All-nil, All-cons}}
+use Rattle.std.{specs.List.{All, filter, flat_map}, proofs.lemmas.{Bool.cases_Bool, List.Elements.{All-nil, All-cons}}}
 use Rattle.mpf_sections.specs.Rows.{Written}
 use Rattle.row_faults.specs.{declared.fault.RowFaultKind.RowFaultKind, CoilFaults.fault_if, RowFaults.listed_once}
 use Rattle.row_faults.specs.{FaultView.RowFaultView, AsWritten.{put_by, ordered_by}}

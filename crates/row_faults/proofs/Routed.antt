@@ -2,14 +2,13 @@
 use Rattle.std.proofs.Common.{rules, ◌≡◌, ◌≢◌, ℕ, suc, ◌≤◌, Bool, false, List, [], ◌∷◌, ◌++◌, sym, ◌∙◌, true≢false, arith}
 use Rattle.std.specs.{List.{All, AllPairs, flat_map}, Str.bytes_eq}
 use Rattle.std.proofs.lemmas.List.{Elements.{All-nil, All-cons, All-weaker}, Kept.AllPairs-cons}
-use Rattle.std.proofs.lemmas.Slice.Eq.{bytes_eq-Decides}
+use Rattle.std.proofs.lemmas.{Slice.Eq.bytes_eq-Decides, Bool.or_parts}
 use Rattle.mpf_sections.specs.Rows.{BallDevice}
 use Rattle.row_faults.specs.declared.fault.RowFaultKind.TheVariants.{BallRoute}
 use Rattle.row_faults.specs.{CoilFaults.fault_if, Sound.{IsRouted, AreRouted}}
 use Rattle.row_faults.specs.Routes.{switch_names, taken_too, all_taken, is_one_taken}
 use Rattle.row_faults.specs.BallFaults.{is_route_wrong, rest_faults, is_free, route_faults}
 use Rattle.row_faults.proofs.None.{fault_if-none, append-none}
-use Rattle.std.proofs.lemmas.Bool.{or_parts}
 
 -- ---- ball switches
 

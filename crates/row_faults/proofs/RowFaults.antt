@@ -1,7 +1,7 @@
 -- The faults of rows, as they are found.
 use Rattle.std.proofs.Common.{rules, ◌≡◌, ℕ, Bool, true, false, not, ◌||◌, List, [], ◌∷◌, ◌++◌, map, append_assoc, refl, sym, ap, ◌∙◌}
 use Rattle.std.specs.{List.{list_any, filter, flat_map}, Ordering.nat_cmp, BTreeMap.is_at}
-use Rattle.std.specs.{Global.Vec, Str.bytes_eq, Cmp.Lexicographic.slice_cmp}
+use Rattle.std.{specs.{Global.Vec, Str.bytes_eq, Cmp.Lexicographic.slice_cmp}, proofs.Math.Bool.or-false}
 use Rattle.std.proofs.lemmas.{Bool.{not-true, not-false}, List.{map-append, Folds.list_any-append}}
 use Rattle.yaml_subset.{specs.Keys.is_among, proofs.KeySets.contains_key}
 use Rattle.row_faults.specs.declared.fault.{RowFault.RowFault, RowFaultKind.TheVariants.Name}
@@ -14,7 +14,6 @@ use Rattle.machine_definitions.specs.{GameEvents.reserved_game_events, Players.{
 use Rattle.row_faults.specs.Reserved.{mode_events, events_of_modes, posts_in}
 use Rattle.row_faults.specs.RowFaults.{name_fault, starts_at_end, timer_fault, coil_faults_in, section_faults, written_faults, text_faults, mode_faults, faults_by, listed_once}
 use Rattle.row_faults.specs.ShotFaults.{shot_faults, listed_in, misplaced}
-use Rattle.std.proofs.Math.Bool.{or-false}
 
 -- ---- sets
 

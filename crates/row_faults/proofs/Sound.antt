@@ -1,7 +1,7 @@
 -- Rows without faults are sound.
 use Rattle.std.proofs.Common.{rules, ◌≡◌, ℕ, get_or, Bool, true, false, not, ◌||◌, List, [], ◌∷◌, ◌++◌, map, filter, Option, Some, None, IfSome, is_some, codes, refl, arith}
 use Rattle.std.specs.{Option.is_none, List.{All, flat_map}}
-use Rattle.std.proofs.lemmas.{Bool.{ltb-false, not-false}, List.Elements.{All-nil, All-cons, All-weaker}}
+use Rattle.std.proofs.lemmas.{Bool.{ltb-false, not-false, or_parts}, List.Elements.{All-nil, All-cons, All-weaker}}
 use Rattle.mpf_tables.specs.SectionTables as tables
 use Rattle.mpf_sections.specs.Rows.{Written, Coil, CoilItem, CoilPlayer, Flipper, Autofire, CoilRule, VariablePlayer, Shot, ShotGroup, BallDevice, SectionRows}
 use Rattle.mpf_sections.specs.{Typed.{entries_in, timers_in}, TypedBalls.ball_devices_in}
@@ -22,11 +22,7 @@ use Rattle.row_faults.specs.ShotFaults.{shot_switch_faults, profile_faults, shot
 use Rattle.row_faults.specs.Sound.{ChangesNothingBarred, IsHoldWithin, IsCoilSound, IsCoilSuch, IsItemSound, IsCoilPlayerSound, IsFlipperSound, IsAutofireSound, IsRuleSound, IsShotSound, IsShotGroupSound, IsBallDeviceSound, IsSectionSound, IsSound}
 use Rattle.row_faults.proofs.None.{fault_if-none, map-none, append-none, flat_map-none, filter-none, ordered-none, once-none}
 use Rattle.row_faults.proofs.{Called.{machine-called, mode-called}, AsWritten.written-none, Routed.route_faults-none}
-use Rattle.yaml_bytes.proofs.Each.{or_else}
-use Rattle.std.proofs.lemmas.Bool.{or_parts}
-use Rattle.yaml_bytes.proofs.Each.{All-flat_map}
-use Rattle.yaml_bytes.proofs.Each.{All-from_flat_map}
-use Rattle.yaml_bytes.proofs.Each.{All-from_map}
+use Rattle.yaml_bytes.proofs.Each.{or_else, All-flat_map, All-from_flat_map, All-from_map}
 
 -- ---- settings
 

@@ -1,11 +1,10 @@
 -- Names of which none stands twice.
 use Rattle.std.proofs.Common.{rules, ◌≡◌, ◌≢◌, ℕ, ◌+◌, ◌-◌, ◌<◌, Bool, true, false, ◌&&◌, ◌||◌, not, List, [], ◌∷◌, length, map, take, drop, length-drop, get_or, refl, sym, ap, ◌∙◌, arith}
 use Rattle.std.specs.{List.{AllPairs, AllByRecursion, IsDistinct, list_any}, Str.bytes_eq}
-use Rattle.std.proofs.lemmas.List.{take_all, Elements.All-from_recursion, Folds.list_any_none}
+use Rattle.std.proofs.lemmas.List.{take_all, drop_more, Elements.All-from_recursion, Folds.list_any_none}
 use Rattle.std.proofs.lemmas.Map.Keys.{IsDistinct-head, IsDistinct-tail, IsDistinct-cons, IsDistinct-from_apart}
 use Rattle.std.proofs.lemmas.{Map.Made.{AllPairs-from_IsDistinct, IsDistinct-from_AllPairs}, Slice.Eq.bytes_eq-Decides}
 use Rattle.section_tables.specs.Reading.{are_apart}
-use Rattle.std.proofs.lemmas.List.{drop_more}
 
 -- ---- what it means
 

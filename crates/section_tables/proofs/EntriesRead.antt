@@ -8,15 +8,11 @@ use Rattle.section_tables.specs.Entries.{pairs_below, is_ignored, written_at}
 use Rattle.section_tables.specs.Tables.{setting_key, setting_default, setting_lacks}
 use Rattle.section_tables.specs.EntryOf.{IsWritten, IsSetting, IsOneOf, places_written, IsEntry, IsOtherEntry, AreEntries, IsPlayer, ArePlayers, AreNamesListed}
 use Rattle.section_tables.specs.Reading.{most_items, IsReadOr, IsReadOrLong, ◌>>=◌, key_spot, expect, each_read, setting_at, values_at, is_one_of, entry_at, other_entry_at, entries_at, player_at, players_at, written_in, names_at}
-use Rattle.section_tables.proofs.Steps.{expected}
-use Rattle.section_tables.proofs.{Outcomes.{then_or, each_sound, each_or}, RowsRead.{row_sound, row_complete}}
+use Rattle.section_tables.proofs.{Steps.expected, RowsRead.{row_sound, row_complete}}
+use Rattle.section_tables.proofs.{Outcomes.{then_or, each_sound, each_or}, ValuesRead.{value_sound, value_complete}}
 use Rattle.section_tables.proofs.ScalarTexts.{among_sound, among_complete, scalar_sound, scalar_complete}
 use Rattle.section_tables.proofs.ListValues.{name_sound, name_complete, listed_sound, listed_complete}
-use Rattle.section_tables.proofs.ValuesRead.{value_sound, value_complete}
-use Rattle.yaml_bytes.proofs.Steps.{bind_ok}
-use Rattle.yaml_bytes.proofs.Steps.{guard_true}
-use Rattle.yaml_bytes.proofs.Steps.{guard_false}
-use Rattle.yaml_bytes.proofs.Steps.{ok_is}
+use Rattle.yaml_bytes.proofs.Steps.{bind_ok, guard_true, guard_false, ok_is}
 
 -- ---- entries
 

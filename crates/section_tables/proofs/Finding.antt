@@ -1,8 +1,7 @@
 -- Looking for a key in a table, and for what is lacking in a row, from a place on.
 use Rattle.std.proofs.Common.{rules, ◌≡◌, ℕ, zero, suc, ◌+◌, ◌<◌, Bool, true, false, if◌then◌else◌, slice_get, List, [], ◌∷◌, length, drop, get_or, map, Option, Some, None, refl, sym, ◌∙◌, arith}
-use Rattle.std.{specs.{List.list_any, Str.bytes_eq}}
+use Rattle.std.{specs.{List.list_any, Str.bytes_eq}, proofs.lemmas.List.drop_more}
 use Rattle.section_tables.specs.{Tables.{found_in, shifted}, Reading.lacking}
-use Rattle.std.proofs.lemmas.List.{drop_more}
 
 pub at_start : {T : Type 0} (o : Option (ℕ × T)) → shifted 0 o ≡ o
 at_start x1 = search rules

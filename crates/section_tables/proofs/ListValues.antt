@@ -7,15 +7,12 @@ use Rattle.mpf_values.proofs.NameTexts.{IsName-from_is_name, is_name-from_IsName
 use Rattle.mpf_values.proofs.{EventTexts.event_computes, ListNodes.{list_sound, list_complete}}
 use Rattle.config_faults.specs.{declared.fault.FaultKind.TheVariants.Limit, Faults.{RowsFault, Spot, rows_fault_at}}
 use Rattle.section_tables.specs.{Rows.{Written, Handled, Plain}, Kinds.{Scalar, Bounds, fits}}
-use Rattle.section_tables.{specs.Entries.{nodes_below, handled_at}, proofs.ScalarTexts.{scalar_sound, scalar_complete}}
+use Rattle.section_tables.specs.Entries.{nodes_below, handled_at}
+use Rattle.section_tables.proofs.{ScalarTexts.{scalar_sound, scalar_complete}, Outcomes.{then_or, each_sound, each_or}}
 use Rattle.section_tables.specs.EntryOf.{IsPlain, AreListed, AreNodes, IsWritten, IsHandled}
 use Rattle.section_tables.specs.Reading.{most_items, IsReadOr, IsReadOrLong, ◌>>=◌, expect, give, each_read, plain_at, written_in, handled_in, count_at, count_of, list_items_at, listed_at, list_nodes_at, nodes_at}
-use Rattle.section_tables.proofs.Steps.{expected}
-use Rattle.section_tables.proofs.{Outcomes.{then_or, each_sound, each_or}, Counting.count_few, Options.gave}
-use Rattle.yaml_bytes.proofs.Steps.{bind_ok}
-use Rattle.yaml_bytes.proofs.Steps.{guard_true}
-use Rattle.yaml_bytes.proofs.Steps.{guard_false}
-use Rattle.yaml_bytes.proofs.Steps.{ok_is}
+use Rattle.section_tables.proofs.{Steps.expected, Counting.count_few, Options.gave}
+use Rattle.yaml_bytes.proofs.Steps.{bind_ok, guard_true, guard_false, ok_is}
 
 -- ---- texts
 

@@ -2,8 +2,7 @@
 use Rattle.std.{proofs.Common.{rules, ◌≡◌, List, [], ◌∷◌, Result, Ok, refl, subst, inl}, specs.List.AllZip}
 use Rattle.config_faults.specs.Faults.{RowsFault}
 use Rattle.section_tables.specs.Reading.{IsReadOr, ◌>>=◌, each_read}
-use Rattle.yaml_bytes.proofs.Steps.{bind_ok}
-use Rattle.yaml_bytes.proofs.Steps.{ok_is}
+use Rattle.yaml_bytes.proofs.Steps.{bind_ok, ok_is}
 
 pub weaker : {B : Type 0} (Above More : Type 0) → (Above → More) → (r : Result B RowsFault) (y : B) → IsReadOr Above r y → IsReadOr More r y
 weaker Above More so r y x6 = search rules

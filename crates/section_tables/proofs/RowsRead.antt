@@ -6,8 +6,7 @@ use Rattle.config_faults.specs.Faults.{RowsFault, Spot}
 use Rattle.section_tables.specs.{Tables.found_in, EntryOf.{OverwritesAt, IsOverwritten, IsWhole}}
 use Rattle.section_tables.specs.Reading.{most_items, IsReadOrLong, key_spot, put_at, overwritten_at, lacking, whole_from, row_at}
 use Rattle.section_tables.proofs.Outcomes.{then_or}
-use Rattle.yaml_bytes.proofs.Steps.{bind_ok}
-use Rattle.yaml_bytes.proofs.Steps.{ok_is}
+use Rattle.yaml_bytes.proofs.Steps.{bind_ok, ok_is}
 
 -- ---- nothing lacks
 

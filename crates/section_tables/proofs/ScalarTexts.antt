@@ -1,16 +1,14 @@
 -- What a text says is what it is read as, and nothing else.
 use Rattle.std.proofs.Common.{rules, ◌≡◌, ℕ, ◌≤◌, nat_le, ◌&&◌, Bool, true, List, [], ◌∷◌, Some, refl, sym, inl, inr}
-use Rattle.std.{specs.Str.bytes_eq, proofs.lemmas.Bool.{leb-true, le-leb}}
+use Rattle.std.{specs.Str.bytes_eq, proofs.lemmas.Bool.{leb-true, le-leb, and_parts}}
 use Rattle.mpf_values.specs.Reading.{boolean_at, integer_at, time_at, power_at, event_at}
 use Rattle.mpf_values.proofs.{BooleanTexts.boolean_computes, PowerTexts.power_computes}
 use Rattle.mpf_values.proofs.{IntegerTexts.integer_computes, TimeTexts.time_computes, EventTexts.event_computes}
 use Rattle.mpf_values.proofs.NameTexts.{IsName-from_is_name, is_name-from_IsName}
 use Rattle.section_tables.specs.{Rows.{Plain, flag, number, time, power, event}, Reading.{keep, is_one_of, scalar_of}}
 use Rattle.section_tables.specs.Kinds.{Scalar, a_flag, number_within, time_within, a_power, one_of, a_name, an_event}
-use Rattle.section_tables.specs.{Entries.handled_at, EntryOf.{within, IsOneOf, IsScalar}}
-use Rattle.section_tables.proofs.Options.{gave, kept}
+use Rattle.section_tables.{specs.{Entries.handled_at, EntryOf.{within, IsOneOf, IsScalar}}, proofs.Options.{gave, kept}}
 use Rattle.yaml_bytes.proofs.Words.{is_word}
-use Rattle.std.proofs.lemmas.Bool.{and_parts}
 
 among_by : (xs : List (List ℕ)) (w : List ℕ) (x : List ℕ) (b : Bool) → bytes_eq x w ≡ b → is_one_of (x ∷ xs) w ≡ true → (is_one_of xs w ≡ true → IsOneOf xs w) → IsOneOf (x ∷ xs) w
 unfolding is_one_of

@@ -1,6 +1,5 @@
 -- What a reading that did not fail went through.
-use Rattle.std.proofs.Common.{rules, ◌≡◌, ℕ, List, false, Option, Some, Ok}
-use Rattle.std.specs.Str.{bytes_eq}
+use Rattle.std.{proofs.Common.{rules, ◌≡◌, ℕ, List, false, Option, Some, Ok}, specs.Str.bytes_eq}
 use Rattle.config_faults.specs.Faults.{Spot}
 use Rattle.section_tables.specs.Reading.{expect}
 

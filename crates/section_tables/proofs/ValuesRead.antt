@@ -2,7 +2,7 @@
 use Rattle.std.proofs.Common.{rules, ◌≡◌, ◌<◌, ℕ, Bool, true, false, if◌then◌else◌, List, length, map, set, Option, Some, None, Result, Ok, refl, sym, ap, subst, inl, arith}
 use Rattle.std.proofs.lemmas.Bool.{le-leb}
 use Rattle.yaml_subset.specs.{Node.{Node, Pair}, View.{line_of, text_in}}
-use Rattle.mpf_values.{proofs.NameTexts.{IsName-from_is_name, is_name-from_IsName}}
+use Rattle.mpf_values.proofs.NameTexts.{IsName-from_is_name, is_name-from_IsName}
 use Rattle.config_faults.specs.declared.fault.FaultKind.TheVariants.{BadValue}
 use Rattle.section_tables.specs.Rows.{Handled, Plain, Fields, Keyed, Value, one, names, posts, events, steps, maps, keyed}
 use Rattle.config_faults.specs.Faults.{RowsFault, Spot, rows_fault_at, refused}
@@ -10,12 +10,10 @@ use Rattle.section_tables.specs.Kinds.{Scalar, Bounds, at_least, fits, Field, Ki
 use Rattle.section_tables.specs.{Entries.{pairs_below, written_at}, Tables.{field_key, field_default, field_lacks}}
 use Rattle.section_tables.specs.EntryOf.{IsWritten, IsHandled, AreNodes, IsField, pass, IsFieldRow, AreFields, own_name, HaveOwnNames, IsKeyedRow, IsKeyed, AreKeyed, IsStep, IsValue}
 use Rattle.section_tables.specs.Reading.{most_items, IsReadOrLong, ◌>>=◌, key_spot, each_read, plain_at, written_in, handled_in, listed_at, nodes_at, field_at, fields_row_at, fields_at, are_apart, named_maps_at, keyed_row_at, keyed_at, few_pairs_at, keyed_list_at, value_at}
-use Rattle.section_tables.proofs.RowsRead.{row_sound, row_complete}
-use Rattle.section_tables.proofs.{Outcomes.{then_or, each_sound, each_or}, Apart.{apart_sound, apart_complete}}
+use Rattle.section_tables.proofs.{RowsRead.{row_sound, row_complete}, Apart.{apart_sound, apart_complete}}
+use Rattle.section_tables.proofs.Outcomes.{then_or, each_sound, each_or}
 use Rattle.section_tables.proofs.ListValues.{plain_sound, plain_complete, name_sound, name_complete, handled_sound, handled_complete, listed_sound, counted_sound, counted_complete, listed_complete, nodes_sound, nodes_complete}
-use Rattle.yaml_bytes.proofs.Steps.{bind_ok}
-use Rattle.yaml_bytes.proofs.Steps.{guard_true}
-use Rattle.yaml_bytes.proofs.Steps.{ok_is}
+use Rattle.yaml_bytes.proofs.Steps.{bind_ok, guard_true, ok_is}
 
 -- ---- maps
 

@@ -2,9 +2,8 @@
 use Rattle.std.specs.Prelude.{true}
 use Rattle.plan_tables.specs.declared.devices.BankSettings.{BankSettings}
 use Rattle.plan_tables.specs.declared.devices.Settings.TheVariants as kinds
-use Rattle.device_objects.specs.declared.state.BankSlot.{BankSlot}
+use Rattle.device_objects.specs.{declared.state.BankSlot.BankSlot, Bank.{first_slot, slot_step}, Slotted.SlotModel}
 use Rattle.device_objects.specs.declared.state.DeviceState.TheVariants as states
-use Rattle.device_objects.specs.{Bank.{first_slot, slot_step}, Slotted.SlotModel}
 
 abbrev pub bank_slots : BankSettings → SlotModel BankSlot
 bank_slots b = record {

@@ -72,7 +72,6 @@ module _ (switch : SwitchId) (level : Bool) (now : ℕ) (s : SwitchesView) where
 -- ---- what is due is accepted
 
 module _ (switch : SwitchId) (s : SwitchesView) where
-
   pub accept-done : due_of (accept switch s) switch ≡ None
   accept-done = due-none s switch (fired (kind_at s switch) (state_at s switch)) refl
 
@@ -81,7 +80,6 @@ module _ (switch : SwitchId) (s : SwitchesView) where
   accept-due n due is = search (rules, due-set, none-some)
 
   module _ (at : ℕ) (next : IsNextDue s at switch) where
-
     -- it is what a fire accepts and reports
     pub fire-accepts : after_fire s ≡ accept switch s
     fire-accepts = ap (λ d. accept_due d s) (next_due-is s at switch next)

@@ -29,7 +29,6 @@ followed-idle : (kind : SwitchKind) → IsFollowed kind [] (idle kind) 0
 followed-idle kind = record { levels = λ later h. refl; ahead = λ due is. omega arith }
 
 module _ (kind : SwitchKind) (past : List RawChange) (x : SwitchState) (moment now : ℕ) where
-
   followed-fired : x.due ≡ Some now → moment ≤ now → IsFollowed kind past x moment → IsFollowed kind past (fired kind x) now
   followed-fired due forward f = search rules
 

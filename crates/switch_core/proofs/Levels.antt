@@ -1,11 +1,10 @@
 -- The accepted level after one more raw change.
 use Rattle.std.proofs.Common.{rules, ◌≡◌, ℕ, ◌+◌, ◌≤◌, Bool, true, cond, ◌&&◌, Option, Some, List, [], ◌∷◌, ◌++◌, nat_le, refl, ap, sym, ◌∙◌, arith}
 use Rattle.std.specs.List.{filter, list_all, last_or}
-use Rattle.std.proofs.lemmas.{Bool.{le-leb, leb-true}, List.Folds.list_all-append}
+use Rattle.std.proofs.{lemmas.{Bool.{le-leb, leb-true}, List.Folds.list_all-append}, Math.Bool.and-true}
 use Rattle.plan_tables.specs.declared.entries.SwitchKind.{SwitchKind}
 use Rattle.switch_core.specs.SwitchStep.{is_active}
 use Rattle.switch_core.specs.AcceptedLevel.{RawChange, delay_of, standing, is_delay_over, accepted_level}
-use Rattle.std.proofs.Math.Bool.{and-true}
 
 filter-cond : (f : RawChange → Bool) (b : Bool) (xs ys : List RawChange) → filter f (cond b xs ys) ≡ cond b (filter f xs) (filter f ys)
 filter-cond f b xs ys = search rules

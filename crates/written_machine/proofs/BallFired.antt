@@ -16,7 +16,6 @@ abbrev pub IsFired : BallState → ℕ → BallState → Type 0
 IsFired b at t = (t.switches ≡ b.switches) ⊎ HasTurned b t at
 
 module _ (d : BallSettings) where
-
   time_out-switches : (now : ℕ) (eject : Eject) (b : BallState) → (time_out d now eject b).0.switches ≡ b.switches
   time_out-switches now eject b = search rules
 

@@ -1,11 +1,10 @@
 -- Whether a ball counts at a ball switch follows from its changes alone.
 use Rattle.std.proofs.Common.{rules, ◌≡◌, ℕ, zero, suc, ◌+◌, ◌<◌, ◌≤◌, Bool, true, false, not, cond, ◌&&◌, Option, Some, None, List, [], ◌∷◌, ◌++◌, if◌then◌else◌, nat_le, refl, ◌∙◌, append-nil, arith}
-use Rattle.std.{specs.List.{filter, last_or}, proofs.lemmas.List.Folds.list_all-append}
+use Rattle.std.{specs.List.{filter, last_or}, proofs.{lemmas.List.Folds.list_all-append, Math.Bool.and-true}}
 use Rattle.plan_tables.specs.declared.devices.BallSettings.{BallSettings}
 use Rattle.device_objects.specs.{declared.state.BallSwitch.BallSwitch, BallDevice.{empty, noted}}
 use Rattle.written_machine.specs.SwitchLines.{LevelChange}
 use Rattle.written_machine.specs.Counted.{counts_from, is_late, not_undone, level_after, counted_level}
-use Rattle.std.proofs.Math.Bool.{and-true}
 
 -- ---- one change more
 

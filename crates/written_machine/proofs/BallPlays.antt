@@ -1,9 +1,9 @@
 -- What the parts of the machine do with balls: a ball device is called, a ball has arrived on the playfield, or nothing
 -- that concerns balls happens.
 use Rattle.std.proofs.Common.{rules, ◌≡◌, ℕ, ℤ, ◌<◌, ◌==◌, ◌&&◌, inl, inr, ◌⊎◌, if◌then◌else◌, Bool, true, false, Option, Some, None, List, [], ◌∷◌, ◌++◌, length, refl, ap, subst}
-use Rattle.std.specs.List.{All, range_with_len}
-use Rattle.std.proofs.lemmas.{Bool.cases_lt, List.FromFn.{length-range_with_len, get_or-range_with_len}}
-use Rattle.std.proofs.lemmas.List.{append-nil, get_or_past, Concat.flat_map-append, Sorted.All-permutation}
+use Rattle.std.{specs.List.{All, range_with_len}, proofs.lemmas.List.{append-nil, get_or_past, Sorted.All-permutation}}
+use Rattle.std.proofs.lemmas.{Bool.cases_lt, List.{Concat.flat_map-append, Elements.All-contains}}
+use Rattle.std.proofs.lemmas.List.FromFn.{length-range_with_len, get_or-range_with_len}
 use Rattle.std.proofs.lemmas.List.Elements.{All-head, All-tail, All-get_or, All-nil, All-map, All-filter, All-from_get_or, filter_passes}
 use Rattle.plan_tables.specs.PlanView.{PlanView, act_of_listener, actions_at, binding_at, coil_numbers, game_event, is_owner, list_of_row, listeners_of, mode_event, places_of, posts_of, row_at, row_numbers, rows_of, switch_at, work_of, is_multiball, is_save, multiball_rows, save_rows}
 use Rattle.plan_tables.specs.Valid.{HasEntries, IsListenerWithin, IsTargetWithin}
@@ -39,7 +39,6 @@ use Rattle.written_machine.specs.EventStep.{taken, do_before, do_after, is_kept,
 use Rattle.plan_tables.specs.declared.devices.Telling.{Telling, TheVariants.{Arrived, Wanted}}
 use Rattle.written_machine.specs.Machine.{Machine, write, post, set_mode, set_device, set_coils, set_players, set_game, all_do, release_ball_end, start_mode, stop_mode, told, ask_coil, release_coil, release_coils, tell_change, do_action_by, do_list_by, world_of, device_at, called, tell_first, call_device, call_devices, do_target, do_handler, write_final, write_finals, ask_ball, do_step, tell_listener, tell_listeners, confirm_on_playfield, do_action, do_list, end_multiballs, first_active_save, want_balls, step_game, drain_ball, do_game}
 use Rattle.written_machine.proofs.Feeding.{multiballs-within, first_active_save-is}
-use Rattle.std.proofs.lemmas.List.Elements.{All-contains}
 
 -- ---- what does not concern balls
 

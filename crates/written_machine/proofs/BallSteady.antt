@@ -10,11 +10,10 @@ use Rattle.plan_tables.specs.declared.entries.{Action.Action, Owner.Owner, Switc
 use Rattle.plan_tables.specs.declared.entries.Action.TheVariants.{Post, Pulse, Enable, Disable, Change as ChangeVariable, Enter, Leave, Lose, Arrive, Request, AddBalls}
 use Rattle.ball_devices.specs.{declared.booking.Origin.Origin, Ledger.origin_of, Bookings.LedgerCall}
 use Rattle.ball_devices.specs.Bookings as ledger_calls
-use Rattle.device_objects.specs.declared.{device.Call.Call, state.{BallState.BallState}}
+use Rattle.device_objects.specs.{declared.device.Call.Call, BallDevice.confirm}
+use Rattle.device_objects.specs.declared.state.{BallState.BallState, BallSwitch.BallSwitch, DeviceState.DeviceState}
 use Rattle.device_objects.specs.declared.device.Call.TheVariants as calls
-use Rattle.device_objects.specs.declared.state.{BallSwitch.BallSwitch, DeviceState.DeviceState}
 use Rattle.device_objects.specs.declared.state.DeviceState.TheVariants as states
-use Rattle.device_objects.specs.{BallDevice.confirm}
 use Rattle.device_objects.specs.BallDevice as balls
 use Rattle.written_machine.{specs.SwitchLines.changes_of, proofs.Does.book-by}
 use Rattle.plan_tables.specs.declared.devices.Telling.{Telling, TheVariants.{Arrived, Wanted}}
@@ -66,7 +65,6 @@ module _ (plan : PlanView) where
   book-steady owner c s = search (rules, book-by, flat_map-append, append-nil, nothing-steady)
 
   module _ (tell : Telling → Machine → Machine) (tells : (telling : Telling) (s : Machine) → IsSteady plan s (tell telling s)) where
-
     entry-steady : (owner : Owner) (r : RowId) (drain : Bool) (o : Origin) (s : Machine) → IsSteady plan s (after_entry plan tell owner r drain o s)
     entry-steady owner r drain o s = search rules
 

@@ -1,7 +1,7 @@
 -- The ball devices that may be told of a ball that has arrived, and the first trough.
 use Rattle.std.proofs.Common.{rules, ◌≡◌, suc, ◌<◌, Bool, true, false, cond, Some, List, [], ◌∷◌, length, refl, arith}
 use Rattle.std.{specs.{Prelude.{Contains, find}, List.All}, proofs.lemmas.{Bool.cases_lt, Option.none-some}}
-use Rattle.std.proofs.lemmas.List.{get_or_past, Elements.{All-filter, All-get_or, filter_passes}}
+use Rattle.std.proofs.lemmas.List.{get_or_past, Elements.{All-filter, All-get_or, filter_passes, All-contains}}
 use Rattle.plan_tables.specs.PlanView.{PlanView, feeders_of, feeds, first_trough, is_trough, row_at, row_numbers, multiball_rows, save_rows, is_save, is_multiball}
 use Rattle.plan_tables.specs.declared.devices.{BallTarget.BallTarget, RowId.RowId, Settings.Settings}
 use Rattle.plan_tables.specs.declared.{entries.Owner.Owner, devices.Telling.{Telling, TheVariants.{Arrived, Wanted}}}
@@ -9,7 +9,6 @@ use Rattle.plan_tables.specs.declared.entries.Owner.TheVariants as owners
 use Rattle.plan_tables.{proofs.Owners.row_numbers-within, specs.BallRows.IsOwnBallDevice}
 use Rattle.written_machine.specs.Devices.{ActsAreOwn}
 use Rattle.written_machine.specs.Machine.{Machine, device_at, first_away, is_device_away, told_device, first_active_save, is_active_save}
-use Rattle.std.proofs.lemmas.List.Elements.{All-contains}
 
 -- ---- what is found in a list
 

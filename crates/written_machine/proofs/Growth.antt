@@ -1,14 +1,14 @@
 -- What the machine does only adds to its lines and waiting events.
 use Rattle.std.proofs.Common.{rules, ℕ, ℤ, ◌≤◌, ◌<◌, Option, List, [], ◌∷◌, length, length-append, arith}
-use Rattle.plan_tables.specs.{PlanView.{PlanView, work_of}}
+use Rattle.plan_tables.specs.PlanView.{PlanView, work_of}
 use Rattle.plan_tables.specs.declared.entries.{EventId.EventId, BindingId.BindingId, Owner.Owner, VariableId.VariableId}
 use Rattle.coil_guard.specs.declared.command.Command.{Command}
-use Rattle.written_machine.specs.{declared.line.Line.Line, Moves.{Grows}}
+use Rattle.written_machine.specs.{declared.line.Line.Line, Moves.Grows}
 use Rattle.written_machine.specs.declared.line.Happening.TheVariants as lines
 use Rattle.event_queue.specs.declared.queue.Posted.{Posted}
 use Rattle.written_machine.specs.Machine.{Machine, post, ask_coil, all_do, tell_change, do_handler}
 use Rattle.written_machine.specs.EventStep.{taken, is_kept, before_handlers, after_event}
-use Rattle.written_machine.proofs.{Does.{grows-does}, Parts.{does-handler, does-before, does-after}}
+use Rattle.written_machine.proofs.{Does.grows-does, Parts.{does-handler, does-before, does-after}}
 
 -- where each adds, all do
 pub all_do-grows : {X : Type 0} (f : X → Machine → Machine) → ((x : X) (s : Machine) → Grows s (f x s)) → (xs : List X) (s : Machine) → Grows s (all_do f xs s)
@@ -25,7 +25,6 @@ pub told-grows : (owner : Owner) (player : ℕ) (v : VariableId) (e : EventId) (
 told-grows owner player v e value s = search (rules, length-append)
 
 module _ (plan : PlanView) where
-
   -- whoever takes part
   pub handler-grows : (place : BindingId) (s : Machine) → Grows s (do_handler plan place s)
   handler-grows place s = grows-does plan (does-handler plan (λ o. Unit {0}) ⊥ tt place s tt)

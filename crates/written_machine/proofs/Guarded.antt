@@ -68,7 +68,6 @@ sendings-push ls l = flat_map-append sent_in ls (l ∷ []) ∙ ap (λ ss. sendin
 -- ---- a skipped command is idle
 
 module _ (limits : List CoilLimits) (sent : List Sending) (s : List CoilState) (now : ℕ) (f : Follows limits sent s now) (owner : Owner) where
-
   skipped-idle : (command : Command) → IsWithin limits command → answer_asking command owner now s ≡ answers.Skipped → IsIdle sent now command
   skipped-idle command within skipped = search rules
 

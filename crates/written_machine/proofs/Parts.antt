@@ -1,7 +1,8 @@
 -- What each part of the machine does, and by which licence.
 use Rattle.std.proofs.Common.{rules, ◌≡◌, ℕ, ℤ, ◌<◌, ◌≤◌, get_or, if◌then◌else◌, Bool, true, false, Option, Some, None, List, length, refl, sym, subst, inl, inr, arith, suc, zero, ◌==◌}
-use Rattle.std.{specs.{List.{All, range_with_len}, Prelude.{◌&&◌, Contains}}, proofs.lemmas.Bool.cases_lt}
-use Rattle.std.proofs.lemmas.List.{get_or_past, Elements.{All-get_or, All-nil, filter_passes}, Sorted.All-permutation}
+use Rattle.std.specs.{List.{All, range_with_len}, Prelude.{◌&&◌, Contains}}
+use Rattle.std.proofs.lemmas.{Bool.cases_lt, List.{get_or_past, Sorted.All-permutation}}
+use Rattle.std.proofs.lemmas.List.Elements.{All-get_or, All-nil, filter_passes, Contains-get_or}
 use Rattle.plan_tables.specs.PlanView.{PlanView, act_of_listener, actions_of, coil_numbers, listeners_of, no_row, no_switch, no_binding, switch_at, posts_of, actions_at, binding_at, is_owner, list_of_row, game_event, may_hold_ball_end, mode_event, row_at, row_numbers, rows_of, target_of, work_of, act_told, multiball_rows}
 use Rattle.plan_tables.specs.Valid.{HasEntries, HasGame, IsEventWithin, IsActionWithin, IsTargetWithin, IsWorkAt}
 use Rattle.plan_tables.specs.declared.entries.{EventId.EventId, SwitchId.SwitchId, ModeId.ModeId, Listener.Listener}
@@ -38,11 +39,10 @@ use Rattle.written_machine.specs.Run.{switch, device, Stimulus, SwitchChange, Al
 use Rattle.written_machine.specs.{StimulusCost.cost_of_stimulus, CoilActions.{KeepsLimits, ActionsKeepLimits}}
 use Rattle.written_machine.specs.Devices.{ActsAreOwn, IsOwnAct, IsOwnListener}
 use Rattle.written_machine.specs.FreePosts.{IsFree, IsFreeAction, IsFreeSwitch, PostsAreFree}
-use Rattle.written_machine.proofs.{Feeding.told_device-is, Does.{each_now, all_do-does, all_do-does_now, does-weaker}}
-use Rattle.written_machine.proofs.Listed.{binding-among, row-among, enable-listed}
+use Rattle.written_machine.proofs.{Feeding.told_device-is, Listed.{binding-among, row-among, enable-listed}}
+use Rattle.written_machine.proofs.Does.{each_now, all_do-does, all_do-does_now, does-weaker}
 use Rattle.written_machine.specs.Moves.{Move, Wrote, Sent, Switched, Began, Ended, Marked, Released, Turned, Asked, Booked, Varied, Stepped, AddedBalls, step_now, do_move, MayHold, Licence, MayDo, IsFreeThere, Does, quiet, moved, both, less, IsMachine, ordinary, MayHandle, Begins, MayBegin, working, MayWork}
 use Rattle.player_game.proofs.DrainEvent.{drain-is}
-use Rattle.std.proofs.lemmas.List.Elements.{Contains-get_or}
 
 -- ---- what is in a plan
 

@@ -4,7 +4,7 @@ use Rattle.std.proofs.Common.{◌≡◌, ◌&&◌, ℕ, ◌<◌, inl, inr, Bool,
 use Rattle.std.{specs.List.AllByRecursion, proofs.lemmas.Bool.{cases_eq, eq-eqb, ne_eqb}}
 use Rattle.std.proofs.lemmas.List.{append-nil, get_or-set_same, get_or-set_other, get_or-map, length-set}
 use Rattle.plan_tables.specs.PlanView.{PlanView, may_hold_ball_end, mode_event, work_of}
-use Rattle.plan_tables.specs.{Valid.IsValid, declared.entries.Work.{Work, TheVariants.{Nothing}}}
+use Rattle.plan_tables.specs.{Valid.IsValid, declared.entries.Work.{Work, TheVariants.Nothing}}
 use Rattle.plan_tables.specs.declared.entries.{EventId.EventId, ModeId.ModeId, Owner.Owner}
 use Rattle.plan_tables.specs.declared.entries.ModeEvent.{ModeEvent, TheVariants.{WillStart, Stopping}}
 use Rattle.plan_tables.specs.declared.entries.Owner.TheVariants as owners
@@ -31,7 +31,6 @@ pub record Holds (plan : PlanView) (m : ModeId) (on : Bool) (front : List ModeEv
   pub speaks : is_running phase ≡ true → on ≡ true
 
 module _ (plan : PlanView) (m : ModeId) where
-
   goes_on : (w : Work) (c : List ModeEvent) (xs : List Said) → (AllByRecursion IsNoEnd c → heard m true xs ≡ true) → AllByRecursion IsNoEnd (mine m w c) → heard m (heard_after m true w) xs ≡ true
   goes_on w c xs next h = search rules
 

@@ -1,6 +1,6 @@
 use Rattle.std.proofs.Common.{rules, ◌+◌, ◌^◌, take_all, arith}
 use Rattle.plan_tables.specs.declared.entries.Action.TheVariants.{Post}
-use Rattle.cascade_rank.specs.{Events.weight_of, Cost.{cost_of_action_by}}
+use Rattle.cascade_rank.specs.{Events.weight_of, Cost.cost_of_action_by}
 use Rattle.cascade_rank.proofs.{Limits.{sum-none, sum-more, sum-few}, Prices.price-each_more}
 use Rattle.cascade_rank.proofs.price.price_of_actions.Goals as goal
 

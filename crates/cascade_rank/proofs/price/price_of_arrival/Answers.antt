@@ -1,6 +1,6 @@
 use Rattle.std.proofs.Common.{rules, ◌≡◌, max, arith, take_all}
 use Rattle.plan_tables.specs.declared.devices.Telling.TheVariants.{Arrived}
-use Rattle.cascade_rank.{specs.{Events.weight_of, Cost.{cost_of_told}}, proofs.Prices.price-dearest_more}
+use Rattle.cascade_rank.{specs.{Events.weight_of, Cost.cost_of_told}, proofs.Prices.price-dearest_more}
 use Rattle.cascade_rank.proofs.price.price_of_arrival.Goals as goal
 
 pub price_of_told-told-requires-clause-row : goal.price_of_told-told-requires-clause-row

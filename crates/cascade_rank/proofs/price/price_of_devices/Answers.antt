@@ -1,7 +1,7 @@
 use Rattle.std.proofs.Common.{rules, arith, take_all}
 use Rattle.plan_tables.specs.declared.devices.RowId.{RowId}
 use Rattle.device_objects.specs.declared.device.Call.TheVariants as calls
-use Rattle.cascade_rank.specs.{Events.weight_of, Cost.{cost_of_call}}
+use Rattle.cascade_rank.specs.{Events.weight_of, Cost.cost_of_call}
 use Rattle.cascade_rank.proofs.{Limits.rows-few, Prices.price-each_more, Rows.rows_of-few}
 use Rattle.cascade_rank.proofs.price.price_of_devices.Goals as goal
 

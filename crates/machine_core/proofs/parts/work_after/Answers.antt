@@ -1,5 +1,5 @@
 use Rattle.std.proofs.Common.{rules, subst}
-use Rattle.plan_tables.specs.{Valid.HasGame}
+use Rattle.plan_tables.specs.Valid.{HasGame}
 use Rattle.machine_core.{specs.Core.IsWorkOf, proofs.{Following.{follow-nothing, follow-still}, Playing.game-still}}
 use Rattle.machine_core.proofs.parts.work_after.Goals as goal
 

@@ -1,8 +1,7 @@
-use Rattle.std.{proofs.Common.{◌||◌, Bool, drop, ◌+◌, ap, ◌∙◌}, specs.Str.bytes_eq}
+use Rattle.std.{proofs.{Common.{◌||◌, Bool, drop, ◌+◌, ap, ◌∙◌}, Math.Bool.or_assoc}, specs.Str.bytes_eq}
 use Rattle.mpf_sections.specs.Rows.{Written}
 use Rattle.machine_definitions.{specs.Found.{is_found, is_named_at}, proofs.Finding.{took-name, next-is}}
 use Rattle.machine_definitions.proofs.definitions.add_names.Goals as goal
-use Rattle.std.proofs.Math.Bool.{or_assoc}
 
 pub loop-entry-preserved : goal.loop-entry-preserved
 loop-entry-preserved c = λ name.

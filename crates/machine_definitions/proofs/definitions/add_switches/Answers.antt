@@ -1,9 +1,8 @@
-use Rattle.std.proofs.Common.{◌≡◌, ◌||◌, Bool, List, map, drop, ◌+◌, refl, sym, ap, ◌∙◌}
+use Rattle.std.proofs.{Common.{◌≡◌, ◌||◌, Bool, List, map, drop, ◌+◌, refl, sym, ap, ◌∙◌}, Math.Bool.or_assoc}
 use Rattle.std.specs.{List.list_any, Str.bytes_eq}
 use Rattle.mpf_sections.specs.{Rows.{Written, Entry}, Typed.switch_of, View.entry_view}
 use Rattle.machine_definitions.{specs.Found.is_found, proofs.Finding.{took-name, next-is}}
 use Rattle.machine_definitions.proofs.definitions.add_switches.Goals as goal
-use Rattle.std.proofs.Math.Bool.{or_assoc}
 
 -- a switch has the name of its entry
 named : (e : Entry) → (switch_of e).name ≡ e.name

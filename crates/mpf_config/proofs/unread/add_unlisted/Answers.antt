@@ -1,4 +1,4 @@
-use Rattle.std.proofs.Common.{◌≡◌, ◌+◌, true, false, [], ◌∷◌, ◌++◌, drop, get_or, sym, ap, ◌∙◌}
+use Rattle.std.proofs.{Common.{◌≡◌, ◌+◌, true, false, [], ◌∷◌, ◌++◌, drop, get_or, sym, ap, ◌∙◌}, lemmas.List.drop_more}
 use Rattle.mpf_config.specs.declared.texts.Text as texts
 use Rattle.mpf_config.specs.Unread.{mode_text_of, is_unlisted, unlisted_note, unlisted_notes}
 use Rattle.mpf_config.specs.{View.name_view, Inside.{text_view, texts_view, modes_view, notes_view}}
@@ -6,7 +6,6 @@ use Rattle.mpf_config.proofs.ListLoops.{not_among}
 use Rattle.mpf_config.proofs.NoteLoops.{one_pushed, is_machine, is_listed, is_neither, one_more, no_more}
 use Rattle.mpf_config.proofs.unread.add_unlisted.Goals as goal
 use Rattle.mpf_config.proofs.unread.add_unlisted.Goals.{then-ne+then-is_none+in_ok-note+in_ok-push, else-ne, else-ne-via-then-ne+else-is_none, else-ne-via-else-ne}
-use Rattle.std.proofs.lemmas.List.{drop_more}
 
 -- the text that a place past the end would have
 abbrev nothing : texts.Text

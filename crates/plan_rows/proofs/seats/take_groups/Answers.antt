@@ -1,9 +1,8 @@
-use Rattle.std.{proofs.Common.{◌||◌, Bool, List, map, drop, ◌+◌, ap, ◌∙◌}, specs.List.list_any}
+use Rattle.std.{proofs.{Common.{◌||◌, Bool, List, map, drop, ◌+◌, ap, ◌∙◌}, Math.Bool.or_assoc}, specs.List.list_any}
 use Rattle.mpf_sections.specs.{TypedShots.shot_group_of, View.entry_view}
 use Rattle.machine_definitions.{specs.Found.is_found, proofs.Finding.next-is}
 use Rattle.plan_rows.specs.Seats.{lists_shot}
 use Rattle.plan_rows.proofs.seats.take_groups.Goals as goal
-use Rattle.std.proofs.Math.Bool.{or_assoc}
 
 pub loop-group-preserved : goal.loop-group-preserved
 loop-group-preserved c = λ name.

@@ -1,8 +1,8 @@
-use Rattle.std.{proofs.Common.{◌||◌, Bool, List, map, drop, ◌+◌, ap, ◌∙◌}, specs.{List.list_any, Str.bytes_eq}}
+use Rattle.std.proofs.{Common.{◌||◌, Bool, List, map, drop, ◌+◌, ap, ◌∙◌}, Math.Bool.or_assoc}
+use Rattle.std.specs.{List.list_any, Str.bytes_eq}
 use Rattle.mpf_sections.specs.View.{name_view}
 use Rattle.machine_definitions.{specs.Found.is_found, proofs.Finding.{took-name, next-is}}
 use Rattle.plan_rows.proofs.seats.take_shots.Goals as goal
-use Rattle.std.proofs.Math.Bool.{or_assoc}
 
 pub loop-shot-preserved : goal.loop-shot-preserved
 loop-shot-preserved c = λ name.

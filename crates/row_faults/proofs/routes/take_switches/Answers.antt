@@ -1,11 +1,10 @@
 use Rattle.std.proofs.Common.{rules, ◌≡◌, ◌||◌, ◌+◌, Bool, true, false, not, List, map, drop, sym, ap, ◌∙◌}
-use Rattle.std.specs.Str.{bytes_eq}
+use Rattle.std.{specs.Str.bytes_eq, proofs.Math.Bool.or_assoc}
 use Rattle.machine_definitions.{specs.Found.is_found, proofs.Finding.{name-found, took-name, next-is}}
 use Rattle.mpf_sections.specs.View.{name_view}
 use Rattle.row_faults.specs.Routes.{taken_too, all_taken, is_one_taken}
 use Rattle.row_faults.proofs.routes.take_switches.Goals as goal
 use Rattle.row_faults.proofs.routes.take_switches.Goals.{then-again, else-again}
-use Rattle.std.proofs.Math.Bool.{or_assoc}
 
 not-not : (b : Bool) → not (not b) ≡ b
 not-not x1 = search rules

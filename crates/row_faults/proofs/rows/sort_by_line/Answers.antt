@@ -1,9 +1,9 @@
-use Rattle.std.proofs.{Common.{rules, ◌≡◌, ap, sym, subst, ◌∙◌}, lemmas.Fn.always_returns_same}
+use Rattle.std.proofs.Common.{rules, ◌≡◌, ap, sym, subst, ◌∙◌}
+use Rattle.std.proofs.lemmas.{Fn.always_returns_same, Map.Keys.le_from_is_le}
 use Rattle.row_faults.specs.{declared.fault.RowFault.RowFault, View.{row_fault_view, row_faults_view}}
 use Rattle.row_faults.specs.{AsWritten.ordered_by, RowFaults.fault_line}
 use Rattle.row_faults.proofs.ByLine.{in-order, sorted-is, ordered-seen}
 use Rattle.row_faults.proofs.rows.sort_by_line.Goals as goal
-use Rattle.std.proofs.lemmas.Map.Keys.{le_from_is_le}
 
 pub returns-then-is_sorted_by_key : goal.returns-then-is_sorted_by_key
 returns-then-is_sorted_by_key c =

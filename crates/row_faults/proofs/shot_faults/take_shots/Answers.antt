@@ -1,8 +1,8 @@
-use Rattle.std.{proofs.Common.{◌||◌, Bool, List, map, drop, ◌+◌, ap, ◌∙◌}, specs.{List.list_any, Str.bytes_eq}}
+use Rattle.std.proofs.{Common.{◌||◌, Bool, List, map, drop, ◌+◌, ap, ◌∙◌}, Math.Bool.or_assoc}
+use Rattle.std.specs.{List.list_any, Str.bytes_eq}
 use Rattle.mpf_sections.specs.{TypedShots.shot_of, View.entry_view}
 use Rattle.machine_definitions.{specs.Found.is_found, proofs.Finding.{took-name, next-is}}
 use Rattle.row_faults.proofs.shot_faults.take_shots.Goals as goal
-use Rattle.std.proofs.Math.Bool.{or_assoc}
 
 pub loop-entry-preserved : goal.loop-entry-preserved
 unfolding shot_of

@@ -1,6 +1,6 @@
 use Rattle.std.{proofs.Common.{rules, ◌≡◌, Option, option_map, unwrap_or, Bor}, specs.Option.option_copied}
 use Rattle.machine_definitions.specs.declared.profile.Profile as profiles
-use Rattle.machine_definitions.{specs.{Found.profile_view}, proofs.Finding.value-found}
+use Rattle.machine_definitions.{specs.Found.profile_view, proofs.Finding.value-found}
 use Rattle.machine_definitions.proofs.definitions.Definitions.profile.Goals as goal
 
 -- the one that is found, or the other, as it is seen
