@@ -1,7 +1,7 @@
 -- Sound rows use no name that nothing has: each coil and each switch that their contributions use is given.
 use Rattle.std.proofs.Common.{rules, ◌≡◌, ℕ, zero, suc, ◌<◌, Bool, true, false, cond, ◌||◌, if◌then◌else◌, List, [], ◌∷◌, ◌++◌, length, map, fold, get_or, refl, sym, ◌∙◌, ap, true≢false, arith}
 use Rattle.std.specs.{Prelude.{Option, Some}, List.{list_any, flat_map}, Str.bytes_eq}
-use Rattle.std.proofs.lemmas.{Bool.eq-eqb, List.Folds.list_any-append, Slice.Eq.bytes_eq-Decides}
+use Rattle.std.proofs.lemmas.{Bool.{eq-eqb, or_left, or_right}, List.Folds.list_any-append}
 use Rattle.mpf_sections.specs.Rows.{Coil}
 use Rattle.mpf_config.specs.Rows.{Rows}
 use Rattle.plan_tables.specs.declared.entries.{CoilLimits.CoilLimits, ModeEvent.TheVariants.WillStart}
@@ -15,14 +15,12 @@ use Rattle.row_contributions.proofs.{CoilsGiven.coils_given, SwitchesGiven.switc
 use Rattle.mpf_plan.{specs.{Uses.{is_unknown, lacks_name}, ByName.{IsGiven, AreGiven}}, proofs.Judged.nothing_lacks}
 use Rattle.row_faults.specs.Sound.{IsSound}
 use Rattle.config_checker.proofs.RowsDoing.{IsUnreserved, IsFine, IsThere, rows_doing}
-use Rattle.std.proofs.lemmas.Bool.{or_left}
-use Rattle.std.proofs.lemmas.Bool.{or_right}
 use Rattle.yaml_bytes.proofs.Words.{is_word}
 
 -- ---- what a contribution gives itself
 
 own_name : (t : Table) (n : List ℕ) → list_any (bytes_eq n) (name_in_table t (Some (t, n))) ≡ true
-own_name t n = ap (λ b. list_any (bytes_eq n) (cond b (n ∷ []) [])) (eq-eqb (order_of t) (order_of t) refl) ∙ or_left (bytes_eq n n) false (is_word n)
+own_name t n = ap (λ b. list_any (bytes_eq n) (cond b (n ∷ []) [])) (eq-eqb (order_of t) (order_of t) refl) ∙ or_left (bytes_eq n n) false (is_word n n refl)
 
 given_there : (cs : List Contribution) (i : ℕ) (d c : Contribution) (t : Table) (n : List ℕ) → i < length cs → get_or cs i d ≡ c → given c ≡ Some (t, n) → list_any (bytes_eq n) (given_names t cs) ≡ true
 given_there [] i d c t n within at is = absurd (omega arith)

@@ -8,7 +8,7 @@ use Rattle.cascade_rank.specs.{Events.weight_of, Weights.bound_of}
 use Rattle.cascade_rank.specs.{Finding.{RankView, found_at}, View.IfReported, Found.IsUnfound}
 use Rattle.config_checker.specs.declared.report.Report.{Report, TheVariants.{NoMemory, Faults}}
 use Rattle.written_machine.specs.CheckedView.{CheckedView}
-use Rattle.config_checker.specs.Checking.{FaultView, bound, named_fault, weighed, weighed_plan, certified_plan, reported_alone, faults_of_rows, faults_first, checked, checked_at, checked_with_at}
+use Rattle.config_checker.specs.Checking.{FaultView, named_fault, weighed, weighed_plan, certified_plan, reported_alone, faults_of_rows, faults_first, checked, checked_at, checked_with_at}
 use Rattle.config_checker.specs.View.{GivesChecked, ReportsFault, fault_view}
 use Rattle.config_checker.specs.Refused.{IsLimitFault, IsFaultOf, IsFaultWith, IsReport, Reports, ReportsOne, ReportsOwn, ReportsNoPlan}
 use Rattle.config_checker.proofs.CertificateMeaning.{IsFaultOfText, fault_is_there}

@@ -1,15 +1,14 @@
 -- Numbers of a certificate are read as they are written.
-use Rattle.std.proofs.Common.{rules, ◌≡◌, ℕ, ◌^◌, ◌<◌, ◌==◌, ◌||◌, not, nat_lt, Bool, true, false, cond, Option, Some, None, option_and_then, Result, List, length, get_or, refl, sym, ap, subst, ◌∙◌, arith}
-use Rattle.std.specs.{List.All, Char.is_ascii_digit, Fmt.decimal, Result.{result_ok, OkIff}}
+use Rattle.std.proofs.Common.{rules, ◌≡◌, ℕ, ◌^◌, ◌<◌, ◌==◌, ◌||◌, not, nat_lt, Bool, true, false, Option, Some, None, option_and_then, List, length, get_or, refl, sym, ap, subst, ◌∙◌, arith}
+use Rattle.std.specs.{List.All, Char.is_ascii_digit, Fmt.decimal}
 use Rattle.std.proofs.lemmas.Bool.{or_right, eqb-true, eq-eqb, ne_eqb, ltb-true, lt-ltb, not-false, cond-true}
 use Rattle.std.proofs.lemmas.Fmt.{decimal_nonempty, decimal_digit, first_decimal, digits_decimal, digits_value-decimal, decimal-digits_value}
 use Rattle.std.proofs.lemmas.{List.Sums.AllPass-from_list_all, Option.{cond_some, option_and_then_some}}
 use Rattle.yaml_bytes.specs.Numbers.{value_of_digits, AreDigits, IsNumber, number_at}
-use Rattle.yaml_bytes.proofs.AllBytes.{Are-from_list_all, list_all-from_Are}
+use Rattle.yaml_bytes.proofs.{AllBytes.{Are-from_list_all, list_all-from_Are}, Each.none_of}
 use Rattle.yaml_bytes.proofs.WrittenNumbers.{own, number_sound, number_complete}
 use Rattle.config_checker.specs.CertificateOf.{is_plain, within_32_bits, number_in}
 use Rattle.mpf_values.proofs.Steps.{guard_true}
-use Rattle.yaml_bytes.proofs.Each.{none_of}
 
 -- ---- what a word is that says a number
 

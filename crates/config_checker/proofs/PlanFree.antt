@@ -3,7 +3,8 @@
 -- right.
 use Rattle.std.proofs.Common.{rules, ◌≡◌, ◌≢◌, ℕ, zero, suc, ◌<◌, Bool, true, false, ◌||◌, List, [], ◌∷◌, length, map, fold, get_or, Contains, ◌⊎◌, refl, sym, ap, ◌∙◌, true≢false, arith}
 use Rattle.std.specs.{Prelude.{Ok, Option, Some, None, option_map}, Str.bytes_eq, List.{All, flat_map}}
-use Rattle.std.proofs.lemmas.{List.{get_or-map, Folds.list_any-append}, Slice.Eq.bytes_eq-Decides}
+use Rattle.std.proofs.lemmas.List.{get_or-map, Folds.list_any-append}
+use Rattle.std.proofs.lemmas.{Slice.Eq.bytes_eq-Decides, Bool.{or_left, or_right, or_parts}}
 use Rattle.std.proofs.lemmas.List.Elements.{All-nil, All-cons, All-weaker, Contains-append_right}
 use Rattle.yaml_subset.specs.Keys.{is_among}
 use Rattle.mpf_sections.specs.{Rows.{Written, Coil}, Typed.listed_modes, TypedCoils.coils_in}
@@ -31,10 +32,7 @@ use Rattle.row_faults.specs.{Reserved.{events_of_modes, mode_names, is_reserved}
 use Rattle.row_faults.proofs.{Sound.no_faults_sound, None.map-none}
 use Rattle.config_checker.specs.{FaultView.row, Checking.faults_of_rows}
 use Rattle.config_checker.proofs.RowsDoing.{IsUnreserved, IsFine, IsThere, rows_doing}
-use Rattle.std.proofs.lemmas.Bool.{or_left}
-use Rattle.std.proofs.lemmas.Bool.{or_right}
 use Rattle.yaml_bytes.proofs.Words.{is_word}
-use Rattle.std.proofs.lemmas.Bool.{or_parts}
 
 -- ---- the events of a mode are reserved
 

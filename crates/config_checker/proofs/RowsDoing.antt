@@ -2,9 +2,10 @@
 -- each switch to which a device listens or which a shot has is defined, and so is each profile, each shot that a group
 -- lists, and each target of a ball device; and no ball device has a ball switch twice.
 use Rattle.std.proofs.Common.{rules, ◌≡◌, ◌≢◌, ℕ, suc, Bool, true, false, ◌||◌, if◌then◌else◌, List, [], ◌∷◌, ◌++◌, map, fold, get_or, codes, refl, sym, true≢false, arith, length-append}
-use Rattle.std.{specs.Prelude.{Option, Some, None, IfSome, is_some}, proofs.lemmas.List.get_or_append_left}
+use Rattle.std.specs.Prelude.{Option, Some, None, IfSome, is_some}
+use Rattle.std.proofs.lemmas.{List.get_or_append_left, Bool.or_parts}
 use Rattle.std.specs.{Str.bytes_eq, List.{All, AllPairs, flat_map, list_any}}
-use Rattle.std.proofs.lemmas.List.Elements.{All-nil, All-cons, All-head, All-tail, All-append, All-map, All-weaker, All-from_get_or, All-from_recursion}
+use Rattle.std.proofs.lemmas.List.Elements.{All-nil, All-cons, All-append, All-map, All-weaker, All-from_get_or, All-from_recursion}
 use Rattle.mpf_sections.specs.Rows.{Written, Entry, Switch, CoilPlayer, VariablePlayer, BlockEvents, CoilRule, Shot, ShotGroup, BallDevice, SectionRows}
 use Rattle.mpf_sections.specs.{TypedGame.variable_players_in, TypedBalls.ball_devices_in}
 use Rattle.machine_definitions.specs.{Players.player_event, Shots.Profile}
@@ -31,11 +32,7 @@ use Rattle.row_faults.specs.{Routes.switch_names, BallFaults.is_place}
 use Rattle.row_faults.proofs.AsWritten.{switch-posts, counter-posts, step-posts}
 use Rattle.config_checker.proofs.FreeNames.{active-free, inactive-free, tag-free, block-free, timer-free, ball-free, save-free, multiball-free, shot-free, group_hit-free, group_complete-free}
 use Rattle.config_checker.proofs.CoilDeeds.{IsDeedSound, item_deed}
-use Rattle.yaml_bytes.proofs.Each.{All-flat_map}
-use Rattle.std.proofs.lemmas.Bool.{or_parts}
-use Rattle.yaml_bytes.proofs.Each.{All-parts}
-use Rattle.yaml_bytes.proofs.Each.{All-from_flat_map}
-use Rattle.yaml_bytes.proofs.Each.{All-from_map}
+use Rattle.yaml_bytes.proofs.Each.{All-flat_map, All-parts, All-from_flat_map, All-from_map}
 
 -- ---- parts of lists
 

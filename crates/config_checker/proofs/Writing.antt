@@ -1,11 +1,9 @@
 -- A text that is written piece by piece.
-use Rattle.std.proofs.Common.{rules, ◌≡◌, ℕ, ◌+◌, ◌<◌, ◌≤◌, List, [], ◌∷◌, ◌++◌, length, map, take, get_or, Option, Result, OnOk, sym, ap, subst, ◌∙◌, append-nil, arith}
+use Rattle.std.proofs.Common.{◌≡◌, ℕ, ◌+◌, ◌<◌, ◌≤◌, List, [], length, map, take, get_or, Option, sym, ap, subst, ◌∙◌, arith}
 use Rattle.std.specs.{List.{flat_map, zip}, Io.KnownBytes.Appends}
-use Rattle.std.proofs.{KnownBytes.Appends-trans, lemmas.List.{take_more, take_all, Folds.flat_map-map}}
-use Rattle.std.proofs.lemmas.{Grind.flat_map-append, Slice.Zip.{get_or-zip, length-zip}}
+use Rattle.std.proofs.lemmas.{List.Folds.flat_map-map, Slice.Zip.{get_or-zip, length-zip}}
 use Rattle.config_checker.specs.CertificateText.{numbered_line}
-use Rattle.yaml_bytes.proofs.Writing.{one_more_piece}
-use Rattle.yaml_bytes.proofs.Writing.{all_pieces}
+use Rattle.yaml_bytes.proofs.Writing.{one_more_piece, all_pieces}
 
 -- the pieces of what is seen in a list
 pub written-seen : {X Y : Type 0} (piece : Y → List ℕ) (view : X → Y) (xs : List X) (a b : Option (List ℕ)) → Appends a b (flat_map (λ x. piece (view x)) xs) → Appends a b (flat_map piece (map view xs))

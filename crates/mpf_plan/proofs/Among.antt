@@ -1,12 +1,10 @@
 -- Each name that contributions use is among the first uses.
 use Rattle.std.proofs.Common.{rules, ◌≡◌, ℕ, zero, suc, ◌+◌, ◌<◌, Bool, true, cond, not, ◌||◌, List, [], ◌∷◌, length, get_or, Option, None, Some, refl, sym, true≢false, arith}
 use Rattle.std.specs.{Str.bytes_eq, List.{All, list_any, position_or_len}}
-use Rattle.std.proofs.lemmas.List.{Elements.All-from_get_or, Folds.list_any-append}
+use Rattle.std.proofs.lemmas.{List.{Elements.All-from_get_or, Folds.list_any-append}, Bool.or_right}
 use Rattle.plan_tables.specs.declared.table.Table.{Table}
-use Rattle.plan_contributions.specs.{Effects.posts, Contributions.{Contribution, does}}
+use Rattle.plan_contributions.specs.{Effects.posts, Contributions.{Contribution, does}, UsedNames.{used, uses}}
 use Rattle.mpf_plan.{specs.Uses.{Names, names_from, number_among}, proofs.Lacking.any_first}
-use Rattle.plan_contributions.specs.UsedNames.{used, uses, name_in_table}
-use Rattle.std.proofs.lemmas.Bool.{or_right}
 
 pub place_within : {X : Type 0} (p : X → Bool) (xs : List X) → list_any p xs ≡ true → position_or_len p xs < length xs
 place_within p [] e = absurd (true≢false (sym e))

@@ -1,6 +1,6 @@
 -- What a pass has seen: one contribution more, and what is collected of one row more.
 use Rattle.std.proofs.Common.{rules, ◌≡◌, ℕ, ◌+◌, ◌<◌, Bool, true, false, cond, ◌||◌, List, [], ◌∷◌, ◌++◌, length, take, drop, get_or, Some, refl, sym, ◌∙◌, ap}
-use Rattle.std.specs.{Prelude.{Result, OnOk, find}, List.list_any}
+use Rattle.std.specs.{Prelude.find, List.list_any}
 use Rattle.std.proofs.lemmas.{Bool.or_from, List.{append_assoc, drop_more, Folds.{list_any-append, list_any_at}}}
 use Rattle.mpf_sections.specs.Rows.{SectionRows}
 use Rattle.plan_rows.specs.declared.rows.Row as rows

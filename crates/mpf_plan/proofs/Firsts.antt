@@ -1,6 +1,6 @@
 -- Names noted in turn, each where it comes first.
 use Rattle.std.proofs.Common.{rules, ◌≡◌, ℕ, Bool, true, false, cond, not, ◌&&◌, ◌||◌, List, [], ◌∷◌, ◌++◌, filter, fold, refl, sym, ◌∙◌, ap}
-use Rattle.std.{specs.{Str.bytes_eq, List.list_any}, proofs.lemmas.{Cmp.nat_list_eq_equiv, Slice.Eq.bytes_eq-Decides}}
+use Rattle.std.{specs.{Str.bytes_eq, List.list_any}, proofs.lemmas.Cmp.nat_list_eq_equiv}
 use Rattle.std.proofs.lemmas.List.{append_assoc, append-nil, Folds.list_any-append, Sums.fold-append}
 use Rattle.mpf_plan.specs.Uses.{first_uses}
 use Rattle.first_names.specs.FirstNames.{with_name}

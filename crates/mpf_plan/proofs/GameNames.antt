@@ -1,9 +1,7 @@
 -- The names of the game's events: no two of them are the same, and none is that of an event of a mode.
-use Rattle.std.proofs.Common.{rules, ◌≡◌, ◌≢◌, ℕ, ◌<◌, ◌==◌, List, [], length, get_or, Some, slice_get, refl, ◌∙◌, ap, false, true≢false}
-use Rattle.std.specs.{Str.bytes_eq, List.position}
+use Rattle.std.proofs.Common.{rules, ◌≡◌, ◌≢◌, ℕ, ◌<◌, ◌==◌, List, [], length, get_or, ◌∙◌, ap, false, true≢false}
 use Rattle.machine_definitions.specs.GameEvents.{game_event_names}
-use Rattle.plan_tables.specs.declared.entries.{GameEvent.{GameEvent, TheVariants.SwStart}, ModeEvent.ModeEvent}
-use Rattle.plan_tables.specs.GameEvents.{game_events, order_of}
+use Rattle.plan_tables.specs.{declared.entries.{GameEvent.GameEvent, ModeEvent.ModeEvent}, GameEvents.order_of}
 use Rattle.plan_contributions.specs.Contributions.{mode_event_name}
 
 -- the name of an event of the game

@@ -1,5 +1,5 @@
 -- The modes of a plan: one for each mode of the rows, with the events of its name.
-use Rattle.std.proofs.Common.{rules, ◌≡◌, ℕ, suc, ◌-◌, Bool, if◌then◌else◌, List, [], ◌∷◌, ◌++◌, map, fold, refl, sym, ◌∙◌, ap}
+use Rattle.std.proofs.Common.{rules, ◌≡◌, ℕ, suc, Bool, if◌then◌else◌, List, [], ◌∷◌, ◌++◌, map, fold, refl, sym, ◌∙◌, ap}
 use Rattle.std.specs.{Prelude.Option, Str.bytes_eq, List.flat_map}
 use Rattle.std.proofs.lemmas.{Grind.flat_map-append, List.{Elements.{All-head, All-tail}, Sums.fold-append}}
 use Rattle.std.proofs.lemmas.List.{append-nil, append_assoc, set_at, get_or_push, length_push}

@@ -5,7 +5,7 @@ use Rattle.std.specs.{Prelude.{Option, None, Some}, Str.bytes_eq, List.{All, fla
 use Rattle.std.proofs.lemmas.{Bool.{or_left, or_right}, Grind.flat_map-append}
 use Rattle.std.proofs.lemmas.List.Elements.{All-nil, All-cons, All-append, All-map, All-weaker, All-head, All-tail, All-from_get_or}
 use Rattle.std.proofs.lemmas.{List.Folds.{list_any-append, list_any_at}, Slice.Eq.bytes_eq-Decides}
-use Rattle.mpf_sections.specs.Rows.{Entry, Player, BlockEvents, Flipper, VariableItem, VariablePlayer, Shot, ShotGroup, BallDevice, ModeSettings, SectionRows, Written}
+use Rattle.mpf_sections.specs.Rows.{Entry, Player, BlockEvents, Flipper, VariableItem, VariablePlayer, Shot, ShotGroup, BallDevice, ModeSettings, SectionRows}
 use Rattle.mpf_config.specs.Rows.{Rows}
 use Rattle.mpf_sections.specs.Typed.{switches_name, event_player_name, switch_of, event_player_of}
 use Rattle.mpf_sections.specs.TypedCoils.{coils_name, coil_player_name, flippers_name, autofire_coils_name, coil_of, coil_player_of, flipper_of}
@@ -15,12 +15,11 @@ use Rattle.machine_definitions.specs.{GameEvents.game_event_names, Players.playe
 use Rattle.plan_rows.specs.declared.{place.Place.{Place, TheVariants.Machine}, destination.Destination.Destination}
 use Rattle.plan_tables.specs.declared.table.Table.TheVariants.{Events}
 use Rattle.row_contributions.specs.DeviceEntries.{Device, device_of, block_lists, timer_event}
-use Rattle.plan_contributions.specs.Effects.{disable, Effect, posts, works, changes, enters, leaves, loses, arrives, requests, adds_balls}
+use Rattle.plan_contributions.specs.Effects.{Effect, posts, works, changes, enters, leaves, loses, arrives, requests, adds_balls}
 use Rattle.row_contributions.specs.ShotEntries.{shot_events, shot_lists, group_events, state_lists, group_lists, shot_acts, lone_device}
 use Rattle.row_contributions.specs.BallEntries.{ball_lists, is_known, ball_device_from}
 use Rattle.plan_rows.specs.{Seats.Seat, Members.Members}
-use Rattle.row_contributions.specs.{CoilEntries.{flipper_off, flipper_device}, Facts.AreRules}
-use Rattle.row_contributions.specs.SaveEntries.{save_lists, multiball_lists, save_device_of}
+use Rattle.row_contributions.specs.{CoilEntries.flipper_device, Facts.AreRules, SaveEntries.save_device_of}
 use Rattle.plan_contributions.specs.Contributions.{Contribution, device, does, does_in, mentions, coil, plays, mode}
 use Rattle.row_contributions.specs.Contributions.{switch_contributions, player_contributions, coil_contributions, coil_player_contributions, item_contributions, variable_player_contributions, game_contributions, later_events, mode_contributions, act_binding, effects_from, listens_from, device_contributions, where_device, unknown_unless, shot_switch, act_at, seated, shot_contributions, group_contributions, ball_device_contributions, machine_device, machine_entry_contributions, entry_contributions, alone_contributions, player_entry_contributions, row_contributions, given_by, contributions_of}
 use Rattle.plan_rows.specs.Rows.{Row, entry, alone, shot, group, ball_device, player, of_mode, rows_of}

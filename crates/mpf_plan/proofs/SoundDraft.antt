@@ -21,7 +21,7 @@ use Rattle.plan_tables.specs.PlanView.{PlanSwitch, PlanCoil, PlanMode, no_row, r
 use Rattle.plan_tables.specs.Valid.{IsEventWithin, IsSwitchWithin, IsListenerWithin, IsModeWithin, IsActionWithin, IsOwnerWithin, IsTargetWithin, IsConditionWithin, IsBindingWithin, IsGameWithin, IsTargetThere, IsRowWithin, HasGame, HasEntries}
 use Rattle.plan_contributions.specs.Contributions.{Contribution, gives, reads, active, inactive, mode, mode_event, mode_event_name, binds, does, device, does_in, listens, coil, under, plays}
 use Rattle.mpf_plan.{specs.Uses.{Names, names_from, number_among}, proofs.Drafted.{given_plan, names-from, lists_begun}}
-use Rattle.mpf_plan.specs.Filling.{DraftView, last_row, new_mode, with_event_in, with_mode, with_mode_event, last_mode, target_at, next_binding, lists_for, with_list_for, with_binding, next_row, next_list, with_device, with_one_more, with_condition, with_game, with_contribution, blank, drafted}
+use Rattle.mpf_plan.specs.Filling.{DraftView, last_row, new_mode, with_mode, with_mode_event, last_mode, target_at, next_binding, lists_for, with_list_for, with_binding, next_row, next_list, with_device, with_one_more, with_condition, with_game, with_contribution, blank, drafted}
 use Rattle.mpf_plan.specs.ByNumber.{event_of, action_of, owner_at, first_of_last, condition_of, rules_of}
 use Rattle.mpf_plan.proofs.{Among.{IsKnown, all_known}, Heard.AreHeard, Ready.{IsReady, IsNumberedIn, AreNumbered}}
 use Rattle.row_contributions.specs.Facts.{row_after, IsPlaced, ArePlaced, IsOpenPlace, IsOpenAim, IsOpen, modes_after, AreOpened, row_places, IsAimed, AreAimed}

@@ -1,14 +1,13 @@
 -- Items changed in their places, as they are seen; and switches of which the names alone are known.
 use Rattle.std.proofs.Common.{rules, ◌≡◌, ℕ, zero, suc, ◌-◌, ◌<◌, ◌≤◌, List, [], ◌∷◌, ◌++◌, ◌⊎◌, Bool, false, length, map, set, get_or, Vec, Global, refl, sym, ◌∙◌, ap, arith}
-use Rattle.std.{specs.List.All, proofs.lemmas.List.{set_past, map-set, get_or-map, get_or_past, length-map}}
-use Rattle.std.proofs.lemmas.{List.Elements.{All-head, All-tail, All-get_or}, Bool.cases_lt}
+use Rattle.std.{specs.List.All, proofs.lemmas.{List.Elements.{All-head, All-tail, All-get_or}, Bool.cases_lt}}
+use Rattle.std.proofs.lemmas.List.{set_past, map-set, get_or-map, get_or_past, length-map, get_or_default}
 use Rattle.plan_tables.specs.declared.entries.{Action.Action, Binding.Binding, Condition.Condition, ModeEntry.ModeEntry}
 use Rattle.plan_tables.specs.declared.entries.{SwitchEntry.SwitchEntry, CoilLimits.CoilLimits}
 use Rattle.plan_tables.specs.PlanView.{PlanSwitch, no_switch, no_coil, PlanMode, no_mode}
 use Rattle.mpf_plan.specs.Filling.{with_one_more, last_with, conditioned, last_conditioned, limited_to, named_switch, named_coil}
 use Rattle.mpf_plan.specs.Inside.{limited_coils}
 use Rattle.plan_tables.specs.Inside.{mode_entry_view, switch_entry_view, switches_view, coils_view, action_lists}
-use Rattle.std.proofs.lemmas.List.{get_or_default}
 
 -- an item changed in its place, as it is seen
 shown_at : {X Y : Type 0} (shown : X → Y) (f : Y → Y) (xs : List X) (i : ℕ) (old new : X) (d : Y) → i < length xs → old ≡ get_or xs i old → shown new ≡ f (shown old)

@@ -9,12 +9,11 @@ use Rattle.mpf_config.specs.{Rows.Rows, Short.AreListsShort}
 use Rattle.plan_contributions.specs.{declared.contribution.Aim.Aim, Effects.Effect}
 use Rattle.plan_contributions.specs.declared.contribution.Aim.TheVariants as aims
 use Rattle.plan_rows.specs.declared.place.Place.{Place}
-use Rattle.plan_tables.specs.{Devices.list_count, declared.entries.{Action.Action, Listener.Listener}}
+use Rattle.plan_tables.specs.{Devices.list_count, declared.table.Table.TheVariants.{Events, Switches}}
+use Rattle.plan_tables.specs.declared.entries.{Action.Action, Listener.Listener, Target.{Target, TheVariants.Act}}
 use Rattle.plan_tables.specs.PlanView.{PlanSwitch, no_switch, PlanView, no_binding}
 use Rattle.plan_tables.specs.declared.devices.{DeviceRow.DeviceRow, Settings.Settings}
 use Rattle.plan_tables.specs.declared.devices.Settings.TheVariants as kinds
-use Rattle.plan_tables.specs.declared.entries.Target.{Target, TheVariants.{Run, Start, Stop, Act}}
-use Rattle.plan_tables.specs.declared.table.Table.TheVariants.{Events, Switches}
 use Rattle.plan_contributions.specs.Contributions.{Contribution, gives, reads, active, inactive, binds, does, device, does_in, listens, mentions, unknown, under}
 use Rattle.row_contributions.specs.Contributions.{contributions_of}
 use Rattle.row_contributions.specs.BallFacts.{IsOfNoBall, IsRightRow, LastRow, with_switch, with_effect, last_after, IsRight, IfRow, IsOffBallsAt, IsFitting, AreFitting, row_settings, ActsOffBalls, heard_after, IsHeardOnce, AreHeardOnce}

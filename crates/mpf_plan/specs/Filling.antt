@@ -5,7 +5,6 @@ use Rattle.plan_tables.specs.declared.entries.{SwitchKind.SwitchKind, ModeEvents
 use Rattle.plan_tables.specs.{declared.entries.{CoilLimits.CoilLimits, ModeEvent.ModeEvent}, Devices.list_count}
 use Rattle.plan_tables.specs.declared.entries.{ModeId.ModeId, Action.Action, Target.Target, ListId.ListId}
 use Rattle.plan_tables.specs.declared.entries.ModeEvent.TheVariants.{WillStart, Starting, Started, Stopping, Stopped}
-use Rattle.mpf_values.specs.Events.{Condition}
 use Rattle.plan_tables.specs.declared.entries.Condition as numbered
 use Rattle.plan_tables.specs.declared.entries.Target.TheVariants as targets
 use Rattle.plan_tables.specs.declared.devices.{DeviceRow.DeviceRow, RowId.RowId, Settings.Settings}

@@ -9,9 +9,7 @@ use Rattle.coil_driver.specs.Board.{BoardView, HasTaken, HasTakenAll, command_of
 use Rattle.coil_driver.specs.ShutDown.{ArePutOff}
 use Rattle.pin_rig.specs.Rig.{RigView}
 use Rattle.pinball_shell.specs.{RunOfLog.{Printed, Traced, Refused, traced}, Ends.{IsServed, IsHalted}}
-use Rattle.coil_driver.proofs.Serving.{taken-append, taken-tells}
-use Rattle.coil_driver.proofs.Serving.{commands-append}
-use Rattle.coil_driver.proofs.Sending.{after_lines-append}
+use Rattle.coil_driver.proofs.{Serving.{taken-append, taken-tells, commands-append}, Sending.after_lines-append}
 
 -- ---- the lines of the trace among what is printed
 

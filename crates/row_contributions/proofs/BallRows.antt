@@ -3,7 +3,8 @@
 use Rattle.std.proofs.Common.{rules, ◌≡◌, ℕ, suc, ◌+◌, ◌<◌, ◌≤◌, ◌==◌, Bool, true, false, if◌then◌else◌, List, [], ◌∷◌, ◌++◌, length, map, get_or, true≢false, refl, sym, ◌∙◌, ap, subst, arith, codes}
 use Rattle.std.specs.Prelude.{Option, None, Some, option_map, IfSome, slice_get, ◌≢◌}
 use Rattle.std.specs.{Str.bytes_eq, List.{All, AllPairs, flat_map, list_any}}
-use Rattle.std.proofs.lemmas.{Bool.or_left, Grind.flat_map-append, Option.{slice_get-map, slice_get_within}}
+use Rattle.std.proofs.lemmas.{Bool.{or_left, and_parts}, Grind.flat_map-append}
+use Rattle.std.proofs.lemmas.Option.{slice_get-map, slice_get_within}
 use Rattle.mpf_sections.specs.Rows.{Written, Entry, BallDevice, Content, SectionRows}
 use Rattle.std.proofs.lemmas.List.{append_assoc, length-map, Folds.list_any-append}
 use Rattle.std.proofs.lemmas.List.Elements.{All-nil, All-cons, All-head, All-tail, All-append, All-weaker}
@@ -28,7 +29,6 @@ use Rattle.row_contributions.proofs.Before.{each_before, all_before, under_befor
 use Rattle.row_contributions.proofs.RowFacts.{All-each, All-made, All-listens, All-lists, one, attempts, seven}
 use Rattle.row_contributions.proofs.{SwitchesGiven.or_weaker, Silent.rows_tell, SeatFacts.{is_ball, row_given, silent}}
 use Rattle.row_contributions.proofs.Kept.{IsPlainAim, IsPlain, IsBallRow, IsPlainDevice, IsKept, row_kinds, all_kept}
-use Rattle.std.proofs.lemmas.Bool.{and_parts}
 
 -- every ball device is such
 any_ball : (machine : List SectionRows) → All (λ s. All (λ d. Unit {0}) (ball_devices_in s)) machine

@@ -1,7 +1,7 @@
 -- What holds of contributions, and still where others come before them.
 use Rattle.std.proofs.Common.{rules, List, [], ◌∷◌, ◌++◌, map, get_or, sym, subst}
 use Rattle.std.specs.{Prelude.{Option, IfSome}, List.{All, flat_map}}
-use Rattle.std.proofs.lemmas.List.{append_assoc, Elements.{All-cons}}
+use Rattle.std.proofs.lemmas.List.{append_assoc, Elements.All-cons}
 use Rattle.mpf_values.specs.Events.{Condition, Event}
 use Rattle.plan_contributions.specs.{declared.contribution.Aim.Aim, Contributions.{Contribution, binds, under}}
 use Rattle.plan_rows.specs.declared.place.Place.{Place}

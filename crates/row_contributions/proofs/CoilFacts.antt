@@ -9,8 +9,7 @@ use Rattle.machine_definitions.specs.Definitions.{latest_coil, no_coil, coil_of_
 use Rattle.row_contributions.specs.CoilEntries.{defaults_called, own_pulse, own_hold, deed_by, item_effect, flipper_device, autofire_device}
 use Rattle.plan_contributions.specs.Effects.{disable, Effect, works}
 use Rattle.row_contributions.specs.Facts.{IsDeedInRange, IsEffectInRange}
-use Rattle.yaml_bytes.proofs.Each.{or_else}
-use Rattle.yaml_bytes.proofs.Each.{All-flat_map}
+use Rattle.yaml_bytes.proofs.Each.{or_else, All-flat_map}
 
 abbrev IsRanged : Option Coil → Type 0
 IsRanged o = IfSome o IsCoilInRange

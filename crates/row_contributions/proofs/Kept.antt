@@ -18,13 +18,12 @@ use Rattle.plan_rows.specs.declared.place.Place.{Place, TheVariants.{Machine, Co
 use Rattle.plan_rows.specs.Seats.{Seat, seat_of, ball_row_of, row_or_unknown, destination_of, rows_after_text}
 use Rattle.plan_rows.specs.Rows.{Row, alone, shot, ball_device, player, of_mode, entry_row, rows_from, text_rows, mode_rows, modes_rows, rows_of}
 use Rattle.plan_contributions.specs.declared.contribution.Aim.{Aim, TheVariants.{Run, Start, Stop, Do, On}}
-use Rattle.row_contributions.specs.{VariableEntries.item_change, BallFacts.IsOfNoBall}
+use Rattle.row_contributions.specs.{VariableEntries.item_change, BallEntries.{is_known, ball_device_from}}
+use Rattle.row_contributions.specs.{BallFacts.IsOfNoBall, SaveEntries.save_device_of}
 use Rattle.row_contributions.specs.CoilEntries.{limits_of_coil, flipper_device, autofire_device}
 use Rattle.plan_contributions.specs.Effects.{posts}
 use Rattle.row_contributions.specs.DeviceEntries.{texts, events, device_of, step_device, counter_device, timer_device}
 use Rattle.row_contributions.specs.ShotEntries.{shot_acts, lone_device, group_device}
-use Rattle.row_contributions.specs.BallEntries.{is_known, ball_device_from}
-use Rattle.row_contributions.specs.SaveEntries.{save_device_of}
 use Rattle.plan_contributions.specs.Contributions.{Contribution, mode, binds, does, device, does_in, listens, mentions, coil}
 use Rattle.row_contributions.specs.Contributions.{under_where, bound, switch_contributions, player_contributions, coil_contributions, coil_player_contributions, item_contributions, variable_player_contributions, game_contributions, starter, stopper, stopper_where, later_events, stops_at_ball_end, stops_at_game_end, controls, mode_contributions, Device, device_contributions, where_device, machine_device, unknown_unless, shot_switch, act_at, seated, shot_contributions, group_contributions, ball_device_contributions, machine_entry_contributions, entry_contributions, alone_contributions, player_entry_contributions, row_contributions, given_by, contributions_of}
 use Rattle.plan_tables.specs.BallRows.{IsNoBallDevice}

@@ -28,8 +28,7 @@ use Rattle.plan_rows.specs.Rows.{Row, entry, alone, player, of_mode, shot_row, g
 use Rattle.row_contributions.proofs.{Before.All-every, SeatFacts.targets_known}
 use Rattle.row_contributions.proofs.RowFacts.{All-made, All-listens, All-lists, sections_each, modes_each}
 use Rattle.row_contributions.specs.Doing.{has_target, IsBallDeviceDoing, IsSwitchDoing, IsPlayerDoing, IsDeviceDoing, IsEntryDoing, IsCoilPlayerDoing, IsVariablePlayerDoing, IsShotDoing, IsShotGroupDoing, IsDoing, IsMachineDoing, AreDoing, Does}
-use Rattle.yaml_bytes.proofs.Each.{All-flat_map}
-use Rattle.yaml_bytes.proofs.Each.{All-from_map}
+use Rattle.yaml_bytes.proofs.Each.{All-flat_map, All-from_map}
 
 -- where this holds, that does
 abbrev pub Where : Bool → Type 0 → Type 0

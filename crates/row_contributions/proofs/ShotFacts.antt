@@ -17,8 +17,7 @@ use Rattle.plan_contributions.specs.Effects.{Effect, posts}
 use Rattle.row_contributions.{specs.DeviceEntries.{always, acts}, proofs.Before.All-every}
 use Rattle.row_contributions.specs.ShotEntries.{shot_events, shot_lists, group_events, state_lists, group_lists, switch_hits, shot_acts, group_acts, bank_settings}
 use Rattle.plan_rows.specs.Members.{flags, Members, profile_if, first_profile, members_of}
-use Rattle.yaml_bytes.proofs.Each.{or_else}
-use Rattle.yaml_bytes.proofs.Each.{All-flat_map}
+use Rattle.yaml_bytes.proofs.Each.{or_else, All-flat_map}
 
 -- ---- what acts on them
 

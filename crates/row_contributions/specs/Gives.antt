@@ -35,7 +35,7 @@ use Rattle.plan_rows.specs.declared.seats.Seat as seats
 use Rattle.plan_rows.specs.declared.members.Members as members
 use Rattle.plan_rows.specs.View.{seat_view, members_view}
 use Rattle.plan_tables.specs.declared.devices.{Act.Act, Settings.Settings}
-use Rattle.machine_settings.specs.declared.settings.{StepSettings.StepSettings}
+use Rattle.machine_settings.specs.declared.settings.StepSettings.{StepSettings}
 use Rattle.plan_tables.specs.declared.{entries.SwitchKind.SwitchKind, table.Table.TheVariants.Events}
 use Rattle.plan_contributions.specs.{declared.contribution.{Aim.Aim, Parts.Parts}, Effects.posts, View.parts_text}
 use Rattle.row_contributions.specs.DeviceEntries.{texts, events, acts, or_own, block_acts, block_mentions, block_lists, counter_device, step_acts, step_settings, step_device, controlled, timer_device, device_of}

@@ -3,7 +3,7 @@ use Rattle.std.specs.{Prelude.{ℕ, if◌then◌else◌, List, [], ◌∷◌, �
 use Rattle.mpf_values.specs.Events.{Event}
 use Rattle.mpf_sections.specs.Rows.{Entry, BallSave, Multiball}
 use Rattle.mpf_sections.specs.TypedSaves.{ball_saves_name, multiballs_name, ball_save_of, multiball_of}
-use Rattle.plan_tables.specs.declared.devices.{Act.{Act, TheVariants.{Enable, Disable, Start}}}
+use Rattle.plan_tables.specs.declared.devices.Act.{Act, TheVariants.{Enable, Disable, Start}}
 use Rattle.plan_tables.specs.declared.devices.Settings.TheVariants as kinds
 use Rattle.plan_contributions.specs.Effects.{Effect, posts, requests, adds_balls}
 use Rattle.row_contributions.specs.Devices.{Device, acts}

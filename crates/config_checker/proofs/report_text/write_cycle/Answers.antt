@@ -3,9 +3,7 @@ use Rattle.std.{specs.{List.flat_map, Io.KnownBytes.Appends}, proofs.KnownBytes.
 use Rattle.mpf_config.specs.FaultLine.{spaced}
 use Rattle.config_checker.proofs.Writing.{written-seen}
 use Rattle.config_checker.proofs.report_text.write_cycle.Goals as goal
-use Rattle.yaml_bytes.proofs.Writing.{last_piece}
-use Rattle.yaml_bytes.proofs.Writing.{one_more_piece}
-use Rattle.yaml_bytes.proofs.Writing.{all_pieces}
+use Rattle.yaml_bytes.proofs.Writing.{last_piece, one_more_piece, all_pieces}
 
 pub loop-event-preserved : goal.loop-event-preserved
 loop-event-preserved g c =

@@ -1,8 +1,6 @@
-use Rattle.config_checker.specs.{View.fault_view, ReportText.report_line}
-use Rattle.config_checker.proofs.Writing.{written-seen}
+use Rattle.config_checker.{specs.{View.fault_view, ReportText.report_line}, proofs.Writing.written-seen}
 use Rattle.config_checker.proofs.report_text.write_report.Goals as goal
-use Rattle.yaml_bytes.proofs.Writing.{one_more_piece}
-use Rattle.yaml_bytes.proofs.Writing.{all_pieces}
+use Rattle.yaml_bytes.proofs.Writing.{one_more_piece, all_pieces}
 
 pub loop-fault-preserved : goal.loop-fault-preserved
 loop-fault-preserved g c =

@@ -1,8 +1,7 @@
 use Rattle.mpf_config.specs.{View.note_view, NoteLine.note_line}
 use Rattle.config_checker.proofs.Writing.{written-seen}
 use Rattle.pinball_shell.proofs.check.write_notes.Goals as goal
-use Rattle.yaml_bytes.proofs.Writing.{one_more_piece}
-use Rattle.yaml_bytes.proofs.Writing.{all_pieces}
+use Rattle.yaml_bytes.proofs.Writing.{one_more_piece, all_pieces}
 
 pub loop-note-preserved : goal.loop-note-preserved
 loop-note-preserved g c =
