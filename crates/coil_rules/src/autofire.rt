@@ -4,7 +4,7 @@ ghost use Rattle.std.specs.Prelude.{◌≡◌};
 ghost use Rattle.device_objects.specs.Autofire.{act_step};
 ghost use Rattle.plan_tables.specs.declared.devices.Settings.TheVariants as kinds;
 
-use device_objects::outcome::{one, silent};
+use device_objects::outcome::one_list;
 use device_objects::{AutofireState, Device, DeviceState, Outcome, World};
 use plan_tables::{Act, DeviceRow, Settings};
 
@@ -61,11 +61,11 @@ impl Device for Autofire {
     }
 
     fn start(&mut self, _now: u64, _world: World) -> Outcome {
-        silent()
+        Outcome::new()
     }
 
     fn stop(&mut self, _now: u64, _world: World) -> Outcome {
-        silent()
+        Outcome::new()
     }
 
     /// Never comes: nothing of an autofire coil is due.
@@ -73,7 +73,7 @@ impl Device for Autofire {
         ensures same { self.new ≡ self.old }
         ensures outcome { result.items ≡ [] }
     {
-        silent()
+        Outcome::new()
     }
 
     fn act(&mut self, act: Act, _now: u64, _world: World) -> Outcome {
@@ -89,13 +89,13 @@ fn step(state: &mut AutofireState, act: Act) -> Outcome
     match act {
         Act::Enable => {
             state.enabled = true;
-            silent()
+            Outcome::new()
         }
         Act::Disable => {
             state.enabled = false;
-            silent()
+            Outcome::new()
         }
-        Act::SwitchOn(switch) if state.enabled && switch == 0 => one(FIRES),
-        _ => silent(),
+        Act::SwitchOn(switch) if state.enabled && switch == 0 => one_list(FIRES),
+        _ => Outcome::new(),
     }
 }

@@ -4,7 +4,7 @@ ghost use Rattle.std.specs.Prelude.{◌≡◌};
 ghost use Rattle.device_objects.specs.Flipper.{raised, lowered, act_step};
 ghost use Rattle.plan_tables.specs.declared.devices.Settings.TheVariants as kinds;
 
-use device_objects::outcome::{one, silent};
+use device_objects::outcome::one_list;
 use device_objects::{Device, DeviceState, FlipperState, Outcome, World};
 use plan_tables::{Act, DeviceRow, Settings};
 
@@ -67,11 +67,11 @@ impl Device for Flipper {
     }
 
     fn start(&mut self, _now: u64, _world: World) -> Outcome {
-        silent()
+        Outcome::new()
     }
 
     fn stop(&mut self, _now: u64, _world: World) -> Outcome {
-        silent()
+        Outcome::new()
     }
 
     /// Never comes: nothing of a flipper is due.
@@ -79,7 +79,7 @@ impl Device for Flipper {
         ensures same { self.new ≡ self.old }
         ensures outcome { result.items ≡ [] }
     {
-        silent()
+        Outcome::new()
     }
 
     fn act(&mut self, act: Act, _now: u64, _world: World) -> Outcome {
@@ -93,10 +93,10 @@ fn raise(state: &mut FlipperState, holds: bool) -> Outcome
     ensures outcome { result.items ≡ (raised holds state.old).1 }
 {
     if !holds {
-        return silent();
+        return Outcome::new();
     }
     state.on = true;
-    one(ON)
+    one_list(ON)
 }
 
 /// The flipper goes off, if this holds.
@@ -105,10 +105,10 @@ fn lower(state: &mut FlipperState, holds: bool) -> Outcome
     ensures outcome { result.items ≡ (lowered holds state.old).1 }
 {
     if !holds {
-        return silent();
+        return Outcome::new();
     }
     state.on = false;
-    one(OFF)
+    one_list(OFF)
 }
 
 /// What an act does to a flipper.
@@ -119,7 +119,7 @@ fn step(state: &mut FlipperState, act: Act) -> Outcome
     match act {
         Act::Enable => {
             state.enabled = true;
-            silent()
+            Outcome::new()
         }
         Act::Disable => {
             state.enabled = false;
@@ -127,6 +127,6 @@ fn step(state: &mut FlipperState, act: Act) -> Outcome
         }
         Act::SwitchOn(switch) => raise(state, state.enabled && switch == 0),
         Act::SwitchOff(switch) => lower(state, state.on && switch == 0),
-        _ => silent(),
+        _ => Outcome::new(),
     }
 }

@@ -14,7 +14,8 @@ use Rattle.device_objects.specs.declared.state.{CounterSlot.CounterSlot, Flipper
 use Rattle.device_objects.specs.declared.state.{AccrualSlot.AccrualSlot, TimerState.TimerState}
 use Rattle.device_objects.specs.declared.state.{SequenceSlot.SequenceSlot, AutofireState.AutofireState}
 use Rattle.device_objects.specs.declared.state.DeviceState.TheVariants as states
-use Rattle.device_objects.specs.{Values.{clamped, moved}, Slots.updated, Laws.{MayCome, AnswersAreOutcomes}}
+use Rattle.device_objects.specs.{Values.{clamped, moved}, Laws.{MayCome, AnswersAreOutcomes}}
+use Rattle.device_objects.specs.Slots.{updated, current, slots_step}
 use Rattle.device_objects.specs.Counter as counter
 use Rattle.device_objects.specs.Accrual as accrual
 use Rattle.device_objects.specs.Sequence as sequence
@@ -67,10 +68,10 @@ counter_none-in c acts.Restart is = no_player-in c.block is
 counter_none-in c _ is = here
 
 counter-in : (c : CounterSettings) (call : Call) (now : ℕ) (world : World) (slots : List CounterSlot) → length slots ≡ 4 → MayCome call (states.Counter slots)
-    → In (counter.counter_step c call now world slots).1 (outcomes (kinds.Counter c) call)
+    → In (slots_step (counter.slots c) call now world slots).1 (outcomes (kinds.Counter c) call)
 counter-in c calls.Fire now world slots four may = absurd (false≢true may)
-counter-in c (calls.Act act) now world slots four may = in_use-answers (λ answer. In answer (of_counter c act)) (λ slot. counter.slot_step c act now (counter.current c world slot))
-    (λ slot. counter_slot-in c act now (counter.current c world slot)) c.block.persist world slots four (counter_none-in c act)
+counter-in c (calls.Act act) now world slots four may = in_use-answers (λ answer. In answer (of_counter c act)) (λ slot. counter.slot_step c act now (current (counter.slots c) world slot))
+    (λ slot. counter_slot-in c act now (current (counter.slots c) world slot)) c.block.persist world slots four (counter_none-in c act)
 counter-in c _ now world slots four may = here
 
 -- ---- accruals
@@ -122,12 +123,12 @@ accrual_none-in a acts.Reset is = no_player-in a.block is
 accrual_none-in a acts.Restart is = no_player-in a.block is
 accrual_none-in a _ is = here
 
-accrual-in : (a : StepSettings) (call : Call) (world : World) (slots : List AccrualSlot) → length slots ≡ 4 → MayCome call (states.Accrual slots)
-    → In (accrual.accrual_step a call world slots).1 (outcomes (kinds.Accrual a) call)
-accrual-in a calls.Fire world slots four may = absurd (false≢true may)
-accrual-in a (calls.Act act) world slots four may = in_use-answers (λ answer. In answer (of_accrual a act)) (λ slot. accrual.slot_step a act (accrual.current a world slot))
-    (λ slot. accrual_slot-in a act (accrual.current a world slot)) a.block.persist world slots four (accrual_none-in a act)
-accrual-in a _ world slots four may = here
+accrual-in : (a : StepSettings) (call : Call) (now : ℕ) (world : World) (slots : List AccrualSlot) → length slots ≡ 4 → MayCome call (states.Accrual slots)
+    → In (slots_step (accrual.slots a) call now world slots).1 (outcomes (kinds.Accrual a) call)
+accrual-in a calls.Fire now world slots four may = absurd (false≢true may)
+accrual-in a (calls.Act act) now world slots four may = in_use-answers (λ answer. In answer (of_accrual a act)) (λ slot. accrual.slot_step a act (current (accrual.slots a) world slot))
+    (λ slot. accrual_slot-in a act (current (accrual.slots a) world slot)) a.block.persist world slots four (accrual_none-in a act)
+accrual-in a _ now world slots four may = here
 
 -- ---- sequences
 
@@ -152,12 +153,12 @@ sequence_none-in q acts.Reset is = no_player-in q.block is
 sequence_none-in q acts.Restart is = no_player-in q.block is
 sequence_none-in q _ is = here
 
-sequence-in : (q : StepSettings) (call : Call) (world : World) (slots : List SequenceSlot) → length slots ≡ 4 → MayCome call (states.Sequence slots)
-    → In (sequence.sequence_step q call world slots).1 (outcomes (kinds.Sequence q) call)
-sequence-in q calls.Fire world slots four may = absurd (false≢true may)
-sequence-in q (calls.Act act) world slots four may = in_use-answers (λ answer. In answer (of_sequence q act)) (λ slot. sequence.slot_step q act (sequence.current q world slot))
-    (λ slot. sequence_slot-in q act (sequence.current q world slot)) q.block.persist world slots four (sequence_none-in q act)
-sequence-in q _ world slots four may = here
+sequence-in : (q : StepSettings) (call : Call) (now : ℕ) (world : World) (slots : List SequenceSlot) → length slots ≡ 4 → MayCome call (states.Sequence slots)
+    → In (slots_step (sequence.slots q) call now world slots).1 (outcomes (kinds.Sequence q) call)
+sequence-in q calls.Fire now world slots four may = absurd (false≢true may)
+sequence-in q (calls.Act act) now world slots four may = in_use-answers (λ answer. In answer (of_sequence q act)) (λ slot. sequence.slot_step q act (current (sequence.slots q) world slot))
+    (λ slot. sequence_slot-in q act (current (sequence.slots q) world slot)) q.block.persist world slots four (sequence_none-in q act)
+sequence-in q _ now world slots four may = here
 
 -- ---- timers
 
@@ -252,11 +253,11 @@ bank_slot-in b (acts.Hit i) slot =
     (λ within. hit_where-in b i slot (slice_get slot.enabled i) state within refl) (λ not. here)
 bank_slot-in b _ slot = here
 
-bank-in : (b : BankSettings) (call : Call) (world : World) (slots : List BankSlot) → length slots ≡ 4 → MayCome call (states.Bank slots)
-    → In (bank.bank_step b call world slots).1 (outcomes (kinds.Bank b) call)
-bank-in b calls.Fire world slots four may = absurd (false≢true may)
-bank-in b (calls.Act act) world slots four may = search (rules, in_use-answers, bank_slot-in, here)
-bank-in b _ world slots four may = here
+bank-in : (b : BankSettings) (call : Call) (now : ℕ) (world : World) (slots : List BankSlot) → length slots ≡ 4 → MayCome call (states.Bank slots)
+    → In (slots_step (bank.slots b) call now world slots).1 (outcomes (kinds.Bank b) call)
+bank-in b calls.Fire now world slots four may = absurd (false≢true may)
+bank-in b (calls.Act act) now world slots four may = search (rules, in_use-answers, bank_slot-in, here)
+bank-in b _ now world slots four may = here
 
 -- ---- flippers and autofire coils
 
@@ -287,11 +288,11 @@ autofire-in _ s may = here
 
 pub answers_are_outcomes : AnswersAreOutcomes
 answers_are_outcomes (kinds.Counter c) call now world (states.Counter slots) shape may = contains (counter-in c call now world slots shape may)
-answers_are_outcomes (kinds.Accrual a) call now world (states.Accrual slots) shape may = contains (accrual-in a call world slots shape.0 may)
-answers_are_outcomes (kinds.Sequence q) call now world (states.Sequence slots) shape may = contains (sequence-in q call world slots shape may)
+answers_are_outcomes (kinds.Accrual a) call now world (states.Accrual slots) shape may = contains (accrual-in a call now world slots shape.0 may)
+answers_are_outcomes (kinds.Sequence q) call now world (states.Sequence slots) shape may = contains (sequence-in q call now world slots shape may)
 answers_are_outcomes (kinds.Timer t) call now world (states.Timer s) shape may = contains (timer-in t call now s)
 answers_are_outcomes (kinds.Bank b) call now world (states.Bank slots) shape may =
-    contains (bank-in b call world slots shape.0 may)
+    contains (bank-in b call now world slots shape.0 may)
 answers_are_outcomes kinds.Flipper call now world (states.Flipper s) shape may = contains (flipper-in call s may)
 answers_are_outcomes kinds.Autofire call now world (states.Autofire s) shape may = contains (autofire-in call s may)
 answers_are_outcomes (kinds.BallDevice d) call now world (states.BallDevice s) shape may =

@@ -18,7 +18,7 @@ use Rattle.device_objects.specs.declared.state.{CounterSlot.CounterSlot, Flipper
 use Rattle.device_objects.specs.declared.state.{SequenceSlot.SequenceSlot, BankSlot.BankSlot, World.World}
 use Rattle.device_objects.specs.declared.state.DeviceState.TheVariants as states
 use Rattle.device_objects.specs.{Values.{clamped, moved}, DeviceStep.{first_state, device_step}}
-use Rattle.device_objects.specs.Slots.{updated, slot_in_use, is_of_other_game, step_in_use}
+use Rattle.device_objects.specs.Slots.{updated, slot_in_use, is_of_other_game, step_in_use, current, first_slots}
 use Rattle.device_objects.specs.Counter as counter
 use Rattle.device_objects.specs.Accrual as accrual
 use Rattle.device_objects.specs.Sequence as sequence
@@ -96,7 +96,7 @@ counter_answer c act lists enabled value answers = record {
   state = states.Counter (replicate 4 (counter_slot enabled value));
   shape = refl;
   may_come = tt;
-  answer = in_use (λ slot. counter.slot_step c act 0 (counter.current c alone slot)) (counter_slot enabled value) c.block.persist
+  answer = in_use (λ slot. counter.slot_step c act 0 (current (counter.slots c) alone slot)) (counter_slot enabled value) c.block.persist
       ∙ ap (λ slot. (counter.slot_step c act 0 slot).1) (same_game c.block.persist (counter.first_slot c 0) (counter_slot enabled value)) ∙ answers;
 }
 
@@ -104,10 +104,10 @@ counter_by_nobody : (c : CounterSettings) (act : Act) → c.block.persist ≡ tr
 counter_by_nobody c act persist = record {
   now = 0;
   world = nobody;
-  state = states.Counter (counter.first_slots c);
+  state = states.Counter (first_slots (counter.slots c));
   shape = refl;
   may_come = tt;
-  answer = by_nobody (λ slot. counter.slot_step c act 0 (counter.current c nobody slot)) (counter.first_slots c) c.block.persist persist;
+  answer = by_nobody (λ slot. counter.slot_step c act 0 (current (counter.slots c) nobody slot)) (first_slots (counter.slots c)) c.block.persist persist;
 }
 
 counter_hits : (c : CounterSettings) → IsEndWithin c.complete → All (IsAnswer (kinds.Counter c) (calls.Act acts.Count)) (of_counter c acts.Count)
@@ -172,7 +172,7 @@ accrual_answer a act lists enabled done marks answers = record {
   state = states.Accrual (replicate 4 (accrual_slot enabled done));
   shape = (refl, All-replicate (λ (slot : AccrualSlot). length slot.done ≡ 16) 4 (accrual_slot enabled done) marks);
   may_come = tt;
-  answer = in_use (λ slot. accrual.slot_step a act (accrual.current a alone slot)) (accrual_slot enabled done) a.block.persist
+  answer = in_use (λ slot. accrual.slot_step a act (current (accrual.slots a) alone slot)) (accrual_slot enabled done) a.block.persist
       ∙ ap (λ slot. (accrual.slot_step a act slot).1) (same_game a.block.persist (accrual.first_slot a 0) (accrual_slot enabled done)) ∙ answers;
 }
 
@@ -180,10 +180,10 @@ accrual_by_nobody : (a : StepSettings) (act : Act) → a.block.persist ≡ true 
 accrual_by_nobody a act persist = record {
   now = 0;
   world = nobody;
-  state = states.Accrual (accrual.first_slots a);
+  state = states.Accrual (first_slots (accrual.slots a));
   shape = first-shape (kinds.Accrual a);
   may_come = tt;
-  answer = by_nobody (λ slot. accrual.slot_step a act (accrual.current a nobody slot)) (accrual.first_slots a) a.block.persist persist;
+  answer = by_nobody (λ slot. accrual.slot_step a act (current (accrual.slots a) nobody slot)) (first_slots (accrual.slots a)) a.block.persist persist;
 }
 
 is_open : (a : StepSettings) (i : ℕ) (done : List Bool) → nat_lt i a.steps ≡ true → slice_get done i ≡ Some false → accrual.is_step_open a i done ≡ true
@@ -234,7 +234,7 @@ sequence_answer q act lists enabled next answers = record {
   state = states.Sequence (replicate 4 (sequence_slot enabled next));
   shape = refl;
   may_come = tt;
-  answer = in_use (λ slot. sequence.slot_step q act (sequence.current q alone slot)) (sequence_slot enabled next) q.block.persist
+  answer = in_use (λ slot. sequence.slot_step q act (current (sequence.slots q) alone slot)) (sequence_slot enabled next) q.block.persist
       ∙ ap (λ slot. (sequence.slot_step q act slot).1) (same_game q.block.persist (sequence.first_slot q 0) (sequence_slot enabled next)) ∙ answers;
 }
 
@@ -242,10 +242,10 @@ sequence_by_nobody : (q : StepSettings) (act : Act) → q.block.persist ≡ true
 sequence_by_nobody q act persist = record {
   now = 0;
   world = nobody;
-  state = states.Sequence (sequence.first_slots q);
+  state = states.Sequence (first_slots (sequence.slots q));
   shape = refl;
   may_come = tt;
-  answer = by_nobody (λ slot. sequence.slot_step q act (sequence.current q nobody slot)) (sequence.first_slots q) q.block.persist persist;
+  answer = by_nobody (λ slot. sequence.slot_step q act (current (sequence.slots q) nobody slot)) (first_slots (sequence.slots q)) q.block.persist persist;
 }
 
 halves : {S : Type 0} (test : Bool) (x y : S) (a b : List ℕ) → (if◌then◌else◌ {A = S × List ℕ} test (x, a) (y, b)).1 ≡ (if test then a else b)
@@ -352,17 +352,17 @@ bank_answer b act lists shots shape answers = record {
   state = states.Bank (replicate 4 (bank_slot shots));
   shape = (refl, All-replicate (HasBankShape b) 4 (bank_slot shots) shape);
   may_come = tt;
-  answer = in_use (λ slot. bank.slot_step b act (bank.current b alone slot)) (bank_slot shots) true ∙ answers;
+  answer = in_use (λ slot. bank.slot_step b act (current (bank.slots b) alone slot)) (bank_slot shots) true ∙ answers;
 }
 
 bank_by_nobody : (b : BankSettings) (act : Act) → IsAnswer (kinds.Bank b) (calls.Act act) []
 bank_by_nobody b act = record {
   now = 0;
   world = nobody;
-  state = states.Bank (bank.first_slots b);
+  state = states.Bank (first_slots (bank.slots b));
   shape = first-shape (kinds.Bank b);
   may_come = tt;
-  answer = by_nobody (λ slot. bank.slot_step b act (bank.current b nobody slot)) (bank.first_slots b) true refl;
+  answer = by_nobody (λ slot. bank.slot_step b act (current (bank.slots b) nobody slot)) (first_slots (bank.slots b)) true refl;
 }
 
 none_differs : (group moves all : Bool) → all ≡ false → (group && (moves && all)) ≡ false

@@ -14,7 +14,8 @@ use Rattle.device_objects.specs.declared.state.{SequenceSlot.SequenceSlot, Autof
 use Rattle.device_objects.specs.declared.state.{BankSlot.BankSlot, MultiballState.MultiballState, World.World}
 use Rattle.device_objects.specs.declared.state.{FlipperState.FlipperState, DeviceState.DeviceState}
 use Rattle.device_objects.specs.declared.state.DeviceState.TheVariants as states
-use Rattle.device_objects.specs.{Slots.{slot_in_use, step_in_use}, Bank.{next_state, group_complete, hit_lists}}
+use Rattle.device_objects.specs.Slots.{slot_in_use, step_in_use, current, slots_step}
+use Rattle.device_objects.specs.Bank.{next_state, group_complete, hit_lists}
 use Rattle.device_objects.specs.Counter as counter
 use Rattle.device_objects.specs.Accrual as accrual
 use Rattle.device_objects.specs.Sequence as sequence
@@ -108,23 +109,23 @@ outcome-below : (settings : Settings) (call : Call) (lists : List ℕ) → In li
 outcome-below settings call lists at =
     All-contains (AreBelow (list_count settings)) (outcomes settings call) lists (outcomes_of_row settings call) (contains at)
 
-counter-below : (c : CounterSettings) (call : Call) (now : ℕ) (world : World) (slots : List CounterSlot) → AreBelow 3 (counter.counter_step c call now world slots).1
+counter-below : (c : CounterSettings) (call : Call) (now : ℕ) (world : World) (slots : List CounterSlot) → AreBelow 3 (slots_step (counter.slots c) call now world slots).1
 counter-below c (calls.Act act) now world slots =
-    in_use-below 3 (λ slot. counter.slot_step c act now (counter.current c world slot))
-    (λ slot. outcome-below (kinds.Counter c) (calls.Act act) _ (counter_slot-in c act now (counter.current c world slot))) slots (slot_in_use c.block.persist world)
+    in_use-below 3 (λ slot. counter.slot_step c act now (current (counter.slots c) world slot))
+    (λ slot. outcome-below (kinds.Counter c) (calls.Act act) _ (counter_slot-in c act now (current (counter.slots c) world slot))) slots (slot_in_use c.block.persist world)
 counter-below c _ now world slots = none 3
 
-accrual-below : (a : StepSettings) (call : Call) (world : World) (slots : List AccrualSlot) → AreBelow 3 (accrual.accrual_step a call world slots).1
-accrual-below a call world slots = search (rules, in_use-below, outcome-below, accrual_slot-in, none)
+accrual-below : (a : StepSettings) (call : Call) (now : ℕ) (world : World) (slots : List AccrualSlot) → AreBelow 3 (slots_step (accrual.slots a) call now world slots).1
+accrual-below a call now world slots = search (rules, in_use-below, outcome-below, accrual_slot-in, none)
 
-sequence-below : (q : StepSettings) (call : Call) (world : World) (slots : List SequenceSlot) → AreBelow 3 (sequence.sequence_step q call world slots).1
-sequence-below q call world slots = search rules
+sequence-below : (q : StepSettings) (call : Call) (now : ℕ) (world : World) (slots : List SequenceSlot) → AreBelow 3 (slots_step (sequence.slots q) call now world slots).1
+sequence-below q call now world slots = search rules
 
-bank-below : (b : BankSettings) (call : Call) (world : World) (slots : List BankSlot) → AreBelow (list_count (kinds.Bank b)) (bank.bank_step b call world slots).1
-bank-below b (calls.Act act) world slots =
-    in_use-below (list_count (kinds.Bank b)) (λ slot. bank.slot_step b act (bank.current b world slot))
-    (λ slot. outcome-below (kinds.Bank b) (calls.Act act) _ (bank_slot-in b act (bank.current b world slot))) slots (slot_in_use true world)
-bank-below b _ world slots = none (list_count (kinds.Bank b))
+bank-below : (b : BankSettings) (call : Call) (now : ℕ) (world : World) (slots : List BankSlot) → AreBelow (list_count (kinds.Bank b)) (slots_step (bank.slots b) call now world slots).1
+bank-below b (calls.Act act) now world slots =
+    in_use-below (list_count (kinds.Bank b)) (λ slot. bank.slot_step b act (current (bank.slots b) world slot))
+    (λ slot. outcome-below (kinds.Bank b) (calls.Act act) _ (bank_slot-in b act (current (bank.slots b) world slot))) slots (slot_in_use true world)
+bank-below b _ now world slots = none (list_count (kinds.Bank b))
 
 flipper-below : (call : Call) (s : FlipperState) → AreBelow 2 (flipper.flipper_step call s).1
 flipper-below call s = search rules
@@ -138,10 +139,10 @@ multiball-below m call world s = search rules
 -- and what a device answers
 pub lists_are_of_the_row : (settings : Settings) (call : Call) (now : ℕ) (world : World) (state : DeviceState) → All (λ k. k < list_count settings) (device_step settings call now world state).1
 lists_are_of_the_row (kinds.Counter c) call now world (states.Counter slots) = counter-below c call now world slots
-lists_are_of_the_row (kinds.Accrual a) call now world (states.Accrual slots) = accrual-below a call world slots
-lists_are_of_the_row (kinds.Sequence q) call now world (states.Sequence slots) = sequence-below q call world slots
+lists_are_of_the_row (kinds.Accrual a) call now world (states.Accrual slots) = accrual-below a call now world slots
+lists_are_of_the_row (kinds.Sequence q) call now world (states.Sequence slots) = sequence-below q call now world slots
 lists_are_of_the_row (kinds.Timer t) call now world (states.Timer s) = outcome-below (kinds.Timer t) call _ (timer-in t call now s)
-lists_are_of_the_row (kinds.Bank b) call now world (states.Bank slots) = bank-below b call world slots
+lists_are_of_the_row (kinds.Bank b) call now world (states.Bank slots) = bank-below b call now world slots
 lists_are_of_the_row kinds.Flipper call now world (states.Flipper s) = flipper-below call s
 lists_are_of_the_row kinds.Autofire call now world (states.Autofire s) = autofire-below call s
 lists_are_of_the_row (kinds.BallDevice d) call now world (states.BallDevice s) = ball_step-lists d call now s

@@ -3,25 +3,25 @@ use Rattle.std.proofs.Common.{rules, ◌≡◌, ℕ, ◌-◌, ◌≤◌, Bool, O
 use Rattle.std.{specs.List.All, proofs.lemmas.List.{length-set, length-take, length-drop, length-append}}
 use Rattle.std.proofs.lemmas.List.Elements.{All-replicate, All-append, All-take, All-drop}
 use Rattle.plan_tables.specs.declared.devices.{BankSettings.BankSettings, Settings.Settings, Act.Act}
-use Rattle.machine_settings.specs.declared.settings.{CounterSettings.CounterSettings, StepSettings.StepSettings}
+use Rattle.machine_settings.specs.declared.settings.StepSettings.{StepSettings}
 use Rattle.plan_tables.specs.declared.devices.Settings.TheVariants as kinds
 use Rattle.plan_tables.specs.declared.devices.Act.TheVariants as acts
 use Rattle.device_objects.specs.declared.{device.Call.Call, state.{World.World, BankSlot.BankSlot}}
 use Rattle.device_objects.specs.declared.device.Call.TheVariants as calls
-use Rattle.device_objects.specs.declared.state.{CounterSlot.CounterSlot, AccrualSlot.AccrualSlot}
-use Rattle.device_objects.specs.declared.state.{SequenceSlot.SequenceSlot, DeviceState.DeviceState}
+use Rattle.device_objects.specs.declared.state.{AccrualSlot.AccrualSlot, DeviceState.DeviceState}
 use Rattle.device_objects.specs.declared.state.DeviceState.TheVariants as states
+use Rattle.device_objects.specs.{Slots.{SlotModel, current, slots_step}, DeviceStep.{first_state, device_step}}
 use Rattle.device_objects.specs.Counter as counter
 use Rattle.device_objects.specs.Accrual as accrual
 use Rattle.device_objects.specs.Sequence as sequence
 use Rattle.device_objects.specs.Bank as bank
-use Rattle.device_objects.specs.DeviceStep.{first_state, device_step}
 use Rattle.device_objects.specs.Laws.{HasBankShape, HasMarks, HasShape, StatesKeepTheirShape}
 use Rattle.device_objects.proofs.{Slots.{step_in_use-all, All-at}, Saves.{first_save-shape, save_step-shape}}
 use Rattle.device_objects.proofs.BallShapes.{first_ball-shape, ball_step-shape}
 
-counter_step-length : (c : CounterSettings) (call : Call) (now : ℕ) (world : World) (slots : List CounterSlot) → length (counter.counter_step c call now world slots).0 ≡ length slots
-counter_step-length c call now world slots = search rules
+-- there are as many slots afterwards
+slots_step-length : {S : Type 0} (m : SlotModel S) (call : Call) (now : ℕ) (world : World) (slots : List S) → length (slots_step m call now world slots).0 ≡ length slots
+slots_step-length m call now world slots = search rules
 
 slot_step-marks : (a : StepSettings) (act : Act) (slot : AccrualSlot) → HasMarks slot → HasMarks (accrual.slot_step a act slot).0
 slot_step-marks a act slot marks = search rules
@@ -32,16 +32,10 @@ current-marks a world slot other marks = search rules
 anew-marks : (a : StepSettings) (keep : Bool) (slots : List AccrualSlot) → All HasMarks slots → All HasMarks (if keep then slots else slice_set slots 0 (accrual.first_slot a 0))
 anew-marks a keep slots all = search rules
 
-accrual_step-marks : (a : StepSettings) (call : Call) (world : World) (slots : List AccrualSlot) → All HasMarks slots → All HasMarks (accrual.accrual_step a call world slots).0
-accrual_step-marks a calls.ModeStart world slots all = anew-marks a a.block.persist slots all
-accrual_step-marks a (calls.Act act) world slots all = search (rules, step_in_use-all, slot_step-marks, current-marks)
-accrual_step-marks a _ world slots all = all
-
-accrual_step-length : (a : StepSettings) (call : Call) (world : World) (slots : List AccrualSlot) → length (accrual.accrual_step a call world slots).0 ≡ length slots
-accrual_step-length a call world slots = search rules
-
-sequence_step-length : (q : StepSettings) (call : Call) (world : World) (slots : List SequenceSlot) → length (sequence.sequence_step q call world slots).0 ≡ length slots
-sequence_step-length q call world slots = search rules
+accrual_step-marks : (a : StepSettings) (call : Call) (now : ℕ) (world : World) (slots : List AccrualSlot) → All HasMarks slots → All HasMarks (slots_step (accrual.slots a) call now world slots).0
+accrual_step-marks a calls.ModeStart now world slots all = anew-marks a a.block.persist slots all
+accrual_step-marks a (calls.Act act) now world slots all = search (rules, step_in_use-all, slot_step-marks, current-marks)
+accrual_step-marks a _ now world slots all = all
 
 -- ---- banks
 
@@ -112,17 +106,13 @@ module _ (b : BankSettings) where
   bank_slot-shape _ slot shape = shape
 
   pub current-shape : (world : World) (slot : BankSlot) → HasBankShape b slot
-      → HasBankShape b (bank.current b world slot)
+      → HasBankShape b (current (bank.slots b) world slot)
   current-shape world slot shape = search rules
 
-  bank_step-shape : (call : Call) (world : World) (slots : List BankSlot) → All (HasBankShape b) slots
-      → All (HasBankShape b) (bank.bank_step b call world slots).0
-  bank_step-shape (calls.Act act) world slots all = search (rules, step_in_use-all, bank_slot-shape, current-shape)
-  bank_step-shape _ world slots all = all
-
-  bank_step-length : (call : Call) (world : World) (slots : List BankSlot)
-      → length (bank.bank_step b call world slots).0 ≡ length slots
-  bank_step-length call world slots = search rules
+  bank_step-shape : (call : Call) (now : ℕ) (world : World) (slots : List BankSlot) → All (HasBankShape b) slots
+      → All (HasBankShape b) (slots_step (bank.slots b) call now world slots).0
+  bank_step-shape (calls.Act act) now world slots all = search (rules, step_in_use-all, bank_slot-shape, current-shape)
+  bank_step-shape _ now world slots all = all
 
 -- ---- all kinds
 
@@ -136,11 +126,11 @@ first-shape (kinds.BallSave b) = first_save-shape b
 first-shape _ = tt
 
 step-shape : (settings : Settings) (call : Call) (now : ℕ) (world : World) (state : DeviceState) → HasShape settings state → HasShape settings (device_step settings call now world state).0
-step-shape (kinds.Counter c) call now world (states.Counter slots) four = counter_step-length c call now world slots ∙ four
-step-shape (kinds.Accrual a) call now world (states.Accrual slots) shape = (accrual_step-length a call world slots ∙ shape.0, accrual_step-marks a call world slots shape.1)
-step-shape (kinds.Sequence q) call now world (states.Sequence slots) four = sequence_step-length q call world slots ∙ four
+step-shape (kinds.Counter c) call now world (states.Counter slots) four = slots_step-length (counter.slots c) call now world slots ∙ four
+step-shape (kinds.Accrual a) call now world (states.Accrual slots) shape = (slots_step-length (accrual.slots a) call now world slots ∙ shape.0, accrual_step-marks a call now world slots shape.1)
+step-shape (kinds.Sequence q) call now world (states.Sequence slots) four = slots_step-length (sequence.slots q) call now world slots ∙ four
 step-shape (kinds.Timer t) call now world (states.Timer s) shape = tt
-step-shape (kinds.Bank b) call now world (states.Bank slots) shape = search (rules, bank_step-length, bank_step-shape)
+step-shape (kinds.Bank b) call now world (states.Bank slots) shape = search (rules, slots_step-length, bank_step-shape)
 step-shape kinds.Flipper call now world (states.Flipper s) shape = tt
 step-shape kinds.Autofire call now world (states.Autofire s) shape = tt
 step-shape (kinds.BallDevice d) call now world (states.BallDevice s) shape = ball_step-shape d call now s shape

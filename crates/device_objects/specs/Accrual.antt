@@ -4,20 +4,15 @@ use Rattle.std.specs.List.{list_all}
 use Rattle.plan_tables.specs.declared.devices.Act.{Act}
 use Rattle.plan_tables.specs.declared.devices.Act.TheVariants as acts
 use Rattle.machine_settings.specs.declared.settings.StepSettings.{StepSettings}
-use Rattle.device_objects.specs.declared.{device.Call.Call, state.{AccrualSlot.AccrualSlot, World.World}}
-use Rattle.device_objects.specs.declared.device.Call.TheVariants as calls
-use Rattle.device_objects.specs.Slots.{slot_in_use, is_of_other_game, step_in_use, updated, hit, complete}
+use Rattle.device_objects.specs.{declared.state.AccrualSlot.AccrualSlot, Slots.{SlotModel, updated, hit, complete}}
 
 -- no step is done
 abbrev pub none_done : List Bool
 none_done = replicate 16 false
 
--- a slot at first, for this game
+-- a new slot, for this game
 abbrev pub first_slot : StepSettings → ℕ → AccrualSlot
 first_slot a game = record { game = game; enabled = a.block.enabled; done = none_done }
-
-abbrev pub first_slots : StepSettings → List AccrualSlot
-first_slots a = replicate 4 (first_slot a 0)
 
 -- whether there is such a step, and it is not done yet
 abbrev pub is_open : Option Bool → Bool
@@ -55,14 +50,6 @@ slot_step a acts.Reset slot = (record slot { done = none_done }, updated ∷ [])
 slot_step a acts.Restart slot = (record slot { done = none_done; enabled = true }, updated ∷ [])
 slot_step a _ slot = (slot, [])
 
--- a slot as it counts in this world
-abbrev pub current : StepSettings → World → AccrualSlot → AccrualSlot
-current a world slot = if is_of_other_game a.block.persist world slot.game then first_slot a world.games else slot
-
--- an accrual that each player has for themselves goes on when its mode starts; another begins anew
-abbrev pub accrual_step : StepSettings → Call → World → List AccrualSlot → List AccrualSlot × List ℕ
-accrual_step a calls.ModeStart world slots = (if a.block.persist then slots else slice_set slots 0 (first_slot a 0), [])
-accrual_step a calls.ModeStop world slots = (slots, [])
-accrual_step a calls.Fire world slots = (slots, [])
-accrual_step a (calls.Act act) world slots =
-    step_in_use (λ slot. slot_step a act (current a world slot)) slots (slot_in_use a.block.persist world)
+-- the slots of an accrual
+abbrev pub slots : StepSettings → SlotModel AccrualSlot
+slots a = record { persist = a.block.persist; first = first_slot a; game_of = λ slot. slot.game; step = λ act now. slot_step a act }

@@ -3,9 +3,7 @@ use Rattle.std.specs.Prelude.{ℕ, suc, ◌+◌, ◌-◌, ◌*◌, ◌==◌, nat
 use Rattle.std.specs.List.{list_all}
 use Rattle.plan_tables.specs.{declared.devices.{Act.Act, BankSettings.BankSettings}, Devices.state_count}
 use Rattle.plan_tables.specs.declared.devices.Act.TheVariants as acts
-use Rattle.device_objects.specs.declared.{device.Call.Call, state.{BankSlot.BankSlot, World.World}}
-use Rattle.device_objects.specs.declared.device.Call.TheVariants as calls
-use Rattle.device_objects.specs.Slots.{slot_in_use, is_of_other_game, step_in_use}
+use Rattle.device_objects.specs.{declared.state.BankSlot.BankSlot, Slots.SlotModel}
 
 -- The lists of a bank: for each shot one in each state, by the shot's number and then the state's; then those of the
 -- group when one of its shots is hit in a state; then those of the group when all its shots have come to a state.
@@ -18,12 +16,9 @@ group_hit b state = b.shots * state_count b + state
 abbrev pub group_complete : BankSettings → ℕ → ℕ
 group_complete b state = suc b.shots * state_count b + state
 
--- a slot at first, for this game: all shots are in their first state
+-- a new slot, for this game: all shots are in their first state
 abbrev pub first_slot : BankSettings → ℕ → BankSlot
 first_slot b game = record { game = game; enabled = b.enabled; states = replicate 16 0 }
-
-abbrev pub first_slots : BankSettings → List BankSlot
-first_slots b = replicate 4 (first_slot b 0)
 
 -- the next state: after the last comes the first where the profile loops, and else it stays
 abbrev pub next_state : BankSettings → ℕ → ℕ
@@ -90,12 +85,6 @@ slot_step b acts.RotateRight slot = (record slot { states = turned b.shots (b.sh
 slot_step b acts.RotateLeft slot = (record slot { states = turned b.shots 1 slot.states }, [])
 slot_step b _ slot = (slot, [])
 
--- a slot as it counts in this world
-abbrev pub current : BankSettings → World → BankSlot → BankSlot
-current b world slot = if is_of_other_game true world slot.game then first_slot b world.games else slot
-
--- the start and the stop of its mode change nothing, and it is never due
-abbrev pub bank_step : BankSettings → Call → World → List BankSlot → List BankSlot × List ℕ
-bank_step b (calls.Act act) world slots =
-    step_in_use (λ slot. slot_step b act (current b world slot)) slots (slot_in_use true world)
-bank_step b _ world slots = (slots, [])
+-- the slots of a bank: each player has one
+abbrev pub slots : BankSettings → SlotModel BankSlot
+slots b = record { persist = true; first = first_slot b; game_of = λ slot. slot.game; step = λ act now. slot_step b act }

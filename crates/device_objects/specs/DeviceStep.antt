@@ -10,6 +10,7 @@ use Rattle.device_objects.specs.declared.state.{SequenceSlot.SequenceSlot, Flipp
 use Rattle.device_objects.specs.declared.state.{AutofireState.AutofireState, MultiballState.MultiballState}
 use Rattle.device_objects.specs.declared.state.{BallState.BallState, SaveState.SaveState}
 use Rattle.device_objects.specs.declared.state.DeviceState.TheVariants as states
+use Rattle.device_objects.specs.Slots.{first_slots, slots_step}
 use Rattle.device_objects.specs.Counter as counter
 use Rattle.device_objects.specs.Accrual as accrual
 use Rattle.device_objects.specs.Sequence as sequence
@@ -23,11 +24,11 @@ use Rattle.device_objects.specs.Multiball as multiball
 
 -- the state at first
 abbrev pub first_state : Settings → DeviceState
-first_state (kinds.Counter c) = states.Counter (counter.first_slots c)
-first_state (kinds.Accrual a) = states.Accrual (accrual.first_slots a)
-first_state (kinds.Sequence q) = states.Sequence (sequence.first_slots q)
+first_state (kinds.Counter c) = states.Counter (first_slots (counter.slots c))
+first_state (kinds.Accrual a) = states.Accrual (first_slots (accrual.slots a))
+first_state (kinds.Sequence q) = states.Sequence (first_slots (sequence.slots q))
 first_state (kinds.Timer t) = states.Timer (timer.first_state t)
-first_state (kinds.Bank b) = states.Bank (bank.first_slots b)
+first_state (kinds.Bank b) = states.Bank (first_slots (bank.slots b))
 first_state kinds.Flipper = states.Flipper flipper.first_state
 first_state kinds.Autofire = states.Autofire autofire.first_state
 first_state (kinds.BallDevice d) = states.BallDevice balls.first_state
@@ -150,15 +151,15 @@ of_kind answer step state (Some s) = answer (step s)
 -- The next state, and the numbers of the effect lists that are to run, in order.
 abbrev pub device_step : Settings → Call → ℕ → World → DeviceState → DeviceState × List ℕ
 device_step (kinds.Counter c) call now world state =
-    of_kind counter_answer (counter.counter_step c call now world) state (counter_slots state)
+    of_kind counter_answer (slots_step (counter.slots c) call now world) state (counter_slots state)
 device_step (kinds.Accrual a) call now world state =
-    of_kind accrual_answer (accrual.accrual_step a call world) state (accrual_slots state)
+    of_kind accrual_answer (slots_step (accrual.slots a) call now world) state (accrual_slots state)
 device_step (kinds.Sequence q) call now world state =
-    of_kind sequence_answer (sequence.sequence_step q call world) state (sequence_slots state)
+    of_kind sequence_answer (slots_step (sequence.slots q) call now world) state (sequence_slots state)
 device_step (kinds.Timer t) call now world state =
     of_kind timer_answer (timer.timer_step t call now) state (timer_state state)
 device_step (kinds.Bank b) call now world state =
-    of_kind bank_answer (bank.bank_step b call world) state (bank_slots state)
+    of_kind bank_answer (slots_step (bank.slots b) call now world) state (bank_slots state)
 device_step kinds.Flipper call now world state =
     of_kind flipper_answer (flipper.flipper_step call) state (flipper_state state)
 device_step kinds.Autofire call now world state =

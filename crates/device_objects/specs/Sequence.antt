@@ -1,18 +1,13 @@
 -- A sequence: its steps are done in order.
-use Rattle.std.specs.Prelude.{ℕ, suc, ◌==◌, nat_lt, true, false, not, ◌&&◌, if◌then◌else◌, List, [], ◌∷◌, replicate, slice_set}
+use Rattle.std.specs.Prelude.{ℕ, suc, ◌==◌, nat_lt, true, false, not, ◌&&◌, if◌then◌else◌, List, [], ◌∷◌}
 use Rattle.plan_tables.specs.declared.devices.Act.{Act}
 use Rattle.plan_tables.specs.declared.devices.Act.TheVariants as acts
 use Rattle.machine_settings.specs.declared.settings.StepSettings.{StepSettings}
-use Rattle.device_objects.specs.declared.{device.Call.Call, state.{SequenceSlot.SequenceSlot, World.World}}
-use Rattle.device_objects.specs.declared.device.Call.TheVariants as calls
-use Rattle.device_objects.specs.Slots.{slot_in_use, is_of_other_game, step_in_use, updated, hit, complete}
+use Rattle.device_objects.specs.{declared.state.SequenceSlot.SequenceSlot, Slots.{SlotModel, updated, hit, complete}}
 
--- a slot at first, for this game
+-- a new slot, for this game
 abbrev pub first_slot : StepSettings → ℕ → SequenceSlot
 first_slot q game = record { game = game; enabled = q.block.enabled; next = 0 }
-
-abbrev pub first_slots : StepSettings → List SequenceSlot
-first_slots q = replicate 4 (first_slot q 0)
 
 -- a sequence that completes
 abbrev pub completed : StepSettings → SequenceSlot → SequenceSlot
@@ -38,14 +33,6 @@ slot_step q acts.Reset slot = (record slot { next = 0 }, updated ∷ [])
 slot_step q acts.Restart slot = (record slot { next = 0; enabled = true }, updated ∷ [])
 slot_step q _ slot = (slot, [])
 
--- a slot as it counts in this world
-abbrev pub current : StepSettings → World → SequenceSlot → SequenceSlot
-current q world slot = if is_of_other_game q.block.persist world slot.game then first_slot q world.games else slot
-
--- a sequence that each player has for themselves goes on when its mode starts; another begins anew
-abbrev pub sequence_step : StepSettings → Call → World → List SequenceSlot → List SequenceSlot × List ℕ
-sequence_step q calls.ModeStart world slots = (if q.block.persist then slots else slice_set slots 0 (first_slot q 0), [])
-sequence_step q calls.ModeStop world slots = (slots, [])
-sequence_step q calls.Fire world slots = (slots, [])
-sequence_step q (calls.Act act) world slots =
-    step_in_use (λ slot. slot_step q act (current q world slot)) slots (slot_in_use q.block.persist world)
+-- the slots of a sequence
+abbrev pub slots : StepSettings → SlotModel SequenceSlot
+slots q = record { persist = q.block.persist; first = first_slot q; game_of = λ slot. slot.game; step = λ act now. slot_step q act }

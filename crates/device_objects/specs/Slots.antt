@@ -1,14 +1,31 @@
 -- The slots of a device: one for each player, or one for all.
-use Rattle.std.specs.Prelude.{ℕ, ◌-◌, ◌==◌, Bool, not, ◌&&◌, if◌then◌else◌, Option, None, Some, List, [], slice_get, slice_set}
-use Rattle.device_objects.specs.declared.state.World.{World}
+use Rattle.std.specs.Prelude.{ℕ, ◌-◌, ◌==◌, Bool, not, ◌&&◌, if◌then◌else◌, Option, None, Some, List, [], replicate, slice_get, slice_set}
+use Rattle.plan_tables.specs.declared.devices.Act.{Act}
+use Rattle.device_objects.specs.declared.{device.Call.Call, state.World.World}
+use Rattle.device_objects.specs.declared.device.Call.TheVariants as calls
 
--- the slot on which the block acts: the current player's, where each player has one, and else the first
+-- What is known of the slots of a device.
+pub record SlotModel (S : Type 0) : Type 0 where
+  -- whether each player has a slot; if not, all share the first
+  pub persist : Bool
+  -- a new slot, for this game
+  pub first : ℕ → S
+  -- the game to which a slot belongs
+  pub game_of : S → ℕ
+  -- what an act at this moment does to a slot of the game that is played, and the lists that it answers
+  pub step : Act → ℕ → S → S × List ℕ
+
+-- the slot on which the device acts: the current player's, where each player has one, and else the first
 abbrev pub slot_in_use : Bool → World → Option ℕ
 slot_in_use persist world = if persist then (if world.player == 0 then None else Some (world.player - 1)) else Some 0
 
--- whether a player's slot is left over from another game; then it counts as a first slot
+-- whether a player's slot is left over from another game
 abbrev pub is_of_other_game : Bool → World → ℕ → Bool
 is_of_other_game persist world game = persist && not (game == world.games)
+
+-- a slot as it counts in this world: one of another game counts as a new one
+abbrev pub current : {S : Type 0} → SlotModel S → World → S → S
+current m world slot = if is_of_other_game m.persist world (m.game_of slot) then m.first world.games else slot
 
 -- what a step gives is put into the slot of this number
 abbrev pub put_at : {S : Type 0} → ℕ → List S → S × List ℕ → List S × List ℕ
@@ -23,6 +40,18 @@ step_at step i slots (Some slot) = put_at i slots (step slot)
 abbrev pub step_in_use : {S : Type 0} → (S → S × List ℕ) → List S → Option ℕ → List S × List ℕ
 step_in_use step slots None = (slots, [])
 step_in_use step slots (Some i) = step_at step i slots (slice_get slots i)
+
+abbrev pub first_slots : {S : Type 0} → SlotModel S → List S
+first_slots m = replicate 4 (m.first 0)
+
+-- When the mode starts, slots that the players have for themselves go on, and one that all share begins anew. An act is
+-- a step of the slot in use. Nothing is ever due.
+abbrev pub slots_step : {S : Type 0} → SlotModel S → Call → ℕ → World → List S → List S × List ℕ
+slots_step m calls.ModeStart now world slots = (if m.persist then slots else slice_set slots 0 (m.first 0), [])
+slots_step m calls.ModeStop now world slots = (slots, [])
+slots_step m calls.Fire now world slots = (slots, [])
+slots_step m (calls.Act act) now world slots =
+    step_in_use (λ slot. m.step act now (current m world slot)) slots (slot_in_use m.persist world)
 
 -- the lists of a block
 abbrev pub updated : ℕ

@@ -4,15 +4,8 @@ ghost use Rattle.std.specs.Prelude.{◌≡◌, [], ◌∷◌};
 
 use crate::device::Outcome;
 
-/// No list.
-pub fn silent() -> Outcome
-    ensures { result.items ≡ [] }
-{
-    Outcome::new()
-}
-
-/// One list, by its number.
-pub fn one(list: u16) -> Outcome
+/// The outcome of one list, by its number.
+pub fn one_list(list: u16) -> Outcome
     ensures { result.items ≡ list ∷ [] }
 {
     let mut lists = Outcome::new();

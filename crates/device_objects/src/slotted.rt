@@ -1,7 +1,8 @@
 //! Devices whose state is a slot for each player, or one slot for all.
 
 ghost use Rattle.std.specs.Prelude.{◌≡◌, ◌<◌, ◌^◌, map};
-ghost use Rattle.device_objects.specs.Slotted.{act_step, current};
+ghost use Rattle.device_objects.specs.Slots.{current, slots_step};
+ghost use Rattle.device_objects.specs.declared.device.Call.TheVariants as calls;
 
 use crate::device::{Device, Outcome};
 use crate::shape::has_shape;
@@ -9,20 +10,28 @@ use crate::slot::{is_of_other_game, slot_in_use};
 use crate::state::{DeviceState, World};
 use plan_tables::{Act, DeviceRow, Settings};
 
-/// The settings of a kind of device whose state is slots, and what the slots do. Nothing of such a device is ever due.
+/// A kind of device whose state is four slots: one for each player, or the first for all. Nothing of such a device is
+/// ever due.
 pub trait SlotKind: Copy + Drop {
-    ghost use Rattle.std.specs.Prelude.{◌≡◌, ◌↔◌, ◌<◌, ◌^◌, map, IsSome, IfSome};
+    ghost use Rattle.std.specs.Prelude.{◌≡◌, ◌↔◌, ◌<◌, ◌^◌, List, map, IsSome, IfSome};
     ghost use Rattle.plan_tables.specs.declared.devices.Settings.{Settings};
-    ghost use Rattle.device_objects.specs.Slotted.{SlotModel, ActsOnSlots};
+    ghost use Rattle.device_objects.specs.declared.state.DeviceState.{DeviceState};
+    ghost use Rattle.device_objects.specs.{Slots.SlotModel, Slotted.StepsAreOfSlots};
 
     /// A slot as the device keeps it.
     type Slot: Copy;
 
-    /// A slot as others see it.
+    /// A slot as the state shows it.
     type Seen;
 
-    /// Whether settings are of this kind.
+    /// Whether such a device can have these settings: they are of its kind, and within its limits.
     ghost IsOfKind: { Settings → Type 0 };
+
+    /// The settings, as a row has them.
+    ghost settings_of: { Self → Settings };
+
+    /// The state that has these slots.
+    ghost state_of: { List Self.Seen → DeviceState };
 
     /// What is known of the slots.
     ghost model: { Self → SlotModel Self.Seen };
@@ -30,20 +39,20 @@ pub trait SlotKind: Copy + Drop {
     /// What is seen of a slot.
     ghost seen: { Self.Slot → Self.Seen };
 
-    /// The settings of a row, if they are of this kind.
-    fn of_row(settings: &Settings) -> Option<Self>
+    /// The kind with these settings. None exactly where such a device cannot have them.
+    fn of_settings(settings: &Settings) -> Option<Self>
         ensures kind { IsSome result ↔ IsOfKind settings.now }
-        ensures settings { IfSome result (λ k. (model k).settings ≡ settings.now) };
+        ensures settings { IfSome result (λ k. settings_of k ≡ settings.now) };
 
     /// The state that has these slots.
-    fn state(&self, slots: &[Self::Slot; 4]) -> DeviceState
-        ensures { result ≡ (model self.now).state_of (map seen slots.now) };
+    fn state(slots: &[Self::Slot; 4]) -> DeviceState
+        ensures { result ≡ state_of (map seen slots.now) };
 
     /// Whether each player has a slot. If not, all share the first.
     fn persists(&self) -> bool
         ensures { result ≡ (model self.now).persist };
 
-    /// A slot at first, for a game.
+    /// A new slot, for this game.
     fn first_slot(&self, game: u64) -> Self::Slot
         ensures { seen result ≡ (model self.now).first game };
 
@@ -57,41 +66,41 @@ pub trait SlotKind: Copy + Drop {
         ensures slot { seen slot.new ≡ ((model self.now).step act now (seen slot.old)).0 }
         ensures outcome { result.items ≡ ((model self.now).step act now (seen slot.old)).1 };
 
-    /// What is done with the device is done to its slots.
-    ghost acts: { (k : Self) → ActsOnSlots (model k) };
+    /// The state is slots, and each call is a step of them.
+    ghost steps: { (k : Self) → StepsAreOfSlots (settings_of k) state_of (model k) };
 }
 
-/// A kind whose devices can be made in any state.
+/// A kind whose devices can be made in any state of the shape that their settings ask for.
 pub trait Resume: SlotKind {
     ghost use Rattle.std.specs.Prelude.{◌≡◌, map, IsSome, IfSome};
     ghost use Rattle.device_objects.specs.Laws.{HasShape};
 
-    /// The slots of a state. There are some if the state is of the shape that the settings ask for.
+    /// The slots of a state. None only where the state is not of the shape that the settings ask for.
     fn slots_of(&self, state: &DeviceState) -> Option<[Self::Slot; 4]>
-        ensures shape { HasShape (Self.model self.now).settings state.now → IsSome result }
-        ensures state { IfSome result (λ slots. (Self.model self.now).state_of (map Self.seen slots) ≡ state.now) };
+        ensures shape { HasShape (Self.settings_of self.now) state.now → IsSome result }
+        ensures state { IfSome result (λ slots. Self.state_of (map Self.seen slots) ≡ state.now) };
 }
 
-/// A device whose state is slots.
+/// A device of kind `K`. Its state is four slots: one for each player, or the first for all.
 #[derive(Drop)]
 pub struct Slotted<K: SlotKind> {
     row: DeviceRow,
     kind: K,
     slots: [K::Slot; 4],
-    ghost of_row: { (K.model kind).settings ≡ row.settings },
+    ghost same_settings: { K.settings_of kind ≡ row.settings },
 }
 
 impl<K: SlotKind> Slotted<K> {
     ghost use Rattle.std.specs.Prelude.{◌≡◌, ◌↔◌, IsSome, IfSome};
     ghost use Rattle.device_objects.specs.DeviceStep.{first_state};
 
-    /// The device of a row, in its first state. None exactly where the row is of another kind.
+    /// The device of a row, in its first state. None exactly where the row is not of the kind, as `IsOfKind` says.
     pub fn new(row: &DeviceRow) -> Option<Self>
         ensures kind { IsSome result ↔ K.IsOfKind row.now.settings }
         ensures row { IfSome result (λ d. ⟦<Slotted<K> as Device>⟧.row_of d ≡ row.now) }
         ensures first { IfSome result (λ d. ⟦<Slotted<K> as Device>⟧.state_of d ≡ first_state row.now.settings) }
     {
-        let kind = K::of_row(&row.settings)?;
+        let kind = K::of_settings(&row.settings)?;
         Some(Slotted {
             row: *row,
             kind,
@@ -111,7 +120,7 @@ impl<K: Resume> Slotted<K> {
         ensures row { IfSome result (λ d. ⟦<Slotted<K> as Device>⟧.row_of d ≡ row.now) }
         ensures state { IfSome result (λ d. ⟦<Slotted<K> as Device>⟧.state_of d ≡ state.now) }
     {
-        let kind = K::of_row(&row.settings)?;
+        let kind = K::of_settings(&row.settings)?;
         if !has_shape(&row.settings, state) {
             return None;
         }
@@ -124,18 +133,18 @@ impl<K: Resume> Slotted<K> {
 }
 
 impl<K: SlotKind> Device for Slotted<K> {
-    ghost use Rattle.std.specs.Prelude.{map};
+    ghost use Rattle.std.specs.Prelude.{◌≡◌, [], map};
 
     ghost row_of = { λ d. d.row };
 
-    ghost state_of = { λ d. (K.model d.kind).state_of (map K.seen d.slots) };
+    ghost state_of = { λ d. K.state_of (map K.seen d.slots) };
 
     fn row(&self) -> DeviceRow {
         self.row
     }
 
     fn state(&self) -> DeviceState {
-        self.kind.state(&self.slots)
+        K::state(&self.slots)
     }
 
     fn due(&self) -> Option<u64> {
@@ -154,17 +163,20 @@ impl<K: SlotKind> Device for Slotted<K> {
     }
 
     /// Never comes: nothing of the device is due.
-    fn fire(&mut self, _now: u64, _world: World) -> Outcome {
+    fn fire(&mut self, _now: u64, _world: World) -> Outcome
+        ensures same { self.new ≡ self.old }
+        ensures outcome { result.items ≡ [] }
+    {
         Outcome::new()
     }
 
     fn act(&mut self, act: Act, now: u64, world: World) -> Outcome {
-        step_in_use(&self.kind, &mut self.slots, act, now, world)
+        act_step(&self.kind, &mut self.slots, act, now, world)
     }
 }
 
-/// An act, at a moment, in this world: a step of the slot in use. Without one nothing is done.
-fn step_in_use<K: SlotKind>(
+/// What an act does to the slots: it is a step of the slot in use. Where no slot is in use, nothing is done.
+fn act_step<K: SlotKind>(
     kind: &K,
     slots: &mut [K::Slot],
     act: Act,
@@ -172,8 +184,8 @@ fn step_in_use<K: SlotKind>(
     world: World,
 ) -> Outcome
     requires { now < 2 ^ 40 }
-    ensures slots { map K.seen slots.new ≡ (act_step (K.model kind.now) act now world (map K.seen slots.old)).0 }
-    ensures outcome { result.items ≡ (act_step (K.model kind.now) act now world (map K.seen slots.old)).1 }
+    ensures slots { map K.seen slots.new ≡ (slots_step (K.model kind.now) (calls.Act act) now world (map K.seen slots.old)).0 }
+    ensures outcome { result.items ≡ (slots_step (K.model kind.now) (calls.Act act) now world (map K.seen slots.old)).1 }
 {
     match slot_in_use(kind.persists(), world) {
         Some(i) if i < slots.len() => {

@@ -1,3 +1,2 @@
 pub mod Kind
-pub mod Slots
 pub mod Mask

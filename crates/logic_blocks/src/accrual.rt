@@ -6,7 +6,6 @@ ghost use Rattle.device_objects.specs.Accrual.{is_step_open, are_all_done, compl
 ghost use Rattle.plan_tables.specs.declared.devices.Act.TheVariants as acts;
 
 use crate::lists::{hit, reset};
-use device_objects::outcome::silent;
 use device_objects::slotted::{SlotKind, Slotted};
 use device_objects::{AccrualSlot, DeviceState, Outcome};
 use machine_settings::StepSettings;
@@ -15,7 +14,7 @@ use plan_tables::{Act, Settings};
 /// An accrual: it completes when all its steps are done, in any order.
 pub type Accrual = Slotted<AccrualKind>;
 
-/// The settings of an accrual.
+/// The kind of [`Accrual`]: its settings.
 #[derive(Clone, Copy)]
 pub struct AccrualKind {
     settings: StepSettings,
@@ -23,7 +22,10 @@ pub struct AccrualKind {
 
 impl SlotKind for AccrualKind {
     ghost use Rattle.std.specs.Prelude.{refl};
-    ghost use Rattle.logic_blocks.specs.{Kind.IsAccrual, Slots.accrual_slots};
+    ghost use Rattle.plan_tables.specs.declared.devices.Settings.TheVariants as kinds;
+    ghost use Rattle.device_objects.specs.Accrual.{slots};
+    ghost use Rattle.device_objects.specs.declared.state.DeviceState.TheVariants as states;
+    ghost use Rattle.logic_blocks.specs.Kind.{IsAccrual};
 
     type Slot = AccrualSlot;
 
@@ -31,20 +33,24 @@ impl SlotKind for AccrualKind {
 
     ghost IsOfKind = { IsAccrual };
 
-    ghost model = { λ k. accrual_slots k.settings };
+    ghost settings_of = { λ k. kinds.Accrual k.settings };
+
+    ghost state_of = { states.Accrual };
+
+    ghost model = { λ k. slots k.settings };
 
     ghost seen = { λ slot. slot };
 
-    ghost acts = { λ k. record { first = refl; never_due = λ slots. refl; start = λ now world slots. refl; stop = λ now world slots. refl; act = λ act now world slots. refl } };
+    ghost steps = { λ k. record { first = refl; never_due = λ slots. refl; step = λ call now world slots. refl } };
 
-    fn of_row(settings: &Settings) -> Option<Self> {
+    fn of_settings(settings: &Settings) -> Option<Self> {
         match *settings {
             Settings::Accrual(settings) => Some(AccrualKind { settings }),
             _ => None,
         }
     }
 
-    fn state(&self, slots: &[AccrualSlot; 4]) -> DeviceState {
+    fn state(slots: &[AccrualSlot; 4]) -> DeviceState {
         DeviceState::Accrual(*slots)
     }
 
@@ -69,11 +75,11 @@ impl SlotKind for AccrualKind {
             Act::Step(i) => take_step(&self.settings, slot, i),
             Act::Enable => {
                 slot.enabled = true;
-                silent()
+                Outcome::new()
             }
             Act::Disable => {
                 slot.enabled = false;
-                silent()
+                Outcome::new()
             }
             Act::Reset => {
                 slot.done = [false; 16];
@@ -84,7 +90,7 @@ impl SlotKind for AccrualKind {
                 slot.enabled = true;
                 reset()
             }
-            _ => silent(),
+            _ => Outcome::new(),
         }
     }
 }
@@ -140,7 +146,7 @@ fn take_step(settings: &StepSettings, slot: &mut AccrualSlot, i: usize) -> Outco
     ensures outcome { result.items ≡ (slot_step settings.now (acts.Step i) slot.old).1 }
 {
     if !slot.enabled || !is_step_open(settings, i, &slot.done) {
-        return silent();
+        return Outcome::new();
     }
     slot.done[i] = true;
     stepped(settings, slot)

@@ -5,7 +5,6 @@ ghost use Rattle.device_objects.specs.Counter.{is_early, completed, counted, slo
 ghost use Rattle.plan_tables.specs.declared.devices.Act.TheVariants as acts;
 
 use crate::lists::{hit, reset};
-use device_objects::outcome::silent;
 use device_objects::slotted::{SlotKind, Slotted};
 use device_objects::values::moved;
 use device_objects::{CounterSlot, DeviceState, Outcome};
@@ -15,7 +14,7 @@ use plan_tables::{Act, Settings};
 /// A counter: it counts hits, and completes when its value reaches or passes the one that is set.
 pub type Counter = Slotted<CounterKind>;
 
-/// The settings of a counter.
+/// The kind of [`Counter`]: its settings.
 #[derive(Clone, Copy)]
 pub struct CounterKind {
     settings: CounterSettings,
@@ -23,7 +22,10 @@ pub struct CounterKind {
 
 impl SlotKind for CounterKind {
     ghost use Rattle.std.specs.Prelude.{refl};
-    ghost use Rattle.logic_blocks.specs.{Kind.IsCounter, Slots.counter_slots};
+    ghost use Rattle.plan_tables.specs.declared.devices.Settings.TheVariants as kinds;
+    ghost use Rattle.device_objects.specs.Counter.{slots};
+    ghost use Rattle.device_objects.specs.declared.state.DeviceState.TheVariants as states;
+    ghost use Rattle.logic_blocks.specs.Kind.{IsCounter};
 
     type Slot = CounterSlot;
 
@@ -31,20 +33,24 @@ impl SlotKind for CounterKind {
 
     ghost IsOfKind = { IsCounter };
 
-    ghost model = { λ k. counter_slots k.settings };
+    ghost settings_of = { λ k. kinds.Counter k.settings };
+
+    ghost state_of = { states.Counter };
+
+    ghost model = { λ k. slots k.settings };
 
     ghost seen = { λ slot. slot };
 
-    ghost acts = { λ k. record { first = refl; never_due = λ slots. refl; start = λ now world slots. refl; stop = λ now world slots. refl; act = λ act now world slots. refl } };
+    ghost steps = { λ k. record { first = refl; never_due = λ slots. refl; step = λ call now world slots. refl } };
 
-    fn of_row(settings: &Settings) -> Option<Self> {
+    fn of_settings(settings: &Settings) -> Option<Self> {
         match *settings {
             Settings::Counter(settings) => Some(CounterKind { settings }),
             _ => None,
         }
     }
 
-    fn state(&self, slots: &[CounterSlot; 4]) -> DeviceState {
+    fn state(slots: &[CounterSlot; 4]) -> DeviceState {
         DeviceState::Counter(*slots)
     }
 
@@ -70,11 +76,11 @@ impl SlotKind for CounterKind {
             Act::Count => count(&self.settings, slot, now),
             Act::Enable => {
                 slot.enabled = true;
-                silent()
+                Outcome::new()
             }
             Act::Disable => {
                 slot.enabled = false;
-                silent()
+                Outcome::new()
             }
             Act::Reset => {
                 slot.value = self.settings.start;
@@ -85,7 +91,7 @@ impl SlotKind for CounterKind {
                 slot.enabled = true;
                 reset()
             }
-            _ => silent(),
+            _ => Outcome::new(),
         }
     }
 }
@@ -132,7 +138,7 @@ fn count(settings: &CounterSettings, slot: &mut CounterSlot, now: u64) -> Outcom
     ensures outcome { result.items ≡ (slot_step settings.now acts.Count now slot.old).1 }
 {
     if !slot.enabled || is_early(settings.window, slot.last_hit, now) {
-        return silent();
+        return Outcome::new();
     }
     slot.value = moved(settings.direction, settings.interval, slot.value);
     slot.last_hit = Some(now);

@@ -8,7 +8,6 @@ ghost use Rattle.plan_tables.specs.declared.devices.Act.TheVariants as acts;
 
 use crate::lists::{hit, reset};
 use device_objects::flags::{are_set, flags_of, is_set, mask_of, with_flag};
-use device_objects::outcome::silent;
 use device_objects::slotted::{Resume, SlotKind, Slotted};
 use device_objects::{AccrualSlot, DeviceState, Outcome};
 use machine_settings::StepSettings;
@@ -18,17 +17,18 @@ use plan_tables::{Act, Settings};
 /// [`Accrual`](crate::Accrual), and it can take the place of one in any state.
 pub type MaskAccrual = Slotted<MaskAccrualKind>;
 
-/// The settings of an accrual.
+/// The kind of [`MaskAccrual`]: its settings.
 #[derive(Clone, Copy)]
 pub struct MaskAccrualKind {
     settings: StepSettings,
 }
 
-/// What it remembers for one player.
+/// What a [`MaskAccrual`] keeps for one player, or for all.
 #[derive(Clone, Copy)]
 pub struct MaskSlot {
     /// The game to which it belongs, as in [`AccrualSlot`].
     game: u64,
+    /// Whether it takes steps.
     enabled: bool,
     /// Bit i is set where step i is done.
     done: u16,
@@ -36,7 +36,10 @@ pub struct MaskSlot {
 
 impl SlotKind for MaskAccrualKind {
     ghost use Rattle.std.specs.Prelude.{refl};
-    ghost use Rattle.logic_blocks.specs.{Kind.IsAccrual, Slots.accrual_slots};
+    ghost use Rattle.plan_tables.specs.declared.devices.Settings.TheVariants as kinds;
+    ghost use Rattle.device_objects.specs.Accrual.{slots};
+    ghost use Rattle.device_objects.specs.declared.state.DeviceState.TheVariants as states;
+    ghost use Rattle.logic_blocks.specs.Kind.{IsAccrual};
 
     type Slot = MaskSlot;
 
@@ -44,20 +47,24 @@ impl SlotKind for MaskAccrualKind {
 
     ghost IsOfKind = { IsAccrual };
 
-    ghost model = { λ k. accrual_slots k.settings };
+    ghost settings_of = { λ k. kinds.Accrual k.settings };
+
+    ghost state_of = { states.Accrual };
+
+    ghost model = { λ k. slots k.settings };
 
     ghost seen = { slot_of };
 
-    ghost acts = { λ k. record { first = refl; never_due = λ slots. refl; start = λ now world slots. refl; stop = λ now world slots. refl; act = λ act now world slots. refl } };
+    ghost steps = { λ k. record { first = refl; never_due = λ slots. refl; step = λ call now world slots. refl } };
 
-    fn of_row(settings: &Settings) -> Option<Self> {
+    fn of_settings(settings: &Settings) -> Option<Self> {
         match *settings {
             Settings::Accrual(settings) => Some(MaskAccrualKind { settings }),
             _ => None,
         }
     }
 
-    fn state(&self, slots: &[MaskSlot; 4]) -> DeviceState {
+    fn state(slots: &[MaskSlot; 4]) -> DeviceState {
         DeviceState::Accrual(seen(slots))
     }
 
@@ -82,11 +89,11 @@ impl SlotKind for MaskAccrualKind {
             Act::Step(i) => take_step(&self.settings, slot, i),
             Act::Enable => {
                 slot.enabled = true;
-                silent()
+                Outcome::new()
             }
             Act::Disable => {
                 slot.enabled = false;
-                silent()
+                Outcome::new()
             }
             Act::Reset => {
                 slot.done = 0;
@@ -97,7 +104,7 @@ impl SlotKind for MaskAccrualKind {
                 slot.enabled = true;
                 reset()
             }
-            _ => silent(),
+            _ => Outcome::new(),
         }
     }
 }
@@ -195,7 +202,7 @@ fn take_step(settings: &StepSettings, slot: &mut MaskSlot, i: usize) -> Outcome
     ensures outcome { result.items ≡ (slot_step settings.now (acts.Step i) (slot_of slot.old)).1 }
 {
     if !slot.enabled || !is_step_open(settings, i, slot.done) {
-        return silent();
+        return Outcome::new();
     }
     slot.done = with_flag(slot.done, i, true);
     stepped(settings, slot)

@@ -5,7 +5,6 @@ ghost use Rattle.device_objects.specs.Sequence.{completed, stepped, slot_step};
 ghost use Rattle.plan_tables.specs.declared.devices.Act.TheVariants as acts;
 
 use crate::lists::{hit, reset};
-use device_objects::outcome::silent;
 use device_objects::slotted::{SlotKind, Slotted};
 use device_objects::{DeviceState, Outcome, SequenceSlot};
 use machine_settings::StepSettings;
@@ -14,7 +13,7 @@ use plan_tables::{Act, Settings};
 /// A sequence: it completes when all its steps are done, each after the one before.
 pub type Sequence = Slotted<SequenceKind>;
 
-/// The settings of a sequence.
+/// The kind of [`Sequence`]: its settings.
 #[derive(Clone, Copy)]
 pub struct SequenceKind {
     settings: StepSettings,
@@ -22,7 +21,10 @@ pub struct SequenceKind {
 
 impl SlotKind for SequenceKind {
     ghost use Rattle.std.specs.Prelude.{refl};
-    ghost use Rattle.logic_blocks.specs.{Kind.IsSequence, Slots.sequence_slots};
+    ghost use Rattle.plan_tables.specs.declared.devices.Settings.TheVariants as kinds;
+    ghost use Rattle.device_objects.specs.Sequence.{slots};
+    ghost use Rattle.device_objects.specs.declared.state.DeviceState.TheVariants as states;
+    ghost use Rattle.logic_blocks.specs.Kind.{IsSequence};
 
     type Slot = SequenceSlot;
 
@@ -30,20 +32,24 @@ impl SlotKind for SequenceKind {
 
     ghost IsOfKind = { IsSequence };
 
-    ghost model = { λ k. sequence_slots k.settings };
+    ghost settings_of = { λ k. kinds.Sequence k.settings };
+
+    ghost state_of = { states.Sequence };
+
+    ghost model = { λ k. slots k.settings };
 
     ghost seen = { λ slot. slot };
 
-    ghost acts = { λ k. record { first = refl; never_due = λ slots. refl; start = λ now world slots. refl; stop = λ now world slots. refl; act = λ act now world slots. refl } };
+    ghost steps = { λ k. record { first = refl; never_due = λ slots. refl; step = λ call now world slots. refl } };
 
-    fn of_row(settings: &Settings) -> Option<Self> {
+    fn of_settings(settings: &Settings) -> Option<Self> {
         match *settings {
             Settings::Sequence(settings) => Some(SequenceKind { settings }),
             _ => None,
         }
     }
 
-    fn state(&self, slots: &[SequenceSlot; 4]) -> DeviceState {
+    fn state(slots: &[SequenceSlot; 4]) -> DeviceState {
         DeviceState::Sequence(*slots)
     }
 
@@ -68,11 +74,11 @@ impl SlotKind for SequenceKind {
             Act::Step(i) => take_step(&self.settings, slot, i),
             Act::Enable => {
                 slot.enabled = true;
-                silent()
+                Outcome::new()
             }
             Act::Disable => {
                 slot.enabled = false;
-                silent()
+                Outcome::new()
             }
             Act::Reset => {
                 slot.next = 0;
@@ -83,7 +89,7 @@ impl SlotKind for SequenceKind {
                 slot.enabled = true;
                 reset()
             }
-            _ => silent(),
+            _ => Outcome::new(),
         }
     }
 }
@@ -118,7 +124,7 @@ fn take_step(settings: &StepSettings, slot: &mut SequenceSlot, i: usize) -> Outc
     ensures outcome { result.items ≡ (slot_step settings.now (acts.Step i) slot.old).1 }
 {
     if !slot.enabled || i != slot.next || i >= settings.steps {
-        return silent();
+        return Outcome::new();
     }
     slot.next = i + 1;
     stepped(settings, slot)

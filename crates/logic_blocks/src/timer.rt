@@ -7,7 +7,7 @@ ghost use Rattle.plan_tables.specs.declared.devices.Act.TheVariants as acts;
 ghost use Rattle.device_objects.specs.declared.device.Call.TheVariants as calls;
 ghost use Rattle.plan_tables.specs.declared.devices.Settings.TheVariants as kinds;
 
-use device_objects::outcome::{one, silent};
+use device_objects::outcome::one_list;
 use device_objects::values::{clamped, moved};
 use device_objects::{Device, DeviceState, Outcome, TimerState, World};
 use machine_settings::TimerSettings;
@@ -80,15 +80,15 @@ impl Device for Timer {
     fn start(&mut self, now: u64, _world: World) -> Outcome {
         self.state.value = self.settings.start;
         if !self.settings.start_running {
-            return silent();
+            return Outcome::new();
         }
         run(&self.settings, &mut self.state, now);
-        one(STARTED)
+        one_list(STARTED)
     }
 
     fn stop(&mut self, _now: u64, _world: World) -> Outcome {
         self.state.due = None;
-        silent()
+        Outcome::new()
     }
 
     fn fire(&mut self, now: u64, _world: World) -> Outcome {
@@ -114,7 +114,7 @@ fn complete(settings: &TimerSettings, state: &mut TimerState, now: u64) -> Outco
     ensures state { state.new ≡ (completed settings.now now state.old).0 }
     ensures outcome { result.items ≡ (completed settings.now now state.old).1 }
 {
-    let mut lists = one(COMPLETE);
+    let mut lists = one_list(COMPLETE);
     if settings.restart {
         state.value = settings.start;
         run(settings, state, now);
@@ -135,7 +135,7 @@ fn change(settings: &TimerSettings, state: &mut TimerState, value: i128, now: u6
     if state.due.is_some() && settings.direction.is_at_end(settings.end, state.value) {
         complete(settings, state, now)
     } else {
-        silent()
+        Outcome::new()
     }
 }
 
@@ -146,7 +146,7 @@ fn tick(settings: &TimerSettings, state: &mut TimerState, now: u64) -> Outcome
     ensures outcome { result.items ≡ (timer_step settings.now calls.Fire now state.old).1 }
 {
     state.value = moved(settings.direction, 1, state.value);
-    let mut lists = one(TICK);
+    let mut lists = one_list(TICK);
     if settings.direction.is_at_end(settings.end, state.value) {
         lists.push(COMPLETE);
         complete(settings, state, now);
@@ -166,10 +166,10 @@ fn start(settings: &TimerSettings, state: &mut TimerState, now: u64) -> Outcome
     ensures outcome { result.items ≡ (act_step settings.now acts.Start now state.old).1 }
 {
     if state.due.is_some() {
-        return silent();
+        return Outcome::new();
     }
     run(settings, state, now);
-    one(STARTED)
+    one_list(STARTED)
 }
 
 /// The timer stops running, if it runs, and this list is answered.
@@ -179,7 +179,7 @@ fn halt(state: &mut TimerState, list: u16) -> Outcome
 {
     let runs = state.due.is_some();
     state.due = None;
-    if runs { one(list) } else { silent() }
+    if runs { one_list(list) } else { Outcome::new() }
 }
 
 /// What an act does to a timer.
@@ -194,12 +194,12 @@ fn step(settings: &TimerSettings, state: &mut TimerState, act: Act, now: u64) ->
         Act::Pause => halt(state, PAUSED),
         Act::Reset => {
             state.value = settings.start;
-            silent()
+            Outcome::new()
         }
         Act::Restart => {
             state.value = settings.start;
             run(settings, state, now);
-            one(STARTED)
+            one_list(STARTED)
         }
         Act::Add(n) => change(
             settings,
@@ -214,6 +214,6 @@ fn step(settings: &TimerSettings, state: &mut TimerState, act: Act, now: u64) ->
             now,
         ),
         Act::Jump(n) => change(settings, state, i128::from(n), now),
-        _ => silent(),
+        _ => Outcome::new(),
     }
 }

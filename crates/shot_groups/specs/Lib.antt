@@ -1,5 +1,4 @@
 pub mod Kind
-pub mod Slots
 pub mod Mask
 -- what the contracts of private functions cite, and no public one
 pub mod Hit

@@ -1,10 +1,6 @@
 -- What is seen of a bank of shots that keeps as bits which shots are enabled.
-use Rattle.std.specs.Prelude.{List, map}
 use Rattle.device_objects.specs.{declared.state.BankSlot.BankSlot, Flags.flags}
 use Rattle.shot_groups.specs.declared.mask_bank.MaskSlot.{MaskSlot}
 
 abbrev pub slot_of : MaskSlot → BankSlot
 slot_of slot = record { game = slot.game; enabled = flags slot.enabled; states = slot.states }
-
-abbrev pub slots_of : List MaskSlot → List BankSlot
-slots_of slots = map slot_of slots

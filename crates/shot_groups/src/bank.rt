@@ -13,9 +13,11 @@ use plan_tables::{Act, BankSettings, Settings};
 
 /// A bank of shots: each hit of a shot runs the lists of its state, and can move the shot on. A group
 /// is complete when a hit brings its last shot to the state that the others have.
+///
+/// `new` gives none for a row with more than 16 shots or 16 states. No plan has one.
 pub type ShotBank = Slotted<BankKind>;
 
-/// The settings of a bank with at most 16 shots and 16 states. No plan has a larger one.
+/// The kind of [`ShotBank`]: its settings.
 #[derive(Clone, Copy)]
 pub struct BankKind {
     settings: BankSettings,
@@ -24,7 +26,9 @@ pub struct BankKind {
 
 impl SlotKind for BankKind {
     ghost use Rattle.std.specs.Prelude.{refl};
-    ghost use Rattle.shot_groups.specs.{Kind.IsBank, Slots.bank_slots};
+    ghost use Rattle.device_objects.specs.Bank.{slots};
+    ghost use Rattle.device_objects.specs.declared.state.DeviceState.TheVariants as states;
+    ghost use Rattle.shot_groups.specs.Kind.{IsBank};
 
     type Slot = BankSlot;
 
@@ -32,20 +36,24 @@ impl SlotKind for BankKind {
 
     ghost IsOfKind = { IsBank };
 
-    ghost model = { λ k. bank_slots k.settings };
+    ghost settings_of = { λ k. kinds.Bank k.settings };
+
+    ghost state_of = { states.Bank };
+
+    ghost model = { λ k. slots k.settings };
 
     ghost seen = { λ slot. slot };
 
-    ghost acts = { λ k. record { first = refl; never_due = λ slots. refl; start = λ now world slots. refl; stop = λ now world slots. refl; act = λ act now world slots. refl } };
+    ghost steps = { λ k. record { first = refl; never_due = λ slots. refl; step = λ call now world slots. refl } };
 
-    fn of_row(settings: &Settings) -> Option<Self> {
+    fn of_settings(settings: &Settings) -> Option<Self> {
         match *settings {
             Settings::Bank(settings) if is_within(&settings) => Some(BankKind { settings }),
             _ => None,
         }
     }
 
-    fn state(&self, slots: &[BankSlot; 4]) -> DeviceState {
+    fn state(slots: &[BankSlot; 4]) -> DeviceState {
         DeviceState::Bank(*slots)
     }
 

@@ -17,16 +17,18 @@ use plan_tables::{Act, BankSettings, Settings};
 
 /// A bank of shots that keeps as bits which shots are enabled. Its row and its calls are those of
 /// [`ShotBank`](crate::ShotBank), and it can take the place of one in any state.
+///
+/// `new` gives none for a row with more than 16 shots or 16 states. No plan has one.
 pub type MaskBank = Slotted<MaskBankKind>;
 
-/// The settings of a bank with at most 16 shots and 16 states. No plan has a larger one.
+/// The kind of [`MaskBank`]: its settings.
 #[derive(Clone, Copy)]
 pub struct MaskBankKind {
     settings: BankSettings,
     ghost limits: { IsWithinLimits (kinds.Bank settings) },
 }
 
-/// What it remembers for one player.
+/// What a [`MaskBank`] keeps for one player.
 #[derive(Clone, Copy)]
 pub struct MaskSlot {
     /// The game to which it belongs, as in [`BankSlot`].
@@ -39,7 +41,9 @@ pub struct MaskSlot {
 
 impl SlotKind for MaskBankKind {
     ghost use Rattle.std.specs.Prelude.{refl};
-    ghost use Rattle.shot_groups.specs.{Kind.IsBank, Slots.bank_slots};
+    ghost use Rattle.device_objects.specs.Bank.{slots};
+    ghost use Rattle.device_objects.specs.declared.state.DeviceState.TheVariants as states;
+    ghost use Rattle.shot_groups.specs.Kind.{IsBank};
 
     type Slot = MaskSlot;
 
@@ -47,20 +51,24 @@ impl SlotKind for MaskBankKind {
 
     ghost IsOfKind = { IsBank };
 
-    ghost model = { λ k. bank_slots k.settings };
+    ghost settings_of = { λ k. kinds.Bank k.settings };
+
+    ghost state_of = { states.Bank };
+
+    ghost model = { λ k. slots k.settings };
 
     ghost seen = { slot_of };
 
-    ghost acts = { λ k. record { first = refl; never_due = λ slots. refl; start = λ now world slots. refl; stop = λ now world slots. refl; act = λ act now world slots. refl } };
+    ghost steps = { λ k. record { first = refl; never_due = λ slots. refl; step = λ call now world slots. refl } };
 
-    fn of_row(settings: &Settings) -> Option<Self> {
+    fn of_settings(settings: &Settings) -> Option<Self> {
         match *settings {
             Settings::Bank(settings) if is_within(&settings) => Some(MaskBankKind { settings }),
             _ => None,
         }
     }
 
-    fn state(&self, slots: &[MaskSlot; 4]) -> DeviceState {
+    fn state(slots: &[MaskSlot; 4]) -> DeviceState {
         DeviceState::Bank(seen(slots))
     }
 

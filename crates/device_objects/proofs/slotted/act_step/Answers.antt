@@ -1,6 +1,6 @@
 use Rattle.std.proofs.{Common.{◌≡◌, Some, slice_get, sym, ap, ◌∙◌}, lemmas.Option.slice_get-get_or}
-use Rattle.device_objects.{specs.{Slots.slot_in_use, Slotted.current}, proofs.Slots.seen-step}
-use Rattle.device_objects.proofs.slotted.step_in_use.Goals as goal
+use Rattle.device_objects.{specs.Slots.{slot_in_use, current}, proofs.Slots.seen-step}
+use Rattle.device_objects.proofs.slotted.act_step.Goals as goal
 
 pub returns-in-Some-clause-slots : goal.returns-in-Some-clause-slots
 returns-in-Some-clause-slots g c =
