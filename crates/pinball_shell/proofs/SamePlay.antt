@@ -1,6 +1,5 @@
 -- The bound says only how many event steps there may be, and not what they do.
 use Rattle.std.proofs.Common.{rules, ◌≡◌, ℕ, zero, suc, ◌+◌, ◌<◌, ◌≤◌, ◌^◌, Option, Some, Result, Ok, List, [], ◌∷◌, ◌++◌, map, inl, inr, refl, ap, sym, ◌∙◌, subst, arith}
-use Rattle.std.specs.Str.Lines.{lines}
 use Rattle.plan_tables.specs.PlanView.{PlanView}
 use Rattle.written_machine.specs.{declared.line.Line.Line, CheckedView.CheckedView}
 use Rattle.written_machine.specs.{Machine.Machine, AlarmsBy.{alarms_by, state_after}, PlanOrder.settled}

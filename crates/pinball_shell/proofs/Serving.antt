@@ -1,12 +1,9 @@
 -- What a board has taken, one part after another.
 use Rattle.std.proofs.Common.{rules, ◌≡◌, ℕ, Option, Some, None, Ok, List, [], ◌∷◌, ◌++◌, map, inl, inr, refl, ap, sym, ◌∙◌, subst, append_assoc, append-nil}
-use Rattle.std.proofs.lemmas.Grind.{flat_map-append}
 use Rattle.plan_tables.specs.declared.entries.CoilId.{CoilId}
-use Rattle.coil_guard.specs.declared.{command.Command.{Command, TheVariants.Disable}, state.CoilState.CoilState}
-use Rattle.coil_guard.specs.Boards.{IsToldAfter}
+use Rattle.coil_guard.specs.{declared.command.Command.{Command, TheVariants.Disable}, Boards.IsToldAfter}
 use Rattle.written_machine.specs.declared.line.Line.{Line}
-use Rattle.coil_driver.specs.Board.{BoardView, HasTaken, HasTakenAll, command_of, commands_of, after_line, after_lines, TellsMore}
-use Rattle.coil_driver.specs.ShutDown.{ArePutOff}
+use Rattle.coil_driver.specs.{Board.{BoardView, HasTaken, commands_of, TellsMore}, ShutDown.ArePutOff}
 use Rattle.pin_rig.specs.Rig.{RigView}
 use Rattle.pinball_shell.specs.{RunOfLog.{Printed, Traced, Refused, traced}, Ends.{IsServed, IsHalted}}
 use Rattle.coil_driver.proofs.{Serving.{taken-append, taken-tells, commands-append}, Sending.after_lines-append}
