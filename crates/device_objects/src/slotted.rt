@@ -8,13 +8,13 @@ use crate::device::{Device, Outcome};
 use crate::shape::has_shape;
 use crate::slot::{is_of_other_game, slot_in_use};
 use crate::state::{DeviceState, World};
-use plan_tables::{Act, DeviceRow, Settings};
+use plan_tables::{Act, DeviceRow};
 
 /// A kind of device whose state is four slots: one for each player, or the first for all. Nothing of such a device is
 /// ever due.
 pub trait SlotKind: Copy + Drop {
     ghost use Rattle.std.specs.Prelude.{◌≡◌, ◌↔◌, ◌<◌, ◌^◌, List, map, IsSome, IfSome};
-    ghost use Rattle.plan_tables.specs.declared.devices.Settings.{Settings};
+    ghost use Rattle.plan_tables.specs.declared.devices.{DeviceRow.DeviceRow, Settings.Settings};
     ghost use Rattle.device_objects.specs.declared.state.DeviceState.{DeviceState};
     ghost use Rattle.device_objects.specs.{Slots.SlotModel, Slotted.StepsAreOfSlots};
 
@@ -27,8 +27,8 @@ pub trait SlotKind: Copy + Drop {
     /// Whether such a device can have these settings: they are of its kind, and within its limits.
     ghost IsOfKind: { Settings → Type 0 };
 
-    /// The settings, as a row has them.
-    ghost settings_of: { Self → Settings };
+    /// The row of the device.
+    ghost row_of: { Self → DeviceRow };
 
     /// The state that has these slots.
     ghost state_of: { List Self.Seen → DeviceState };
@@ -39,10 +39,14 @@ pub trait SlotKind: Copy + Drop {
     /// What is seen of a slot.
     ghost seen: { Self.Slot → Self.Seen };
 
-    /// The kind with these settings. None exactly where such a device cannot have them.
-    fn of_settings(settings: &Settings) -> Option<Self>
-        ensures kind { IsSome result ↔ IsOfKind settings.now }
-        ensures settings { IfSome result (λ k. settings_of k ≡ settings.now) };
+    /// The kind of a row. None exactly where such a device cannot have the settings of the row.
+    fn of_row(row: &DeviceRow) -> Option<Self>
+        ensures kind { IsSome result ↔ IsOfKind row.now.settings }
+        ensures row { IfSome result (λ k. row_of k ≡ row.now) };
+
+    /// The row of the device.
+    fn row(&self) -> DeviceRow
+        ensures { result ≡ row_of self.now };
 
     /// The state that has these slots.
     fn state(slots: &[Self::Slot; 4]) -> DeviceState
@@ -67,7 +71,7 @@ pub trait SlotKind: Copy + Drop {
         ensures outcome { result.items ≡ ((model self.now).step act now (seen slot.old)).1 };
 
     /// The state is slots, and each call is a step of them.
-    ghost steps: { (k : Self) → StepsAreOfSlots (settings_of k) state_of (model k) };
+    ghost steps: { (k : Self) → StepsAreOfSlots (row_of k).settings state_of (model k) };
 }
 
 /// A kind whose devices can be made in any state of the shape that their settings ask for.
@@ -77,17 +81,15 @@ pub trait Resume: SlotKind {
 
     /// The slots of a state. None only where the state is not of the shape that the settings ask for.
     fn slots_of(&self, state: &DeviceState) -> Option<[Self::Slot; 4]>
-        ensures shape { HasShape (Self.settings_of self.now) state.now → IsSome result }
+        ensures shape { HasShape (Self.row_of self.now).settings state.now → IsSome result }
         ensures state { IfSome result (λ slots. Self.state_of (map Self.seen slots) ≡ state.now) };
 }
 
 /// A device of kind `K`. Its state is four slots: one for each player, or the first for all.
 #[derive(Drop)]
 pub struct Slotted<K: SlotKind> {
-    row: DeviceRow,
     kind: K,
     slots: [K::Slot; 4],
-    ghost same_settings: { K.settings_of kind ≡ row.settings },
 }
 
 impl<K: SlotKind> Slotted<K> {
@@ -100,9 +102,8 @@ impl<K: SlotKind> Slotted<K> {
         ensures row { IfSome result (λ d. ⟦<Slotted<K> as Device>⟧.row_of d ≡ row.now) }
         ensures first { IfSome result (λ d. ⟦<Slotted<K> as Device>⟧.state_of d ≡ first_state row.now.settings) }
     {
-        let kind = K::of_settings(&row.settings)?;
+        let kind = K::of_row(row)?;
         Some(Slotted {
-            row: *row,
             kind,
             slots: [kind.first_slot(0); 4],
         })
@@ -120,12 +121,11 @@ impl<K: Resume> Slotted<K> {
         ensures row { IfSome result (λ d. ⟦<Slotted<K> as Device>⟧.row_of d ≡ row.now) }
         ensures state { IfSome result (λ d. ⟦<Slotted<K> as Device>⟧.state_of d ≡ state.now) }
     {
-        let kind = K::of_settings(&row.settings)?;
+        let kind = K::of_row(row)?;
         if !has_shape(&row.settings, state) {
             return None;
         }
         Some(Slotted {
-            row: *row,
             kind,
             slots: kind.slots_of(state)?,
         })
@@ -135,12 +135,12 @@ impl<K: Resume> Slotted<K> {
 impl<K: SlotKind> Device for Slotted<K> {
     ghost use Rattle.std.specs.Prelude.{◌≡◌, [], map};
 
-    ghost row_of = { λ d. d.row };
+    ghost row_of = { λ d. K.row_of d.kind };
 
     ghost state_of = { λ d. K.state_of (map K.seen d.slots) };
 
     fn row(&self) -> DeviceRow {
-        self.row
+        self.kind.row()
     }
 
     fn state(&self) -> DeviceState {

@@ -4,25 +4,28 @@ ghost use Rattle.std.specs.Prelude.{◌≡◌};
 ghost use Rattle.std.specs.List.{list_all};
 ghost use Rattle.device_objects.specs.Accrual.{is_step_open, are_all_done, completed, stepped, slot_step};
 ghost use Rattle.plan_tables.specs.declared.devices.Act.TheVariants as acts;
+ghost use Rattle.plan_tables.specs.declared.devices.Settings.TheVariants as kinds;
 
 use crate::lists::{hit, reset};
 use device_objects::slotted::{SlotKind, Slotted};
 use device_objects::{AccrualSlot, DeviceState, Outcome};
 use machine_settings::StepSettings;
-use plan_tables::{Act, Settings};
+use plan_tables::{Act, DeviceRow, Settings};
 
 /// An accrual: it completes when all its steps are done, in any order.
 pub type Accrual = Slotted<AccrualKind>;
 
-/// The kind of [`Accrual`]: its settings.
+/// The kind of [`Accrual`]: its row and its settings.
 #[derive(Clone, Copy)]
 pub struct AccrualKind {
+    row: DeviceRow,
     settings: StepSettings,
+    ghost kind: { row.settings ≡ kinds.Accrual settings },
 }
 
 impl SlotKind for AccrualKind {
-    ghost use Rattle.std.specs.Prelude.{refl};
-    ghost use Rattle.plan_tables.specs.declared.devices.Settings.TheVariants as kinds;
+    ghost use Rattle.std.proofs.Common.{refl, subst, sym};
+    ghost use Rattle.device_objects.specs.Slotted.{StepsAreOfSlots};
     ghost use Rattle.device_objects.specs.Accrual.{slots};
     ghost use Rattle.device_objects.specs.declared.state.DeviceState.TheVariants as states;
     ghost use Rattle.logic_blocks.specs.Kind.{IsAccrual};
@@ -33,7 +36,7 @@ impl SlotKind for AccrualKind {
 
     ghost IsOfKind = { IsAccrual };
 
-    ghost settings_of = { λ k. kinds.Accrual k.settings };
+    ghost row_of = { λ k. k.row };
 
     ghost state_of = { states.Accrual };
 
@@ -41,13 +44,20 @@ impl SlotKind for AccrualKind {
 
     ghost seen = { λ slot. slot };
 
-    ghost steps = { λ k. record { first = refl; never_due = λ slots. refl; step = λ call now world slots. refl } };
+    ghost steps = { λ k. subst (λ settings. StepsAreOfSlots settings states.Accrual (slots k.settings)) (sym k.kind) (record { first = refl; never_due = λ slots. refl; step = λ call now world slots. refl }) };
 
-    fn of_settings(settings: &Settings) -> Option<Self> {
-        match *settings {
-            Settings::Accrual(settings) => Some(AccrualKind { settings }),
+    fn of_row(row: &DeviceRow) -> Option<Self> {
+        match row.settings {
+            Settings::Accrual(settings) => Some(AccrualKind {
+                row: *row,
+                settings,
+            }),
             _ => None,
         }
+    }
+
+    fn row(&self) -> DeviceRow {
+        self.row
     }
 
     fn state(slots: &[AccrualSlot; 4]) -> DeviceState {

@@ -3,26 +3,29 @@
 ghost use Rattle.std.specs.Prelude.{◌≡◌, ◌<◌, ◌^◌};
 ghost use Rattle.device_objects.specs.Counter.{is_early, completed, counted, slot_step};
 ghost use Rattle.plan_tables.specs.declared.devices.Act.TheVariants as acts;
+ghost use Rattle.plan_tables.specs.declared.devices.Settings.TheVariants as kinds;
 
 use crate::lists::{hit, reset};
 use device_objects::slotted::{SlotKind, Slotted};
 use device_objects::values::moved;
 use device_objects::{CounterSlot, DeviceState, Outcome};
 use machine_settings::CounterSettings;
-use plan_tables::{Act, Settings};
+use plan_tables::{Act, DeviceRow, Settings};
 
 /// A counter: it counts hits, and completes when its value reaches or passes the one that is set.
 pub type Counter = Slotted<CounterKind>;
 
-/// The kind of [`Counter`]: its settings.
+/// The kind of [`Counter`]: its row and its settings.
 #[derive(Clone, Copy)]
 pub struct CounterKind {
+    row: DeviceRow,
     settings: CounterSettings,
+    ghost kind: { row.settings ≡ kinds.Counter settings },
 }
 
 impl SlotKind for CounterKind {
-    ghost use Rattle.std.specs.Prelude.{refl};
-    ghost use Rattle.plan_tables.specs.declared.devices.Settings.TheVariants as kinds;
+    ghost use Rattle.std.proofs.Common.{refl, subst, sym};
+    ghost use Rattle.device_objects.specs.Slotted.{StepsAreOfSlots};
     ghost use Rattle.device_objects.specs.Counter.{slots};
     ghost use Rattle.device_objects.specs.declared.state.DeviceState.TheVariants as states;
     ghost use Rattle.logic_blocks.specs.Kind.{IsCounter};
@@ -33,7 +36,7 @@ impl SlotKind for CounterKind {
 
     ghost IsOfKind = { IsCounter };
 
-    ghost settings_of = { λ k. kinds.Counter k.settings };
+    ghost row_of = { λ k. k.row };
 
     ghost state_of = { states.Counter };
 
@@ -41,13 +44,20 @@ impl SlotKind for CounterKind {
 
     ghost seen = { λ slot. slot };
 
-    ghost steps = { λ k. record { first = refl; never_due = λ slots. refl; step = λ call now world slots. refl } };
+    ghost steps = { λ k. subst (λ settings. StepsAreOfSlots settings states.Counter (slots k.settings)) (sym k.kind) (record { first = refl; never_due = λ slots. refl; step = λ call now world slots. refl }) };
 
-    fn of_settings(settings: &Settings) -> Option<Self> {
-        match *settings {
-            Settings::Counter(settings) => Some(CounterKind { settings }),
+    fn of_row(row: &DeviceRow) -> Option<Self> {
+        match row.settings {
+            Settings::Counter(settings) => Some(CounterKind {
+                row: *row,
+                settings,
+            }),
             _ => None,
         }
+    }
+
+    fn row(&self) -> DeviceRow {
+        self.row
     }
 
     fn state(slots: &[CounterSlot; 4]) -> DeviceState {

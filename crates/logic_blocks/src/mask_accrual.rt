@@ -5,22 +5,25 @@ ghost use Rattle.device_objects.specs.Accrual.{completed, is_step_open, slot_ste
 ghost use Rattle.device_objects.specs.Flags.{flags};
 ghost use Rattle.logic_blocks.specs.Mask.{slot_of};
 ghost use Rattle.plan_tables.specs.declared.devices.Act.TheVariants as acts;
+ghost use Rattle.plan_tables.specs.declared.devices.Settings.TheVariants as kinds;
 
 use crate::lists::{hit, reset};
 use device_objects::flags::{are_set, flags_of, is_set, mask_of, with_flag};
 use device_objects::slotted::{Resume, SlotKind, Slotted};
 use device_objects::{AccrualSlot, DeviceState, Outcome};
 use machine_settings::StepSettings;
-use plan_tables::{Act, Settings};
+use plan_tables::{Act, DeviceRow, Settings};
 
 /// An accrual that keeps which steps are done as bits. Its row and its calls are those of
 /// [`Accrual`](crate::Accrual), and it can take the place of one in any state.
 pub type MaskAccrual = Slotted<MaskAccrualKind>;
 
-/// The kind of [`MaskAccrual`]: its settings.
+/// The kind of [`MaskAccrual`]: its row and its settings.
 #[derive(Clone, Copy)]
 pub struct MaskAccrualKind {
+    row: DeviceRow,
     settings: StepSettings,
+    ghost kind: { row.settings ≡ kinds.Accrual settings },
 }
 
 /// What a [`MaskAccrual`] keeps for one player, or for all.
@@ -35,8 +38,8 @@ pub struct MaskSlot {
 }
 
 impl SlotKind for MaskAccrualKind {
-    ghost use Rattle.std.specs.Prelude.{refl};
-    ghost use Rattle.plan_tables.specs.declared.devices.Settings.TheVariants as kinds;
+    ghost use Rattle.std.proofs.Common.{refl, subst, sym};
+    ghost use Rattle.device_objects.specs.Slotted.{StepsAreOfSlots};
     ghost use Rattle.device_objects.specs.Accrual.{slots};
     ghost use Rattle.device_objects.specs.declared.state.DeviceState.TheVariants as states;
     ghost use Rattle.logic_blocks.specs.Kind.{IsAccrual};
@@ -47,7 +50,7 @@ impl SlotKind for MaskAccrualKind {
 
     ghost IsOfKind = { IsAccrual };
 
-    ghost settings_of = { λ k. kinds.Accrual k.settings };
+    ghost row_of = { λ k. k.row };
 
     ghost state_of = { states.Accrual };
 
@@ -55,13 +58,20 @@ impl SlotKind for MaskAccrualKind {
 
     ghost seen = { slot_of };
 
-    ghost steps = { λ k. record { first = refl; never_due = λ slots. refl; step = λ call now world slots. refl } };
+    ghost steps = { λ k. subst (λ settings. StepsAreOfSlots settings states.Accrual (slots k.settings)) (sym k.kind) (record { first = refl; never_due = λ slots. refl; step = λ call now world slots. refl }) };
 
-    fn of_settings(settings: &Settings) -> Option<Self> {
-        match *settings {
-            Settings::Accrual(settings) => Some(MaskAccrualKind { settings }),
+    fn of_row(row: &DeviceRow) -> Option<Self> {
+        match row.settings {
+            Settings::Accrual(settings) => Some(MaskAccrualKind {
+                row: *row,
+                settings,
+            }),
             _ => None,
         }
+    }
+
+    fn row(&self) -> DeviceRow {
+        self.row
     }
 
     fn state(slots: &[MaskSlot; 4]) -> DeviceState {

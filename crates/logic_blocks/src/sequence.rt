@@ -3,25 +3,28 @@
 ghost use Rattle.std.specs.Prelude.{◌≡◌};
 ghost use Rattle.device_objects.specs.Sequence.{completed, stepped, slot_step};
 ghost use Rattle.plan_tables.specs.declared.devices.Act.TheVariants as acts;
+ghost use Rattle.plan_tables.specs.declared.devices.Settings.TheVariants as kinds;
 
 use crate::lists::{hit, reset};
 use device_objects::slotted::{SlotKind, Slotted};
 use device_objects::{DeviceState, Outcome, SequenceSlot};
 use machine_settings::StepSettings;
-use plan_tables::{Act, Settings};
+use plan_tables::{Act, DeviceRow, Settings};
 
 /// A sequence: it completes when all its steps are done, each after the one before.
 pub type Sequence = Slotted<SequenceKind>;
 
-/// The kind of [`Sequence`]: its settings.
+/// The kind of [`Sequence`]: its row and its settings.
 #[derive(Clone, Copy)]
 pub struct SequenceKind {
+    row: DeviceRow,
     settings: StepSettings,
+    ghost kind: { row.settings ≡ kinds.Sequence settings },
 }
 
 impl SlotKind for SequenceKind {
-    ghost use Rattle.std.specs.Prelude.{refl};
-    ghost use Rattle.plan_tables.specs.declared.devices.Settings.TheVariants as kinds;
+    ghost use Rattle.std.proofs.Common.{refl, subst, sym};
+    ghost use Rattle.device_objects.specs.Slotted.{StepsAreOfSlots};
     ghost use Rattle.device_objects.specs.Sequence.{slots};
     ghost use Rattle.device_objects.specs.declared.state.DeviceState.TheVariants as states;
     ghost use Rattle.logic_blocks.specs.Kind.{IsSequence};
@@ -32,7 +35,7 @@ impl SlotKind for SequenceKind {
 
     ghost IsOfKind = { IsSequence };
 
-    ghost settings_of = { λ k. kinds.Sequence k.settings };
+    ghost row_of = { λ k. k.row };
 
     ghost state_of = { states.Sequence };
 
@@ -40,13 +43,20 @@ impl SlotKind for SequenceKind {
 
     ghost seen = { λ slot. slot };
 
-    ghost steps = { λ k. record { first = refl; never_due = λ slots. refl; step = λ call now world slots. refl } };
+    ghost steps = { λ k. subst (λ settings. StepsAreOfSlots settings states.Sequence (slots k.settings)) (sym k.kind) (record { first = refl; never_due = λ slots. refl; step = λ call now world slots. refl }) };
 
-    fn of_settings(settings: &Settings) -> Option<Self> {
-        match *settings {
-            Settings::Sequence(settings) => Some(SequenceKind { settings }),
+    fn of_row(row: &DeviceRow) -> Option<Self> {
+        match row.settings {
+            Settings::Sequence(settings) => Some(SequenceKind {
+                row: *row,
+                settings,
+            }),
             _ => None,
         }
+    }
+
+    fn row(&self) -> DeviceRow {
+        self.row
     }
 
     fn state(slots: &[SequenceSlot; 4]) -> DeviceState {

@@ -9,7 +9,7 @@ ghost use Rattle.device_objects.specs.Bank.{advance_where, slot_step};
 use crate::shots::{go_on, hit, rotate_left, rotate_right};
 use device_objects::slotted::{SlotKind, Slotted};
 use device_objects::{BankSlot, DeviceState, Outcome};
-use plan_tables::{Act, BankSettings, Settings};
+use plan_tables::{Act, BankSettings, DeviceRow, Settings};
 
 /// A bank of shots: each hit of a shot runs the lists of its state, and can move the shot on. A group
 /// is complete when a hit brings its last shot to the state that the others have.
@@ -17,15 +17,18 @@ use plan_tables::{Act, BankSettings, Settings};
 /// `new` gives none for a row with more than 16 shots or 16 states. No plan has one.
 pub type ShotBank = Slotted<BankKind>;
 
-/// The kind of [`ShotBank`]: its settings.
+/// The kind of [`ShotBank`]: its row and its settings.
 #[derive(Clone, Copy)]
 pub struct BankKind {
+    row: DeviceRow,
     settings: BankSettings,
+    ghost kind: { row.settings ≡ kinds.Bank settings },
     ghost limits: { IsWithinLimits (kinds.Bank settings) },
 }
 
 impl SlotKind for BankKind {
-    ghost use Rattle.std.specs.Prelude.{refl};
+    ghost use Rattle.std.proofs.Common.{refl, subst, sym};
+    ghost use Rattle.device_objects.specs.Slotted.{StepsAreOfSlots};
     ghost use Rattle.device_objects.specs.Bank.{slots};
     ghost use Rattle.device_objects.specs.declared.state.DeviceState.TheVariants as states;
     ghost use Rattle.shot_groups.specs.Kind.{IsBank};
@@ -36,7 +39,7 @@ impl SlotKind for BankKind {
 
     ghost IsOfKind = { IsBank };
 
-    ghost settings_of = { λ k. kinds.Bank k.settings };
+    ghost row_of = { λ k. k.row };
 
     ghost state_of = { states.Bank };
 
@@ -44,13 +47,20 @@ impl SlotKind for BankKind {
 
     ghost seen = { λ slot. slot };
 
-    ghost steps = { λ k. record { first = refl; never_due = λ slots. refl; step = λ call now world slots. refl } };
+    ghost steps = { λ k. subst (λ settings. StepsAreOfSlots settings states.Bank (slots k.settings)) (sym k.kind) (record { first = refl; never_due = λ slots. refl; step = λ call now world slots. refl }) };
 
-    fn of_settings(settings: &Settings) -> Option<Self> {
-        match *settings {
-            Settings::Bank(settings) if is_within(&settings) => Some(BankKind { settings }),
+    fn of_row(row: &DeviceRow) -> Option<Self> {
+        match row.settings {
+            Settings::Bank(settings) if is_within(&settings) => Some(BankKind {
+                row: *row,
+                settings,
+            }),
             _ => None,
         }
+    }
+
+    fn row(&self) -> DeviceRow {
+        self.row
     }
 
     fn state(slots: &[BankSlot; 4]) -> DeviceState {

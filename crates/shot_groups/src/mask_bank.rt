@@ -13,7 +13,7 @@ use crate::shots::{go_on, hit, rotate_left, rotate_right};
 use device_objects::flags::{flags_of, is_set, mask_of, with_flag};
 use device_objects::slotted::{Resume, SlotKind, Slotted};
 use device_objects::{BankSlot, DeviceState, Outcome};
-use plan_tables::{Act, BankSettings, Settings};
+use plan_tables::{Act, BankSettings, DeviceRow, Settings};
 
 /// A bank of shots that keeps as bits which shots are enabled. Its row and its calls are those of
 /// [`ShotBank`](crate::ShotBank), and it can take the place of one in any state.
@@ -21,10 +21,12 @@ use plan_tables::{Act, BankSettings, Settings};
 /// `new` gives none for a row with more than 16 shots or 16 states. No plan has one.
 pub type MaskBank = Slotted<MaskBankKind>;
 
-/// The kind of [`MaskBank`]: its settings.
+/// The kind of [`MaskBank`]: its row and its settings.
 #[derive(Clone, Copy)]
 pub struct MaskBankKind {
+    row: DeviceRow,
     settings: BankSettings,
+    ghost kind: { row.settings ≡ kinds.Bank settings },
     ghost limits: { IsWithinLimits (kinds.Bank settings) },
 }
 
@@ -40,7 +42,8 @@ pub struct MaskSlot {
 }
 
 impl SlotKind for MaskBankKind {
-    ghost use Rattle.std.specs.Prelude.{refl};
+    ghost use Rattle.std.proofs.Common.{refl, subst, sym};
+    ghost use Rattle.device_objects.specs.Slotted.{StepsAreOfSlots};
     ghost use Rattle.device_objects.specs.Bank.{slots};
     ghost use Rattle.device_objects.specs.declared.state.DeviceState.TheVariants as states;
     ghost use Rattle.shot_groups.specs.Kind.{IsBank};
@@ -51,7 +54,7 @@ impl SlotKind for MaskBankKind {
 
     ghost IsOfKind = { IsBank };
 
-    ghost settings_of = { λ k. kinds.Bank k.settings };
+    ghost row_of = { λ k. k.row };
 
     ghost state_of = { states.Bank };
 
@@ -59,13 +62,20 @@ impl SlotKind for MaskBankKind {
 
     ghost seen = { slot_of };
 
-    ghost steps = { λ k. record { first = refl; never_due = λ slots. refl; step = λ call now world slots. refl } };
+    ghost steps = { λ k. subst (λ settings. StepsAreOfSlots settings states.Bank (slots k.settings)) (sym k.kind) (record { first = refl; never_due = λ slots. refl; step = λ call now world slots. refl }) };
 
-    fn of_settings(settings: &Settings) -> Option<Self> {
-        match *settings {
-            Settings::Bank(settings) if is_within(&settings) => Some(MaskBankKind { settings }),
+    fn of_row(row: &DeviceRow) -> Option<Self> {
+        match row.settings {
+            Settings::Bank(settings) if is_within(&settings) => Some(MaskBankKind {
+                row: *row,
+                settings,
+            }),
             _ => None,
         }
+    }
+
+    fn row(&self) -> DeviceRow {
+        self.row
     }
 
     fn state(slots: &[MaskSlot; 4]) -> DeviceState {
