@@ -1,2 +1,4 @@
 pub mod Kind
+-- what proves the laws of the kinds; no contract cites it
+pub mod Steps
 pub mod Mask

@@ -38,11 +38,9 @@ pub struct MaskSlot {
 }
 
 impl SlotKind for MaskAccrualKind {
-    ghost use Rattle.std.proofs.Common.{refl, subst, sym};
-    ghost use Rattle.device_objects.specs.Slotted.{StepsAreOfSlots};
     ghost use Rattle.device_objects.specs.Accrual.{slots};
     ghost use Rattle.device_objects.specs.declared.state.DeviceState.TheVariants as states;
-    ghost use Rattle.logic_blocks.specs.Kind.{IsAccrual};
+    ghost use Rattle.logic_blocks.specs.{Kind.IsAccrual, Steps.accrual_steps};
 
     type Slot = MaskSlot;
 
@@ -58,7 +56,7 @@ impl SlotKind for MaskAccrualKind {
 
     ghost seen = { slot_of };
 
-    ghost steps = { λ k. subst (λ settings. StepsAreOfSlots settings states.Accrual (slots k.settings)) (sym k.kind) (record { first = refl; never_due = λ slots. refl; step = λ call now world slots. refl }) };
+    ghost steps = { λ k. accrual_steps k.row.settings k.settings k.kind };
 
     fn of_row(row: &DeviceRow) -> Option<Self> {
         match row.settings {

@@ -23,11 +23,9 @@ pub struct SequenceKind {
 }
 
 impl SlotKind for SequenceKind {
-    ghost use Rattle.std.proofs.Common.{refl, subst, sym};
-    ghost use Rattle.device_objects.specs.Slotted.{StepsAreOfSlots};
     ghost use Rattle.device_objects.specs.Sequence.{slots};
     ghost use Rattle.device_objects.specs.declared.state.DeviceState.TheVariants as states;
-    ghost use Rattle.logic_blocks.specs.Kind.{IsSequence};
+    ghost use Rattle.logic_blocks.specs.{Kind.IsSequence, Steps.sequence_steps};
 
     type Slot = SequenceSlot;
 
@@ -43,7 +41,7 @@ impl SlotKind for SequenceKind {
 
     ghost seen = { λ slot. slot };
 
-    ghost steps = { λ k. subst (λ settings. StepsAreOfSlots settings states.Sequence (slots k.settings)) (sym k.kind) (record { first = refl; never_due = λ slots. refl; step = λ call now world slots. refl }) };
+    ghost steps = { λ k. sequence_steps k.row.settings k.settings k.kind };
 
     fn of_row(row: &DeviceRow) -> Option<Self> {
         match row.settings {

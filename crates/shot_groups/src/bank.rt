@@ -27,11 +27,9 @@ pub struct BankKind {
 }
 
 impl SlotKind for BankKind {
-    ghost use Rattle.std.proofs.Common.{refl, subst, sym};
-    ghost use Rattle.device_objects.specs.Slotted.{StepsAreOfSlots};
     ghost use Rattle.device_objects.specs.Bank.{slots};
     ghost use Rattle.device_objects.specs.declared.state.DeviceState.TheVariants as states;
-    ghost use Rattle.shot_groups.specs.Kind.{IsBank};
+    ghost use Rattle.shot_groups.specs.{Kind.IsBank, Steps.bank_steps};
 
     type Slot = BankSlot;
 
@@ -47,7 +45,7 @@ impl SlotKind for BankKind {
 
     ghost seen = { λ slot. slot };
 
-    ghost steps = { λ k. subst (λ settings. StepsAreOfSlots settings states.Bank (slots k.settings)) (sym k.kind) (record { first = refl; never_due = λ slots. refl; step = λ call now world slots. refl }) };
+    ghost steps = { λ k. bank_steps k.row.settings k.settings k.kind };
 
     fn of_row(row: &DeviceRow) -> Option<Self> {
         match row.settings {
