@@ -1,7 +1,7 @@
 -- The events of a plan's game, and what they can post.
-use Rattle.std.proofs.Common.{◌≡◌, ◌∙◌, ap, ℕ, suc, ◌<◌, ◌≤◌, nat_le, Bool, true, List, [], ◌∷◌, length, map, get_or, Option, arith, rules}
-use Rattle.std.{specs.{Prelude.IfSome, List.list_all}, proofs.lemmas.Bool.{cases_lt, leb-true}}
-use Rattle.std.proofs.lemmas.List.{get_or_past, get_or-map, length-map, Sums.AllPass-from_list_all, Elements.All-get_or}
+use Rattle.std.proofs.Common.{◌≡◌, ℕ, suc, ◌<◌, ◌≤◌, nat_le, Bool, true, List, [], ◌∷◌, length, Option, rules}
+use Rattle.std.{specs.{Prelude.IfSome, List.{All, list_all}}, proofs.lemmas.Bool.{cases_lt, leb-true}}
+use Rattle.std.proofs.lemmas.List.{get_or_past, Sums.AllPass-from_list_all, Elements.{All-get_or, All-from_get_or}}
 use Rattle.plan_tables.specs.PlanView.{PlanMode, PlanView, event_of_game, game_event, which_event, work_from, work_of, work_or}
 use Rattle.plan_tables.specs.Valid.{HasEntries, IsGameWithin}
 use Rattle.plan_tables.specs.declared.entries.{EventId.EventId, ModeEvent.ModeEvent, Work.Work}
@@ -49,10 +49,6 @@ are_few ways = list_all (λ posts. nat_le (length posts) 2) ways
 choices_are_few : (which : GameEvent) → are_few (choices which) ≡ true
 choices_are_few which = search rules
 
--- the ways as they are given: by none does it post more than two events
-pub choice-few : {X : Type 0} (items : X → List GameEvent) (which : GameEvent) (ways : List X) (i : ℕ) (d : X) → map items ways ≡ choices which → i < length ways → length (items (get_or ways i d)) ≤ 2
-choice-few items which ways i d are within =
-    let listed : i < length (map items ways) = omega (arith, within, length-map ways items) in
-    let all = AllPass-from_list_all (λ (posts : List GameEvent). nat_le (length posts) 2) (map items ways) (ap are_few are ∙ choices_are_few which) in
-    let few = leb-true (length (get_or (map items ways) i (items d))) 2 (all i (items d) listed) in
-    omega (arith, few, ap length (get_or-map items ways i d (items d) within))
+-- by none of its ways does it post more than two events
+pub choices-few : (which : GameEvent) → All (λ posts. length posts ≤ 2) (choices which)
+choices-few which = search (rules, choices_are_few, AllPass-from_list_all, All-from_get_or, leb-true)

@@ -1,9 +1,11 @@
 pub mod Events
 pub mod Limits
 pub mod Prices
+pub mod Alike
 pub mod Outcomes
 pub mod Rows
 pub mod Games
+pub mod Small
 pub mod Within
 pub mod Switches
 pub mod Places

@@ -1,11 +1,10 @@
 -- What a call of a device can answer, answer by answer.
-use Rattle.std.proofs.Common.{rules, ◌≡◌, ℕ, ◌<◌, ◌≤◌, List, [], ◌∷◌, length, map, take, get_or, refl, sym, ap, ◌∙◌, subst, arith, take_all}
+use Rattle.std.proofs.Common.{◌≡◌, ℕ, ◌<◌, List, [], ◌∷◌, length, map, get_or, refl, sym, ap, ◌∙◌, subst, arith}
 use Rattle.std.{specs.List.All, proofs.lemmas.List.{length-map, get_or-map, Elements.All-get_or}}
-use Rattle.plan_tables.specs.{PlanView.{PlanView, row_at}, Devices.list_count, declared.entries.EventId.EventId}
+use Rattle.plan_tables.specs.{PlanView.{PlanView, row_at}, Devices.list_count}
 use Rattle.plan_tables.specs.declared.devices.{RowId.RowId, Telling.Telling, DeviceRow.DeviceRow}
 use Rattle.device_objects.{specs.{declared.device.Call.Call, Outcomes.outcomes}, proofs.Lists.outcomes_of_row}
-use Rattle.cascade_rank.specs.Cost.{Cost, Greater, price, each_of, dearest_of, cost_of_answer_by, cost_of_call_by}
-use Rattle.cascade_rank.{specs.Mentions.weights_in, proofs.{Places.each_of-map, Posted.weights-dearest}}
+use Rattle.cascade_rank.specs.Cost.{Cost, Greater, dearest_of, cost_of_answer_by, cost_of_call_by}
 
 dearest_of-map : {X Y : Type 0} (f : Y → Cost) (g : X → Y) (xs : List X) → dearest_of (λ x. f (g x)) xs ≡ dearest_of f (map g xs)
 dearest_of-map f g [] = refl
@@ -20,18 +19,9 @@ module _ {X : Type 0} (items : X → List ℕ) (plan : PlanView) (r : RowId) (ca
       subst (All (λ k. k < list_count (row_at plan r).settings)) (get_or-map items answers i d (items d) l)
       (All-get_or (All (λ k. k < list_count (row_at plan r).settings)) (map items answers) i (items d) listed whole)
 
-  module _ (tell : Telling → Cost) where
-    answers-price : (w : EventId → ℕ) → price w (dearest_of (λ a. cost_of_answer_by plan tell r (items a)) answers) ≡ price w (cost_of_call_by plan tell r call)
-    answers-price w = ap (price w) (dearest_of-map (cost_of_answer_by plan tell r) items answers ∙ ap (dearest_of (cost_of_answer_by plan tell r)) are)
-
-    -- once all answers are gone through
-    pub price-answers_all : (w : EventId → ℕ) (i dearest : ℕ) → length answers ≤ i → dearest ≡ price w (dearest_of (λ a. cost_of_answer_by plan tell r (items a)) (take i answers)) → dearest ≡ price w (cost_of_call_by plan tell r call)
-    price-answers_all w i dearest whole so_far = search (rules, take_all, answers-price)
-
-    pub answers-weights : weights_in (each_of (λ a. cost_of_answer_by plan tell r (items a)) answers) ≡ weights_in (cost_of_call_by plan tell r call)
-    answers-weights =
-        ap weights_in (each_of-map (cost_of_answer_by plan tell r) items answers) ∙ weights-dearest (cost_of_answer_by plan tell r) (map items answers)
-        ∙ ap (λ (ls : List (List ℕ)). weights_in (dearest_of (cost_of_answer_by plan tell r) ls)) are
+  -- the dearest of them is what the call costs
+  pub answers-cost : (tell : Telling → Cost) → dearest_of (λ a. cost_of_answer_by plan tell r (items a)) answers ≡ cost_of_call_by plan tell r call
+  answers-cost tell = dearest_of-map (cost_of_answer_by plan tell r) items answers ∙ ap (dearest_of (cost_of_answer_by plan tell r)) are
 
 -- what was read of a row
 pub outcomes-read : (plan : PlanView) (r : RowId) (call : Call) (row : DeviceRow) (all : List (List ℕ)) → row ≡ row_at plan r → all ≡ outcomes row.settings call → all ≡ outcomes (row_at plan r).settings call

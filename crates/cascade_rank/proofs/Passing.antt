@@ -1,23 +1,9 @@
 -- Walks over the rows of a plan that pass a test.
-use Rattle.std.proofs.Common.{rules, ◌≡◌, ℕ, ◌+◌, ◌<◌, ◌≤◌, max, Bool, true, false, cond, List, [], ◌∷◌, ◌++◌, length, take, sym, ap, ◌∙◌, arith, take_all}
-use Rattle.std.{specs.List.filter, proofs.lemmas.List.{append_assoc, append-nil, Elements.filter_more}}
-use Rattle.plan_tables.specs.{PlanView.{PlanView, row_numbers}, declared.{entries.EventId.EventId, devices.RowId.RowId}}
-use Rattle.cascade_rank.specs.{Cost.{Cost, price, each_of, dearest_of}, Mentions.weights_in}
-use Rattle.cascade_rank.proofs.Rows.{length-rows, row_of}
-
--- ---- one more at the end of a list
-
-price-dearest_last : {X : Type 0} (w : EventId → ℕ) (f : X → Cost) (xs : List X) (x : X) → price w (dearest_of f (xs ++ x ∷ [])) ≡ max (price w (dearest_of f xs)) (price w (f x))
-price-dearest_last w f [] x = omega arith
-price-dearest_last w f (y ∷ ys) x = omega (arith, price-dearest_last w f ys x)
-
-price-each_last : {X : Type 0} (w : EventId → ℕ) (f : X → Cost) (xs : List X) (x : X) → price w (each_of f (xs ++ x ∷ [])) ≡ price w (each_of f xs) + price w (f x)
-price-each_last w f [] x = omega arith
-price-each_last w f (y ∷ ys) x = omega (arith, price-each_last w f ys x)
-
-weights-each_last : {X : Type 0} (f : X → Cost) (xs : List X) (x : X) → weights_in (each_of f (xs ++ x ∷ [])) ≡ weights_in (each_of f xs) ++ weights_in (f x)
-weights-each_last f [] x = append-nil (weights_in (f x))
-weights-each_last f (y ∷ ys) x = search (rules, append_assoc, weights-each_last f ys x)
+use Rattle.std.proofs.Common.{◌≡◌, ℕ, ◌+◌, ◌<◌, ◌≤◌, Bool, true, false, cond, List, [], ◌∷◌, ◌++◌, length, take, sym, subst, ap, ◌∙◌, arith, take_all}
+use Rattle.std.{specs.List.filter, proofs.lemmas.List.{append-nil, Elements.filter_more}}
+use Rattle.plan_tables.specs.{PlanView.{PlanView, row_numbers}, declared.devices.RowId.RowId}
+use Rattle.cascade_rank.specs.{Cost.{Cost, Both, Greater, each_of, dearest_of}, Measures.AreAlike}
+use Rattle.cascade_rank.proofs.{Alike.{each_last, dearest_last}, Rows.{length-rows, row_of}}
 
 module _ (plan : PlanView) (p : RowId → Bool) where
   -- those that pass, of the first so many rows
@@ -41,22 +27,10 @@ module _ (plan : PlanView) (p : RowId → Bool) where
 
   -- one row more that passes
   module _ (f : RowId → Cost) (n : ℕ) (within : n < length plan.rows) (is : p (record { 0 = n }) ≡ true) where
-    pub price-dearest_passed : (w : EventId → ℕ) → price w (dearest_of f (passed (n + 1))) ≡ max (price w (dearest_of f (passed n))) (price w (f (record { 0 = n })))
-    price-dearest_passed w = ap (λ (rs : List RowId). price w (dearest_of f rs)) (passed_more n true within is) ∙ price-dearest_last w f (passed n) (record { 0 = n })
+    pub each_passed : AreAlike (Both (each_of f (passed n)) (f (record { 0 = n }))) (each_of f (passed (n + 1)))
+    each_passed =
+        subst (λ (rs : List RowId). AreAlike (Both (each_of f (passed n)) (f (record { 0 = n }))) (each_of f rs)) (sym (passed_more n true within is)) (each_last f (passed n) (record { 0 = n }))
 
-    pub price-each_passed : (w : EventId → ℕ) → price w (each_of f (passed (n + 1))) ≡ price w (each_of f (passed n)) + price w (f (record { 0 = n }))
-    price-each_passed w = ap (λ (rs : List RowId). price w (each_of f rs)) (passed_more n true within is) ∙ price-each_last w f (passed n) (record { 0 = n })
-
-    -- the weights of those so far are added to others, then those of the row
-    pub pushes-passed : (old posts new : List EventId) → posts ≡ old ++ weights_in (each_of f (passed n)) → new ≡ posts ++ weights_in (f (record { 0 = n })) → new ≡ old ++ weights_in (each_of f (passed (n + 1)))
-    pushes-passed old posts new first then =
-        then ∙ ap (λ (es : List EventId). es ++ weights_in (f (record { 0 = n }))) first
-        ∙ append_assoc old (weights_in (each_of f (passed n))) (weights_in (f (record { 0 = n })))
-        ∙ ap (λ (es : List EventId). old ++ es) (sym (ap (λ (rs : List RowId). weights_in (each_of f rs)) (passed_more n true within is) ∙ weights-each_last f (passed n) (record { 0 = n })))
-
-  -- the weights of those so far are added to others, and a row more does not pass, or there is none
-  pub pushes-over : (f : RowId → Cost) (n : ℕ) → n < length plan.rows → p (record { 0 = n }) ≡ false → (old posts : List EventId) → posts ≡ old ++ weights_in (each_of f (passed n)) → posts ≡ old ++ weights_in (each_of f (passed (n + 1)))
-  pushes-over f n within is old posts first = first ∙ ap (λ (rs : List RowId). old ++ weights_in (each_of f rs)) (sym (passed_over n within is))
-
-  pub pushes-passed_all : (f : RowId → Cost) (n : ℕ) → length plan.rows ≤ n → (old posts : List EventId) → posts ≡ old ++ weights_in (each_of f (passed n)) → posts ≡ old ++ weights_in (each_of f (filter p (row_numbers plan)))
-  pushes-passed_all f n whole old posts first = first ∙ ap (λ (rs : List RowId). old ++ weights_in (each_of f rs)) (passed_all n whole)
+    pub dearest_passed : AreAlike (Greater (dearest_of f (passed n)) (f (record { 0 = n }))) (dearest_of f (passed (n + 1)))
+    dearest_passed =
+        subst (λ (rs : List RowId). AreAlike (Greater (dearest_of f (passed n)) (f (record { 0 = n }))) (dearest_of f rs)) (sym (passed_more n true within is)) (dearest_last f (passed n) (record { 0 = n }))

@@ -1,5 +1,5 @@
 -- Laws of prices, by cases on the cost.
-use Rattle.std.proofs.Common.{◌≡◌, ℕ, zero, suc, ◌+◌, ◌≤◌, ◌<◌, max, true, List, [], ◌∷◌, length, take, get_or, sum_by, refl, subst, inl, inr, arith, rules}
+use Rattle.std.proofs.Common.{◌≡◌, ℕ, zero, suc, ◌≤◌, ◌<◌, true, List, [], ◌∷◌, length, get_or, sum_by, refl, subst, inl, inr, arith, rules}
 use Rattle.std.proofs.lemmas.{Bool.{or_left, or_right, or_cases, eq-eqb, false≢true}, List.Sums.sum_by-cons}
 use Rattle.plan_tables.{specs.declared.entries.EventId.EventId, proofs.Worked.number_same}
 use Rattle.cascade_rank.specs.Cost.{Cost, Lines, Weight, Both, Greater, price, mentions, each_of, dearest_of}
@@ -36,23 +36,6 @@ price-mentioned w (Greater a b) e m =
 pub price-each_sum : {X : Type 0} (w : EventId → ℕ) (f : X → Cost) (xs : List X) → price w (each_of f xs) ≡ sum_by (λ x. price w (f x)) xs
 price-each_sum w f [] = search rules
 price-each_sum w f (x ∷ xs) = omega (arith, price-each_sum w f xs, sum_by-cons (λ y. price w (f y)) x xs)
-
--- one more of a list
-pub price-each_more : {X : Type 0} (w : EventId → ℕ) (f : X → Cost) (xs : List X) (i : ℕ) (d : X) → i < length xs → price w (each_of f (take (i + 1) xs)) ≡ price w (each_of f (take i xs)) + price w (f (get_or xs i d))
-price-each_more w f [] i d h = omega arith
-price-each_more w f (x ∷ xs) zero d h = omega arith
-price-each_more w f (x ∷ xs) (suc i) d h =
-    let e : suc i + 1 ≡ suc (i + 1) = omega arith in
-    let r = price-each_more w f xs i d (omega arith) in
-    rw e (omega (arith, r))
-
-pub price-dearest_more : {X : Type 0} (w : EventId → ℕ) (f : X → Cost) (xs : List X) (i : ℕ) (d : X) → i < length xs → price w (dearest_of f (take (i + 1) xs)) ≡ max (price w (dearest_of f (take i xs))) (price w (f (get_or xs i d)))
-price-dearest_more w f [] i d h = omega arith
-price-dearest_more w f (x ∷ xs) zero d h = omega arith
-price-dearest_more w f (x ∷ xs) (suc i) d h =
-    let e : suc i + 1 ≡ suc (i + 1) = omega arith in
-    let r = price-dearest_more w f xs i d (omega arith) in
-    rw e (omega (arith, r))
 
 -- no one of a list is dearer than the dearest
 pub price-dearest : {X : Type 0} (w : EventId → ℕ) (f : X → Cost) (xs : List X) (i : ℕ) (d : X) → i < length xs → price w (f (get_or xs i d)) ≤ price w (dearest_of f xs)

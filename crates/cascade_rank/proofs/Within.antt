@@ -213,11 +213,7 @@ module _ (plan : PlanView) (valid : HasEntries plan) where
   pub listeners-below : (s : SwitchId) → All (IsListenerWithin (length plan.rows)) (listeners_of plan s)
   listeners-below s = search (rules, cases_lt, All-get_or, get_or_past, All-nil)
 
--- the same of as many events as the plan has
-pub posts-within : (plan : PlanView) → HasEntries plan → (s : SwitchId) (active : Bool) (n : ℕ) (es : List EventId) → n ≡ length plan.events → es ≡ posts_of plan s active → All (IsEventWithin n) es
-posts-within plan valid s active n es count is = search (rules, posts-below)
-
--- and of the posts of an event
+-- the posts of an event are events of the plan, which has so many
 pub posts_of_event-within : (plan : PlanView) → HasEntries plan → (e : EventId) (n : ℕ) (es : List EventId) → n ≡ length plan.events → es ≡ weights_in (cost_of_event plan e) → All (IsEventWithin n) es
 posts_of_event-within plan valid e n es count is =
     subst (λ (m : ℕ). All (IsEventWithin m) es) (sym count) (subst (All (IsEventWithin (length plan.events))) (sym is) (weights-below (length plan.events) (cost_of_event plan e) (IsBelow-event plan valid e)))

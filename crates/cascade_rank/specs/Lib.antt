@@ -13,6 +13,7 @@ pub mod Verified
 pub mod Below
 pub mod Tellings
 pub mod Mentions
+pub mod Measures
 pub mod Order
 pub mod Lowest
 pub mod Leaders

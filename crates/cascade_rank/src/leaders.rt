@@ -6,7 +6,7 @@ ghost use Rattle.plan_tables.specs.Valid.{IsEventWithin};
 ghost use Rattle.cascade_rank.specs.Cost.{each_of, cost_of_post};
 ghost use Rattle.cascade_rank.specs.Leaders.{AddsLeader, HasLeaders};
 
-use crate::posts::list_posts;
+use crate::posts::Posts;
 use plan_tables::{EventId, Plan};
 use std::alloc::{AllocError, Global};
 use std::marker::Model;
@@ -65,12 +65,12 @@ pub(crate) fn count_posts(alloc: Global, plan: &Plan) -> Result<(Leaders, Vec<us
 {
     let mut leaders = Leaders::new(alloc, plan.event_count())?;
     let mut left = Vec::with_capacity(alloc, plan.event_count())?;
-    let mut posts = Vec::new(alloc);
+    let mut posts = Posts::new(alloc);
     for number in 0..plan.event_count() {
         let event = EventId(number as u16);
-        list_posts(&mut posts, plan, event)?;
-        add_event(&mut leaders, event, &posts)?;
-        left.push(posts.len())?;
+        let led = posts.of(plan, event)?;
+        add_event(&mut leaders, event, led)?;
+        left.push(led.len())?;
     }
     Ok((leaders, left))
 }

@@ -2,11 +2,13 @@
 //! a cycle makes a cascade endless.
 #![tactic(auto)]
 
+mod costs;
 pub mod fault;
 mod ground;
 pub mod law;
 mod leaders;
 pub mod least;
+mod measure;
 mod posts;
 mod price;
 mod releases;

@@ -1,54 +1,28 @@
-//! What a stimulus costs at given weights.
-//!
-//! Nothing is cut off: a call of a device costs at most 2^58, and a weight is below 2^32. The listeners
-//! and posts of a switch for a sum of 2^123 do not fit into memory.
+//! One walk over what a stimulus costs, for every measure, and the bound.
 
-ghost use Rattle.std.specs.Prelude.{◌≡◌, ◌^◌, ◌<◌, ◌≤◌, length};
+ghost use Rattle.std.specs.Prelude.{◌≡◌, ◌<◌, length};
 ghost use Rattle.std.specs.List.{All};
-ghost use Rattle.plan_tables.specs.Valid.{IsEventWithin, IsListenerWithin};
+ghost use Rattle.plan_tables.specs.Valid.{IsListenerWithin};
 ghost use Rattle.plan_tables.specs.PlanView.{row_numbers};
 ghost use Rattle.device_objects.specs.declared.device.Call.TheVariants as calls;
 ghost use Rattle.cascade_rank.specs.Events.{weight_of};
+ghost use Rattle.cascade_rank.specs.Measures.{saturated};
 ghost use Rattle.cascade_rank.specs.Weights.{IsWithinLimit, switch_cost as cost_at};
 ghost use Rattle.cascade_rank.specs.Cost.{price, each_of, dearest_of, cost_of_post, cost_of_call, cost_of_listener, cost_of_playfield_switch, cost_of_acceptance, cost_of_switch, switches_of, cost_of_stimuli};
 
-use crate::price::{price_of_call, price_of_post, price_of_telling};
+use crate::costs::{measure_call, measure_telling};
+use crate::measure::Measure;
+use crate::price::Price;
 use crate::tellings::Told;
 use crate::weights::Weights;
 use device_objects::Call;
 use plan_tables::{BallTarget, EventId, Listener, Plan, RowId, SwitchId, Telling};
 
-/// The greatest cost of any stimulus.
+/// The greatest cost of any stimulus, as the greatest number of its type where it is above that.
 pub(crate) fn bound_of(plan: &Plan, weights: &[u32]) -> u128
-    requires { length weights.now ≡ length plan.now.events }
-    ensures { result ≡ price (weight_of weights.now) (cost_of_stimuli plan.now) }
+    ensures { result ≡ saturated (price (weight_of weights.now) (cost_of_stimuli plan.now)) }
 {
-    dearest_switch(plan, weights).max(dearest_alarm(plan, weights))
-}
-
-/// The greatest cost of the acceptance of a switch.
-fn dearest_switch(plan: &Plan, weights: &[u32]) -> u128
-    requires { length weights.now ≡ length plan.now.events }
-    ensures { result ≡ price (weight_of weights.now) (dearest_of (cost_of_switch plan.now) (switches_of plan.now)) }
-{
-    let mut bound = 0u128;
-    for number in 0..plan.switch_count() {
-        bound = bound.max(price_of_switch(plan, weights, SwitchId(number as u16)));
-    }
-    bound
-}
-
-/// The greatest cost of the alarm of a device.
-fn dearest_alarm(plan: &Plan, weights: &[u32]) -> u128
-    requires { length weights.now ≡ length plan.now.events }
-    ensures { result ≡ price (weight_of weights.now) (dearest_of (λ r. cost_of_call plan.now r calls.Fire) (row_numbers plan.now)) }
-{
-    let mut bound = 0u128;
-    for number in 0..plan.rows().len() {
-        let row = RowId(number as u16);
-        bound = bound.max(price_of_call::<Told>(plan, weights, row, Call::Fire));
-    }
-    bound
+    measure_stimuli(&mut Price { weights }, plan)
 }
 
 /// What a change of this switch costs at these weights, 1 to 100,000: the greater of the costs of its
@@ -63,70 +37,117 @@ pub fn switch_cost(plan: &Plan, weights: &Weights, switch: SwitchId) -> u32
     requires limit { IsWithinLimit plan.now weights.now }
     ensures { result ≡ cost_at plan.now (weight_of weights.now) switch }
 {
-    price_of_switch(plan, weights.as_slice(), switch) as u32
+    let weights = weights.as_slice();
+    measure_switch(&mut Price { weights }, plan, switch) as u32
 }
 
-/// What the dearer acceptance of a switch costs.
-fn price_of_switch(plan: &Plan, weights: &[u32], switch: SwitchId) -> u128
-    requires switch { switch.0 < length plan.now.switches }
-    requires weights { length weights.now ≡ length plan.now.events }
-    ensures { result ≡ price (weight_of weights.now) (cost_of_switch plan.now switch) }
+/// The dearest stimulus: the acceptance of a switch, or the alarm of a device.
+fn measure_stimuli<M: Measure>(measure: &mut M, plan: &Plan) -> M::Value
+    ensures { M.Measures measure.old (cost_of_stimuli plan.now) measure.new result }
 {
-    let active = price_of_acceptance(plan, weights, switch, true);
-    let inactive = price_of_acceptance(plan, weights, switch, false);
-    active.max(inactive)
+    let switches = measure_switches(measure, plan);
+    let alarms = measure_alarms(measure, plan);
+    measure.greater(switches, alarms)
 }
 
-/// What it costs to accept a switch as active or inactive: its line, the acts of the devices that
-/// listen to it, that a ball arrives on the playfield, and its posts.
-fn price_of_acceptance(plan: &Plan, weights: &[u32], switch: SwitchId, active: bool) -> u128
-    requires switch { switch.0 < length plan.now.switches }
-    requires weights { length weights.now ≡ length plan.now.events }
-    ensures { result ≡ price (weight_of weights.now) (cost_of_acceptance plan.now switch active) }
+/// The dearest switch.
+fn measure_switches<M: Measure>(measure: &mut M, plan: &Plan) -> M::Value
+    ensures { M.Measures measure.old (dearest_of (cost_of_switch plan.now) (switches_of plan.now)) measure.new result }
 {
-    let acts = price_of_listeners(plan, weights, plan.listeners(switch), active);
-    let arrival = price_of_playfield_switch(plan, weights, switch, active);
-    let posts = price_of_posts(weights, plan.posts(switch, active));
-    1 + (acts + (arrival + posts))
-}
-
-/// The arrival of a ball on the playfield, if the switch reports one when it becomes active.
-fn price_of_playfield_switch(plan: &Plan, weights: &[u32], switch: SwitchId, active: bool) -> u128
-    requires switch { switch.0 < length plan.now.switches }
-    requires weights { length weights.now ≡ length plan.now.events }
-    ensures price { result ≡ price (weight_of weights.now) (cost_of_playfield_switch plan.now switch active) }
-    ensures small { result ≤ 2 ^ 45 }
-{
-    if active && plan.confirms_playfield(switch) {
-        price_of_telling(plan, weights, Telling::Arrived(BallTarget::Playfield))
-    } else {
-        0
+    let mut dearest = measure.lines(0);
+    for number in 0..plan.switch_count() {
+        let cost = measure_switch(measure, plan, SwitchId(number as u16));
+        dearest = measure.greater(dearest, cost);
     }
+    dearest
 }
 
-/// What the acts of devices cost that listen to a switch.
-fn price_of_listeners(plan: &Plan, weights: &[u32], listeners: &[Listener], active: bool) -> u128
-    requires listeners { All (IsListenerWithin (length plan.now.rows)) listeners.now }
-    requires weights { length weights.now ≡ length plan.now.events }
-    ensures price { result ≡ price (weight_of weights.now) (each_of (cost_of_listener plan.now active) listeners.now) }
-    ensures small { result < 2 ^ 122 }
+/// The dearest alarm of a device.
+fn measure_alarms<M: Measure>(measure: &mut M, plan: &Plan) -> M::Value
+    ensures { M.Measures measure.old (dearest_of (λ r. cost_of_call plan.now r calls.Fire) (row_numbers plan.now)) measure.new result }
 {
-    let mut total = 0u128;
+    let mut dearest = measure.lines(0);
+    for number in 0..plan.rows().len() {
+        let row = RowId(number as u16);
+        let cost = measure_call::<Told, M>(measure, plan, row, Call::Fire);
+        dearest = measure.greater(dearest, cost);
+    }
+    dearest
+}
+
+/// The dearer acceptance of a switch.
+fn measure_switch<M: Measure>(measure: &mut M, plan: &Plan, switch: SwitchId) -> M::Value
+    requires { switch.0 < length plan.now.switches }
+    ensures { M.Measures measure.old (cost_of_switch plan.now switch) measure.new result }
+{
+    let active = measure_acceptance(measure, plan, switch, true);
+    let inactive = measure_acceptance(measure, plan, switch, false);
+    measure.greater(active, inactive)
+}
+
+/// The acceptance of a switch as active or inactive: its line, the acts of the devices that listen to it,
+/// that a ball arrives on the playfield, and its posts.
+fn measure_acceptance<M: Measure>(
+    measure: &mut M,
+    plan: &Plan,
+    switch: SwitchId,
+    active: bool,
+) -> M::Value
+    requires { switch.0 < length plan.now.switches }
+    ensures { M.Measures measure.old (cost_of_acceptance plan.now switch active) measure.new result }
+{
+    let line = measure.lines(1);
+    let acts = measure_listeners(measure, plan, plan.listeners(switch), active);
+    let arrival = measure_playfield_switch(measure, plan, switch, active);
+    let posts = measure_posts(measure, plan.posts(switch, active));
+    let last = measure.both(arrival, posts);
+    let rest = measure.both(acts, last);
+    measure.both(line, rest)
+}
+
+/// The acts of devices that listen to a switch.
+fn measure_listeners<M: Measure>(
+    measure: &mut M,
+    plan: &Plan,
+    listeners: &[Listener],
+    active: bool,
+) -> M::Value
+    requires { All (IsListenerWithin (length plan.now.rows)) listeners.now }
+    ensures { M.Measures measure.old (each_of (cost_of_listener plan.now active) listeners.now) measure.new result }
+{
+    let mut total = measure.lines(0);
     for listener in listeners {
         let act = listener.act(active);
-        total += price_of_call::<Told>(plan, weights, listener.row, Call::Act(act));
+        let cost = measure_call::<Told, M>(measure, plan, listener.row, Call::Act(act));
+        total = measure.both(total, cost);
     }
     total
 }
 
-fn price_of_posts(weights: &[u32], posts: &[EventId]) -> u128
-    requires { All (IsEventWithin (length weights.now)) posts.now }
-    ensures price { result ≡ price (weight_of weights.now) (each_of cost_of_post posts.now) }
-    ensures small { result < 2 ^ 96 }
+/// The arrival of a ball on the playfield, if the switch reports one when it becomes active.
+fn measure_playfield_switch<M: Measure>(
+    measure: &mut M,
+    plan: &Plan,
+    switch: SwitchId,
+    active: bool,
+) -> M::Value
+    requires { switch.0 < length plan.now.switches }
+    ensures { M.Measures measure.old (cost_of_playfield_switch plan.now switch active) measure.new result }
 {
-    let mut total = 0u128;
+    if active && plan.confirms_playfield(switch) {
+        measure_telling(measure, plan, Telling::Arrived(BallTarget::Playfield))
+    } else {
+        measure.lines(0)
+    }
+}
+
+fn measure_posts<M: Measure>(measure: &mut M, posts: &[EventId]) -> M::Value
+    ensures { M.Measures measure.old (each_of cost_of_post posts.now) measure.new result }
+{
+    let mut total = measure.lines(0);
     for event in posts {
-        total += price_of_post(weights, *event);
+        let post = measure.weight(*event);
+        total = measure.both(total, post);
     }
     total
 }

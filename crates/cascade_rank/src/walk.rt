@@ -9,7 +9,7 @@ ghost use Rattle.cascade_rank.specs.Cycle.{IsFirst, IsReportedCycle, next_open, 
 ghost use Rattle.cascade_rank.specs.Lowest.{lowest, IsLeft};
 ghost use Rattle.cascade_rank.specs.Order.{left_of};
 
-use crate::posts::list_posts;
+use crate::posts::Posts;
 use plan_tables::{EventId, Plan};
 use std::alloc::{AllocError, Global};
 
@@ -37,7 +37,7 @@ pub(crate) fn walk(
 {
     let mut passed = vec![in alloc; false; plan.event_count()]?;
     let mut path = Vec::new(alloc);
-    let mut posts = Vec::new(alloc);
+    let mut posts = Posts::new(alloc);
     let mut at = start;
     while !passed[at.0 as usize] {
         passed[at.0 as usize] = true;
@@ -64,7 +64,7 @@ fn place_of(path: &[EventId], event: EventId) -> Option<usize>
 /// Where the walk goes on to: of the events to which the event leads, and of which something is
 /// left, the lowest-numbered.
 fn next(
-    posts: &mut Vec<EventId>,
+    posts: &mut Posts,
     plan: &Plan,
     left: &[usize],
     event: EventId,
@@ -73,8 +73,8 @@ fn next(
     requires within { event.0 < length plan.now.events }
     ensures { IfOk result (λ then. then ≡ next_open plan.now event) }
 {
-    list_posts(posts, plan, event)?;
-    Ok(EventId(lowest_left(left, posts)))
+    let led = posts.of(plan, event)?;
+    Ok(EventId(lowest_left(left, led)))
 }
 
 /// The lowest of these of which something is left, or the number of events where there is none.

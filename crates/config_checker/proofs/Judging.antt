@@ -11,7 +11,7 @@ use Rattle.written_machine.specs.CheckedView.{CheckedView}
 use Rattle.config_checker.specs.Checking.{FaultView, named_fault, weighed, weighed_plan, certified_plan, reported_alone, faults_of_rows, faults_first, checked, checked_at, checked_with_at}
 use Rattle.config_checker.specs.View.{GivesChecked, ReportsFault, fault_view}
 use Rattle.config_checker.specs.Refused.{IsLimitFault, IsFaultOf, IsFaultWith, IsReport, Reports, ReportsOne, ReportsOwn, ReportsNoPlan}
-use Rattle.config_checker.proofs.CertificateMeaning.{IsFaultOfText, fault_is_there}
+use Rattle.config_checker.proofs.CertificateMeaning.{IsFaultOfText, fault_is_there, none-some}
 
 -- ---- what a report lists
 
@@ -56,12 +56,6 @@ one-gives P x2 answer x4 gives = search rules
 
 some_same : (x y : FaultView) → Some x ≡ Some y → x ≡ y
 some_same x y e = cc
-
-none-some : {A : Type 0} (x : FaultView) → None ≡ Some x → A
-none-some x e = absurd (apart e)
-  where
-    apart : None ≡ Some x → ⊥
-    apart e = cc
 
 -- ---- a table above its limit
 

@@ -4,7 +4,7 @@ use Rattle.plan_tables.specs.declared.devices.Act.{Act}
 use Rattle.device_objects.specs.declared.{device.Call.Call, state.World.World}
 use Rattle.device_objects.specs.declared.device.Call.TheVariants as calls
 
--- What is known of the slots of a device.
+-- How the slots of a device behave.
 pub record SlotModel (S : Type 0) : Type 0 where
   -- whether each player has a slot; if not, all share the first
   pub persist : Bool
@@ -12,10 +12,11 @@ pub record SlotModel (S : Type 0) : Type 0 where
   pub first : ℕ → S
   -- the game to which a slot belongs
   pub game_of : S → ℕ
-  -- what an act at this moment does to a slot of the game that is played, and the lists that it answers
+  -- what an act at this moment does to a slot that counts in this world, and the lists that it answers
   pub step : Act → ℕ → S → S × List ℕ
 
--- the slot on which the device acts: the current player's, where each player has one, and else the first
+-- the slot on which the device acts: the current player's, where each player has one (without a current player,
+-- none), and else the first
 abbrev pub slot_in_use : Bool → World → Option ℕ
 slot_in_use persist world = if persist then (if world.player == 0 then None else Some (world.player - 1)) else Some 0
 
@@ -41,6 +42,7 @@ abbrev pub step_in_use : {S : Type 0} → (S → S × List ℕ) → List S → O
 step_in_use step slots None = (slots, [])
 step_in_use step slots (Some i) = step_at step i slots (slice_get slots i)
 
+-- the slots at first, which are of no game
 abbrev pub first_slots : {S : Type 0} → SlotModel S → List S
 first_slots m = replicate 4 (m.first 0)
 

@@ -5,7 +5,7 @@ use Rattle.device_objects.specs.declared.{device.Call.Call, state.{DeviceState.D
 use Rattle.device_objects.specs.DeviceStep.{device_step, due_of, first_state}
 use Rattle.device_objects.specs.Slots.{SlotModel, first_slots, slots_step}
 
--- an answer about slots, as one about the state that has them
+-- what a step of slots gives, with the state that has these slots
 abbrev pub with_state : {S : Type 0} → (List S → DeviceState) → List S × List ℕ → DeviceState × List ℕ
 with_state state_of answer = (state_of answer.0, answer.1)
 

@@ -64,7 +64,7 @@ pub trait SlotKind: Copy + Drop {
     fn game(&self, slot: &Self::Slot) -> u64
         ensures { result ≡ (model self.now).game_of (seen slot.now) };
 
-    /// What an act does to a slot of the game that is played.
+    /// What an act does to a slot that counts in this world.
     fn step(&self, slot: &mut Self::Slot, act: Act, now: u64) -> Outcome
         requires { now < 2 ^ 40 }
         ensures slot { seen slot.new ≡ ((model self.now).step act now (seen slot.old)).0 }

@@ -1,4 +1,4 @@
 pub mod Kind
--- what proves the laws of the kinds; no contract cites it
+-- lemmas that each `impl SlotKind` cites as its `steps`; no contract cites them
 pub mod Steps
 pub mod Mask

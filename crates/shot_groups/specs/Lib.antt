@@ -1,5 +1,5 @@
 pub mod Kind
--- what proves the laws of the kinds; no contract cites it
+-- lemmas that each `impl SlotKind` cites as its `steps`; no contract cites them
 pub mod Steps
 pub mod Mask
 -- what the contracts of private functions cite, and no public one

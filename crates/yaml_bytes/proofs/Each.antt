@@ -1,11 +1,11 @@
--- What holds of each element of a list, and of one, where the kit has no lemma.
+-- Lemmas that the kit lacks: what holds of each element of a list, of one of them, and of an option.
 use Rattle.std.proofs.Common.{rules, ◌≡◌, suc, Bool, if◌then◌else◌, ◌||◌, map, List, [], ◌∷◌, ◌++◌, Option, Some, None, IfSome, refl, ap, arith}
 use Rattle.std.specs.{List.{All, Contains, filter, flat_map, list_any}, Option.unwrap_or}
 use Rattle.std.proofs.lemmas.List.Elements.{All-nil, All-cons, All-head, All-tail, All-append, All-map, All-weaker}
 
 -- ---- all
 
--- it holds of all, or of none
+-- what holds of all still does if they are kept or dropped together
 pub all_where : {A : Type 0} (P : A → Type 0) (b : Bool) (xs : List A) → All P xs → All P (if b then xs else [])
 all_where P x2 xs h = search rules
 
@@ -18,7 +18,7 @@ all_mapped P f each (x ∷ xs) = All-cons P (f x) (map f xs) (each x) (all_mappe
 pub made_each : {A B : Type 0} {P : A → Type 0} (Q : B → Type 0) (f : A → B) → ((x : A) → P x → Q (f x)) → (xs : List A) → All P xs → All Q (map f xs)
 made_each {P = P} Q f each xs h = All-map Q f xs (All-weaker P (λ x. Q (f x)) each xs h)
 
--- it holds of what is made of each
+-- what holds of all that f gives holds of what f gives for each
 pub All-from_map : {A B : Type 0} (P : B → Type 0) (f : A → B) (xs : List A) → All P (map f xs) → All (λ x. P (f x)) xs
 All-from_map P f [] h = All-nil (λ x. P (f x))
 All-from_map P f (x ∷ xs) h = All-cons (λ x. P (f x)) x xs (All-head P (f x) (map f xs) h) (All-from_map P f xs (All-tail P (f x) (map f xs) h))
@@ -51,16 +51,18 @@ pub any_mapped : {A B : Type 0} (p : B → Bool) (f : A → B) (xs : List A) →
 any_mapped p f [] = refl
 any_mapped p f (x ∷ xs) = ap (λ b. p (f x) || b) (any_mapped p f xs)
 
+-- the first element is in the list
 pub here : {A : Type 0} (x : A) (xs : List A) → Contains (x ∷ xs) x
 here x xs = (0, omega arith, refl)
 
+-- so is what is in the rest of it
 pub there : {A : Type 0} (x y : A) (xs : List A) → Contains xs y → Contains (x ∷ xs) y
 there x y xs (k, lt, at) = (suc k, omega (arith, lt), at)
 
--- where something holds of a value if it is there, and of another one, it holds of the one that is taken
+-- what holds of an option's value, if it has one, and of another value holds of the one that `unwrap_or` takes
 pub or_else : {A : Type 0} (P : A → Type 0) (o : Option A) (other : A) → IfSome o P → P other → P (unwrap_or o other)
 or_else P x2 other h is = search rules
 
--- what is nothing that there is, is not there
+-- an option that is not `Some` of any value is `None`
 pub none_of : {A : Type 0} (o : Option A) → ((x : A) → o ≡ Some x → ⊥) → o ≡ None
 none_of x1 h = search rules

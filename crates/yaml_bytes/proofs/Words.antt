@@ -1,4 +1,4 @@
--- Two words are the same if their bytes are.
+-- `bytes_eq` is true exactly of words that are the same.
 use Rattle.std.{proofs.{Common.{◌≡◌, ℕ, true, List}, lemmas.Slice.Eq.bytes_eq-Decides}, specs.Str.bytes_eq}
 
 pub word_is : (key word : List ℕ) → bytes_eq key word ≡ true → key ≡ word

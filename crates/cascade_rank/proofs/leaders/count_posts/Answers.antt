@@ -1,10 +1,10 @@
-use Rattle.std.proofs.Common.{rules, length, ◌∙◌}
+use Rattle.std.proofs.Common.{rules, length}
 use Rattle.cascade_rank.proofs.{Events.event, Leading.leaders_more, Within.posts_of_event-within}
 use Rattle.cascade_rank.proofs.leaders.count_posts.Goals as goal
 
 pub add_event-requires : goal.add_event-requires
 add_event-requires c =
-    posts_of_event-within c.args.plan.now c.in_ok-list_posts.ensures.valid.entries (event c.loop-number.number) (length c.loop-number.leaders) c.deref.result.now c.loop-number.invariant.count (c.deref.ensures.value ∙ c.in_ok-list_posts.ensures.posts)
+    posts_of_event-within c.args.plan.now c.in_ok-led.ensures.valid.entries (event c.loop-number.number) (length c.loop-number.leaders) c.in_ok-led.led.now c.loop-number.invariant.count c.in_ok-led.ensures.posts
 
 pub loop-number-preserved : goal.loop-number-preserved
 loop-number-preserved c = search (rules, leaders_more)

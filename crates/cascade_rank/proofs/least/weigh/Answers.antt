@@ -10,7 +10,7 @@ loop-event-preserved c =
     let i = c.loop-event.event-index in
     let weights = c.loop-event.weights.items in
     let capped : c.min.result ≡ min (greatest + 1) c.need-needed.result = omega (arith, c.min.ensures, c.from.ensures) in
-    let price_is = c.need-needed.ensures.price ∙ ap (λ (ws : List ℕ). price (weight_of ws) (cost_of_event c.args.plan.now (nth_event c.args.order.now c.loop-event.event-index))) c.deref.ensures.value in
+    let price_is = c.need-needed.ensures ∙ ap (λ (ws : List ℕ). price (weight_of ws) (cost_of_event c.args.plan.now (nth_event c.args.order.now c.loop-event.event-index))) c.deref.ensures.value in
     record {
       count = length-set weights (nth_event order i).0 c.min.result ∙ c.loop-event.invariant.count;
       weighed =

@@ -7,7 +7,7 @@ returns-then-from-needed-clause-short c = search rules
 
 pub loop-number-preserved : goal.loop-number-preserved
 loop-number-preserved c =
-    let more = below_more (λ (n : ℕ). need c.args.plan.now (weight_of c.args.weights.now) (event n) ≤ weight_of c.args.weights.now (event n)) c.loop-number.number (λ n l. c.loop-number.invariant (event n) l) (omega (arith, c.need-needed.ensures.price)) in
+    let more = below_more (λ (n : ℕ). need c.args.plan.now (weight_of c.args.weights.now) (event n) ≤ weight_of c.args.weights.now (event n)) c.loop-number.number (λ n l. c.loop-number.invariant (event n) l) (omega (arith, c.need-needed.ensures)) in
     λ e l. more e.0 l
 
 pub returns-clause-fits : goal.returns-clause-fits

@@ -1,0 +1,14 @@
+-- Which costs measure alike, and a price as the code has it.
+use Rattle.std.specs.Prelude.{◌≡◌, ℕ, ◌-◌, ◌^◌, min}
+use Rattle.plan_tables.specs.declared.entries.EventId.{EventId}
+use Rattle.cascade_rank.specs.{Cost.{Cost, price}, Mentions.weights_in}
+
+-- Costs that no measure tells apart: whatever the weights, they have one price, and they have the same weights in one
+-- order. So it is with `Both (Both a b) c` and `Both a (Both b c)`.
+pub record AreAlike (a b : Cost) : Type 0 where
+  pub price : (w : EventId → ℕ) → price w a ≡ price w b
+  pub weights : weights_in a ≡ weights_in b
+
+-- a price, as the greatest number of 128 bits where it is above that
+abbrev pub saturated : ℕ → ℕ
+saturated n = min n (2 ^ 128 - 1)
