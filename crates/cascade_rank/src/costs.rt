@@ -253,8 +253,8 @@ fn measure_work<M: Measure>(measure: &mut M, plan: &Plan, event: EventId) -> M::
     let releases = measure_releases(measure, plan, event);
     let led = measure_led(measure, plan, event);
     let game = measure_game(measure, plan, event);
-    let posts = measure.both(led, game);
-    let rest = measure.both(releases, posts);
+    let last = measure.both(led, game);
+    let rest = measure.both(releases, last);
     measure.both(starts, rest)
 }
 

@@ -8,14 +8,13 @@ use plan_tables::EventId;
 
 /// What a walk over a cost adds up.
 pub(crate) trait Measure {
-    ghost use Rattle.std.specs.Prelude.{◌≡◌};
     ghost use Rattle.cascade_rank.specs.Cost.{Cost, Lines, Weight, Both, Greater};
     ghost use Rattle.cascade_rank.specs.Measures.{AreAlike};
 
     /// What a cost comes to.
     type Value: Copy;
 
-    /// From the first of these, a walk over this cost gives this value and leaves the second.
+    /// `Measures x c y v`: a walk over the cost `c` that starts with `x` gives `v` and leaves `y`.
     ghost Measures: { Self → Cost → Self → Self.Value → Type 0 };
 
     /// So many lines.
@@ -34,6 +33,6 @@ pub(crate) trait Measure {
     fn greater(&self, one: Self::Value, other: Self::Value) -> Self::Value
         ensures { (x y : Self) (a b : Cost) → Measures x a y one → Measures y b self.now other → Measures x (Greater a b) self.now result };
 
-    /// What is measured of a cost is measured of those like it.
+    /// Costs that are alike have the same measure.
     ghost alike: { (x y : Self) (a b : Cost) (v : Self.Value) → AreAlike a b → Measures x a y v → Measures x b y v };
 }

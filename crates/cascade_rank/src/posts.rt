@@ -1,8 +1,8 @@
 //! The events to which an event leads: those whose weights are in what it costs.
 //!
-//! What follows depends only on which events these are. So an event leads to a post whether its variable
-//! changes or not, and whether the condition of its binding is met or not. A ball that enters a device
-//! leads to its event, to its drain, and to what each of the devices answers that may be told.
+//! What follows depends only on which events these are. So a post counts even if the variable may not
+//! change, or the condition of the binding may not be met. A ball that enters a device leads to its event,
+//! to its drain, and to what each of the devices answers that may be told.
 
 ghost use Rattle.std.specs.Prelude.{◌≡◌, ◌<◌, length, IfOk, OnOk};
 ghost use Rattle.plan_tables.specs.Valid.{IsValid};

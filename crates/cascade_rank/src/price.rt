@@ -8,7 +8,7 @@ use crate::costs::measure_event;
 use crate::measure::Measure;
 use plan_tables::{EventId, Plan};
 
-/// Prices at these weights. An event that has none weighs nothing.
+/// Prices at these weights. An event without a weight costs nothing.
 ///
 /// A sum that does not fit becomes the greatest number that does.
 #[derive(Clone, Copy)]

@@ -4,7 +4,7 @@ ghost use Rattle.std.specs.Prelude.{◌≡◌, ◌<◌, ◌≤◌, ◌∷◌, []
 ghost use Rattle.std.specs.List.{All, filter, flat_map, range_with_len};
 ghost use Rattle.plan_tables.specs.declared.entries.Owner.TheVariants as owners;
 ghost use Rattle.plan_tables.specs.Devices.{list_count};
-ghost use Rattle.plan_tables.specs.PlanView.{actions_at, list_of_row, row_at, actions_of_target, actions_of_binding, actions_of_row, actions_of, coils_enabled, row_numbers};
+ghost use Rattle.plan_tables.specs.PlanView.{actions_at, list_of_row, row_at, actions_of_target, actions_of_binding, actions_of_row, coils_enabled, row_numbers};
 ghost use Rattle.plan_tables.specs.Valid.{IsTargetWithin};
 ghost use Rattle.cascade_rank.specs.Marks.{AreMarked, IsCoilMarked, mark_of, numbered};
 
@@ -13,8 +13,7 @@ use plan_tables::{Action, ModeId, Plan, RowId, Target};
 /// How many coils the mode's actions enable.
 pub(crate) fn count_enabled(plan: &Plan, mode: ModeId) -> usize
     requires { mode.0 < length plan.now.modes }
-    ensures count { result ≡ length (coils_enabled plan.now (owners.Mode mode)) }
-    ensures few { result ≤ 256 }
+    ensures { result ≡ length (coils_enabled plan.now (owners.Mode mode)) }
 {
     let mut marks = [false; 256];
     mark_bindings(plan, mode, &mut marks);
@@ -90,8 +89,7 @@ fn mark_action(action: Action, marks: &mut [bool])
 /// How many of so many coils are marked.
 fn count_marked(marks: &[bool], count: usize) -> usize
     requires { count ≤ length marks.now }
-    ensures count { result ≡ length (filter (mark_of marks.now) (numbered count)) }
-    ensures few { result ≤ count }
+    ensures { result ≡ length (filter (mark_of marks.now) (numbered count)) }
 {
     let mut total = 0;
     for number in 0..count {

@@ -1,4 +1,4 @@
-//! One walk over what a stimulus costs, for every measure, and the bound.
+//! What a stimulus costs, in one walk for every measure; and the bound, the greatest such cost.
 
 ghost use Rattle.std.specs.Prelude.{◌≡◌, ◌<◌, length};
 ghost use Rattle.std.specs.List.{All};
@@ -18,7 +18,7 @@ use crate::weights::Weights;
 use device_objects::Call;
 use plan_tables::{BallTarget, EventId, Listener, Plan, RowId, SwitchId, Telling};
 
-/// The greatest cost of any stimulus, as the greatest number of its type where it is above that.
+/// The greatest cost of any stimulus, or `u128::MAX` where that is less.
 pub(crate) fn bound_of(plan: &Plan, weights: &[u32]) -> u128
     ensures { result ≡ saturated (price (weight_of weights.now) (cost_of_stimuli plan.now)) }
 {
@@ -75,7 +75,7 @@ fn measure_alarms<M: Measure>(measure: &mut M, plan: &Plan) -> M::Value
     dearest
 }
 
-/// The dearer acceptance of a switch.
+/// The dearer of a switch's two acceptances.
 fn measure_switch<M: Measure>(measure: &mut M, plan: &Plan, switch: SwitchId) -> M::Value
     requires { switch.0 < length plan.now.switches }
     ensures { M.Measures measure.old (cost_of_switch plan.now switch) measure.new result }

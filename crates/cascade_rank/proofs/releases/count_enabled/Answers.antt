@@ -4,12 +4,12 @@ use Rattle.plan_tables.specs.PlanView.{actions_of_binding, actions_of_row, row_n
 use Rattle.cascade_rank.{specs.Marks.{mark_of, numbered}, proofs.Marked.{marked-then, marked-enabled}}
 use Rattle.cascade_rank.proofs.releases.count_enabled.Goals as goal
 
-pub returns-clause-count : goal.returns-clause-count
-returns-clause-count c =
+pub returns : goal.returns
+returns c =
     let plan = c.args.plan.now in
     let owner = owners.Mode c.args.mode in
     let marks = c.mark_rows.new.marks in
-    c.count_marked.ensures.count
+    c.count_marked.ensures
     ∙ ap (λ n. length (filter (mark_of marks) (numbered n))) c.coil_count.ensures.count
     ∙ marked-enabled plan owner marks c.coil_count.ensures.valid.coil_limit
     (marked-then (replicate 256 false) c.mark_bindings.new.marks marks (flat_map (actions_of_binding plan owner) plan.bindings) (flat_map (actions_of_row plan owner) (row_numbers plan)) c.mark_bindings.ensures c.mark_rows.ensures)
