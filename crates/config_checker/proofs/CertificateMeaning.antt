@@ -22,7 +22,7 @@ use Rattle.config_checker.proofs.Names.{same_names-is, same_names-self, zip-part
 some_fault : (x y : CertificateFaultView) → Some x ≡ Some y → x ≡ y
 some_fault x y e = cc
 
-none-some : {A : Type 0} {X : Type 0} (x : X) → None ≡ Some x → A
+pub none-some : {A : Type 0} {X : Type 0} (x : X) → None ≡ Some x → A
 none-some x e = absurd (apart e)
   where
     apart : None ≡ Some x → ⊥
