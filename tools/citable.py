@@ -187,7 +187,7 @@ def read(crate: str, room: str, file: str) -> File | None:
             line = text[use.start : use.end]
             texts.update((it, line) for *_, names in imports_of(line) for it in names)
     for line in antt_imports.without_imports(text).splitlines():
-        if line.startswith("--") or not line.strip():
+        if not line.strip() or line.lstrip().startswith("--"):
             continue
         declared = not line.startswith(" ") and DECLARATION.match(line)
         if declared or line.startswith("module "):
