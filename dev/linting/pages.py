@@ -20,6 +20,7 @@ LINK = re.compile(r"\]\(([^)\s]+)\)")
 BY_NAME = re.compile(r"\[[^\[\]]+\]\[([^\[\]]+)\]")
 TARGET = re.compile(r"^\[([^\[\]]+)\]: (\S+)$", re.M)
 PATH = re.compile(r"(?<![\w./$\"'{}@~-])(?:\.ci|bench|crates|dev|docs|examples|tools)/[\w./*-]*[\w*]")
+OTHER_FILES = ("CHANGELOG.md", "dev/test_tools")
 STANDS_FOR_OTHERS = re.compile(r"\*|\.\.|\b[A-Z]+\b(?!\.md)|/out\b|/my_machine\b")
 
 
@@ -77,11 +78,11 @@ def paths_of(text: str) -> Iterator[tuple[int, str]]:
 
 
 def files() -> list[Path]:
-    """The texts of this repository, but for those that name made-up files."""
+    """The texts of this repository, but for those that name made-up files, or files that are gone."""
     listed = subprocess.run(["git", "ls-files", "--cached", "--others", "--exclude-standard"], cwd=TOP,
                             stdout=subprocess.PIPE, text=True, check=True).stdout.splitlines()
     texts = [it for it in listed if it.endswith((".md", ".py", ".rt", ".antt")) or "." not in Path(it).name]
-    return [TOP / it for it in texts if (TOP / it).is_file() and it != "dev/test_tools" and "/planted/" not in it]
+    return [TOP / it for it in texts if (TOP / it).is_file() and it not in OTHER_FILES and "/planted/" not in it]
 
 
 def faults() -> list[str]:
