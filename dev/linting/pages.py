@@ -20,6 +20,7 @@ LINK = re.compile(r"\]\(([^)\s]+)\)")
 BY_NAME = re.compile(r"\[[^\[\]]+\]\[([^\[\]]+)\]")
 TARGET = re.compile(r"^\[([^\[\]]+)\]: (\S+)$", re.M)
 PATH = re.compile(r"(?<![\w./$\"'{}@~-])(?:\.ci|bench|crates|dev|docs|examples|tools)/[\w./*-]*[\w*]")
+# Texts that name files that are gone, or that were never there.
 OTHER_FILES = ("CHANGELOG.md", "dev/test_tools")
 STANDS_FOR_OTHERS = re.compile(r"\*|\.\.|\b[A-Z]+\b(?!\.md)|/out\b|/my_machine\b")
 
@@ -70,25 +71,25 @@ def links_of(page: Path, text: str) -> Iterator[tuple[int, str]]:
     yield from ((it.start(), f"the page has no target [{it[1]}]") for it in named)
 
 
-def paths_of(text: str) -> Iterator[tuple[int, str]]:
-    for it in PATH.finditer(text):
+def paths_of(file: Path, text: str) -> Iterator[tuple[int, str]]:
+    for it in () if str(file.relative_to(TOP)) in OTHER_FILES else PATH.finditer(text):
         path = it[0].rstrip(".")
         if not STANDS_FOR_OTHERS.search(path) and not (TOP / path).exists():
             yield it.start(), f"there is no {path}"
 
 
 def files() -> list[Path]:
-    """The texts of this repository, but for those that name made-up files, or files that are gone."""
+    """The texts of this repository, but for examples of mistakes."""
     listed = subprocess.run(["git", "ls-files", "--cached", "--others", "--exclude-standard"], cwd=TOP,
                             stdout=subprocess.PIPE, text=True, check=True).stdout.splitlines()
     texts = [it for it in listed if it.endswith((".md", ".py", ".rt", ".antt")) or "." not in Path(it).name]
-    return [TOP / it for it in texts if (TOP / it).is_file() and it not in OTHER_FILES and "/planted/" not in it]
+    return [TOP / it for it in texts if (TOP / it).is_file() and "/planted/" not in it]
 
 
 def faults() -> list[str]:
     found = []
     for file in files():
         text = file.read_text(errors="replace")
-        wrong = [*paths_of(text), *(links_of(file, text) if file.suffix == ".md" else ())]
+        wrong = [*paths_of(file, text), *(links_of(file, text) if file.suffix == ".md" else ())]
         found += [f"{file.relative_to(TOP)}:{text.count(chr(10), 0, at) + 1}: {what}" for at, what in wrong if what]
     return found
