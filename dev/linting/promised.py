@@ -1,12 +1,13 @@
-"""Public calls that have a clause `ensures`, and that no page names.
+"""Public calls that have a clause `ensures`, and that no page names; and calls that a page names and that are gone.
 
 docs/promises.md or docs/layers.md has to name each, as code: `CRATE::NAME`, `TYPE::NAME`, or NAME alone in a paragraph,
 an item or a row that also names its crate, its type or its module. One path may have several names, `Rig::{now, state}`,
 and a star stands for all names that fit: `Plan::*` or `mpf_sections::as_*`. Crates of tests promise nothing. A fault is
-`FILE: CALL`."""
+`FILE: CALL`. A path in a page that begins with a crate has to name something in its code."""
 import re
 from collections.abc import Iterable, Iterator
 from fnmatch import fnmatchcase
+from functools import cache
 from pathlib import Path
 from typing import NamedTuple
 
@@ -34,6 +35,9 @@ class Call(NamedTuple):
         """What a path to the call may have before its name."""
         return {self.crate, self.file.stem, self.of}
 
+    def shown(self) -> str:
+        return self.name if self.of == self.name else f"{self.of}::{self.name}"
+
 
 def calls() -> Iterator[Call]:
     for crate in listed():
@@ -60,6 +64,22 @@ def is_named(call: Call, paths: Iterable[str], words: set[str]) -> bool:
     return False
 
 
+@cache
+def words_in(crate: str) -> frozenset[str]:
+    """The words of the code of a crate, and the names of its files."""
+    files = list((TOP / "crates" / crate / "src").rglob("*.rt"))
+    return frozenset(word for it in files for word in (it.stem, *re.findall(r"\w+", it.read_text())))
+
+
+def gone() -> Iterator[str]:
+    """The paths of calls on the pages that have a name which is not in the code of their crate."""
+    for page in PAGES:
+        for path in paths_in((TOP / page).read_text()):
+            crate, *names = path.split("::")
+            if crate in listed() and not words_in(crate).issuperset(it for it in names if "*" not in it):
+                yield f"{page}: there is no {path}"
+
+
 def faults() -> list[str]:
     left = list(calls())
     for page in PAGES:
@@ -67,4 +87,4 @@ def faults() -> list[str]:
             paths = list(paths_in(block))
             words = {word for path in paths for word in path.split("::")}
             left = [it for it in left if not is_named(it, paths, words)]
-    return [f"{it.file.relative_to(TOP)}: {it.name if it.of == it.name else f'{it.of}::{it.name}'}" for it in left]
+    return [*gone(), *(f"{it.file.relative_to(TOP)}: {it.shown()}" for it in left)]
