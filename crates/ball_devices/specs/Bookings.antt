@@ -30,9 +30,9 @@ booked (Lose d) l = Lost d
 booked (Arrive target) l = Arrived target
 
 -- the call may come: its device and target are there, and a ball that leaves or arrives is there to do so. A ball may
--- enter if fewer than 2^32 balls are known after it.
+-- enter if fewer than 2^32 balls are known.
 abbrev pub MayBook : LedgerCall → Ledger → Type 0
-MayBook (Enter d) l = (d.0 < length l.counted) × (l.known + 1 < 2 ^ 32)
+MayBook (Enter d) l = (d.0 < length l.counted) × (l.known < 2 ^ 32)
 MayBook (Leave d target) l = (d.0 < length l.counted) × IsTargetThere (length l.counted) target × (0 < counted_in l d)
 MayBook (Lose d) l = (d.0 < length l.counted) × (0 < counted_in l d)
 MayBook (Arrive target) l = IsTargetThere (length l.counted) target × (0 < transit_to l target)
@@ -43,7 +43,7 @@ is_target_there rows Playfield = true
 is_target_there rows (Device d) = nat_lt d.0 rows
 
 abbrev pub can_book : LedgerCall → Ledger → Bool
-can_book (Enter d) l = nat_lt d.0 (length l.counted) && nat_lt (l.known + 1) (2 ^ 32)
+can_book (Enter d) l = nat_lt d.0 (length l.counted) && nat_lt l.known (2 ^ 32)
 can_book (Leave d target) l =
     nat_lt d.0 (length l.counted) && (is_target_there (length l.counted) target && nat_lt 0 (counted_in l d))
 can_book (Lose d) l = nat_lt d.0 (length l.counted) && nat_lt 0 (counted_in l d)

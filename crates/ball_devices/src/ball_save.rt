@@ -7,14 +7,7 @@ ghost use Rattle.plan_tables.specs.declared.devices.Settings.TheVariants as kind
 use crate::ejects::answer;
 use device_objects::{Device, DeviceState, Outcome, SaveState, World};
 use machine_settings::SaveSettings;
-use plan_tables::{Act, DeviceRow, Settings};
-
-/// The list of a ball save that becomes active.
-const ENABLED: u16 = 0;
-/// The list of a ball save that is active no more.
-const DISABLED: u16 = 1;
-/// The list of a ball that is saved.
-const SAVING: u16 = 2;
+use plan_tables::{Act, DeviceRow, SAVE_DISABLED, SAVE_ENABLED, SAVE_SAVING, Settings};
 
 /// A ball save. While it is active it saves balls that drain. It ends when it has saved as many as its
 /// settings say, when its time is over, or when it is disabled.
@@ -121,7 +114,7 @@ fn enable(settings: &SaveSettings, state: &mut SaveState, now: u64) -> Outcome
     state.active = true;
     state.left = settings.balls;
     state.due = end_of(settings, now);
-    answer(&[ENABLED])
+    answer(&[SAVE_ENABLED])
 }
 
 /// It is active no more.
@@ -134,7 +127,7 @@ fn disable(state: &mut SaveState) -> Outcome
     }
     state.active = false;
     state.due = None;
-    answer(&[DISABLED])
+    answer(&[SAVE_DISABLED])
 }
 
 /// It has saved a ball: after the last one it is active no more.
@@ -143,11 +136,11 @@ fn saved(state: &mut SaveState) -> Outcome
     ensures lists { result.items ≡ (saved state.old).1 }
 {
     if state.left > 0 {
-        return answer(&[SAVING]);
+        return answer(&[SAVE_SAVING]);
     }
     state.active = false;
     state.due = None;
-    answer(&[SAVING, DISABLED])
+    answer(&[SAVE_SAVING, SAVE_DISABLED])
 }
 
 /// It saves a ball, if it is active.

@@ -77,13 +77,13 @@ pub(crate) fn begin(
 }
 
 /// The number of the attempt after one of this number, if it may attempt once more. Without a limit
-/// attempts are not counted.
+/// the number stays at 1,000 once it is there.
 fn next_attempt(settings: &BallSettings, number: u16) -> Option<u16>
     ensures may { is_some result ≡ may_try_again settings.now.ejects.max_attempts number }
     ensures next { IfSome result (λ next. next ≡ next_number settings.now.ejects.max_attempts number) }
 {
     match settings.ejects.max_attempts {
-        None => Some(number),
+        None => Some(number.saturating_add(1).min(1000)),
         Some(most) if number < most => Some(number + 1),
         Some(_) => None,
     }

@@ -7,12 +7,7 @@ ghost use Rattle.plan_tables.specs.declared.devices.Settings.TheVariants as kind
 use crate::ejects::answer;
 use device_objects::{Device, DeviceState, MultiballState, Outcome, World};
 use machine_settings::MultiballSettings;
-use plan_tables::{Act, DeviceRow, Settings};
-
-/// The list of a multiball that starts.
-const STARTED: u16 = 0;
-/// The list of a multiball that ends.
-const ENDED: u16 = 1;
+use plan_tables::{Act, DeviceRow, MULTIBALL_ENDED, MULTIBALL_STARTED, Settings};
 
 /// A multiball. It can start while a ball is in play, and ends when it is told to: when only one is left.
 #[derive(Drop)]
@@ -97,7 +92,7 @@ fn start(state: &mut MultiballState, world: World) -> Outcome
         return Outcome::new();
     }
     state.running = true;
-    answer(&[STARTED])
+    answer(&[MULTIBALL_STARTED])
 }
 
 /// It ends, if it is running.
@@ -109,7 +104,7 @@ fn end(state: &mut MultiballState) -> Outcome
         return Outcome::new();
     }
     state.running = false;
-    answer(&[ENDED])
+    answer(&[MULTIBALL_ENDED])
 }
 
 /// What an act does.

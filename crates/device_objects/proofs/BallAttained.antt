@@ -41,7 +41,7 @@ unused (suc n) b some = All-drop (λ c. c ≡ empty) n (replicate 15 empty) (All
 
 -- the number of the last attempt, where there is one
 last_attempt : (most : Option ℕ) → is_some most ≡ true
-    → (n : ℕ) × (1 ≤ n) × (n ≤ max 1 (unwrap_or most 1)) × (may_try_again most n ≡ false)
+    → (n : ℕ) × (1 ≤ n) × (n ≤ max 1 (unwrap_or most 1000)) × (may_try_again most n ≡ false)
 last_attempt most some = search rules
 
 module _ (d : BallSettings) (limits : IsWithinLimits (kinds.BallDevice d)) where
@@ -173,7 +173,7 @@ module _ (d : BallSettings) (limits : IsWithinLimits (kinds.BallDevice d)) where
       (all_if Answer (is_some d.ejects.max_attempts) ((failed ∷ []) ∷ [])
       (λ some. one Answer (failed ∷ []) (gives_up (last_attempt d.ejects.max_attempts some))))
     where
-      gives_up : (n : ℕ) × (1 ≤ n) × (n ≤ max 1 (unwrap_or d.ejects.max_attempts 1))
+      gives_up : (n : ℕ) × (1 ≤ n) × (n ≤ max 1 (unwrap_or d.ejects.max_attempts 1000))
           × (may_try_again d.ejects.max_attempts n ≡ false)
           → IsAnswer (kinds.BallDevice d) calls.Fire (failed ∷ [])
       gives_up last =

@@ -1,5 +1,5 @@
 -- Ball devices keep their shape.
-use Rattle.std.proofs.Common.{rules, ◌≡◌, ℕ, ◌+◌, ◌-◌, ◌<◌, ◌≤◌, inl, inr, Bool, true, false, Option, Some, List, length, get_or, drop, map, nat_lt, if◌then◌else◌, sym, ap, ◌∙◌, arith}
+use Rattle.std.proofs.Common.{rules, ◌≡◌, ℕ, ◌+◌, ◌-◌, ◌<◌, ◌≤◌, inl, inr, max, Bool, true, false, Option, None, Some, unwrap_or, List, length, get_or, drop, map, nat_lt, if◌then◌else◌, sym, ap, ◌∙◌, arith}
 use Rattle.std.{specs.List.All, proofs.lemmas.{Bool.{cases_lt, ltb-true}, Option.none-some}}
 use Rattle.std.proofs.lemmas.List.{drop-map, get_or-drop, get_or_past, length-drop, length-map, length-set, drop-set-lt}
 use Rattle.std.proofs.lemmas.List.Elements.{All-drop, All-map, All-replicate, All-same, All-weaker}
@@ -8,7 +8,7 @@ use Rattle.plan_tables.specs.declared.devices.Act.TheVariants as acts
 use Rattle.device_objects.specs.declared.{device.Call.Call, state.Eject.{Eject, TheVariants.Idle}}
 use Rattle.device_objects.specs.declared.device.Call.TheVariants as calls
 use Rattle.device_objects.specs.declared.state.{BallSwitch.BallSwitch, BallState.BallState}
-use Rattle.device_objects.specs.BallDevice.{empty, first_state, set_switch, has_ball, first_due, can_begin, begin, ended, time_out, confirm, switched, gone, count, count_due, fire, requested, act_step, halted, not_due, ball_step}
+use Rattle.device_objects.specs.BallDevice.{empty, first_state, set_switch, has_ball, first_due, can_begin, begin, ended, may_try_again, next_number, time_out, confirm, switched, gone, count, count_due, fire, requested, act_step, halted, not_due, ball_step}
 use Rattle.device_objects.{specs.Laws.{IsAttempt, IsEjectOf, HasBallShape}, proofs.BallDue.first_due-is_due}
 
 -- ---- ball switches that a device does not have
@@ -48,6 +48,12 @@ module _ (d : BallSettings) where
   pub first_attempt : IsAttempt d 1
   first_attempt = (omega arith, omega arith)
 
+  -- the attempt after another one that is not the last
+  next_attempt : (most : Option ℕ) (n : ℕ) → 1 ≤ n → may_try_again most n ≡ true
+      → (1 ≤ next_number most n) × (next_number most n ≤ max 1 (unwrap_or most 1000))
+  next_attempt None n some may = (omega arith, omega arith)
+  next_attempt (Some most) n some may = let more = ltb-true n most may in (omega arith, omega (arith, more))
+
   with_eject : (s : BallState) (eject : Eject) (wanted : ℕ) → HasBallShape d s → IsEjectOf d eject → wanted ≤ 255
       → HasBallShape d (record s { eject = eject; wanted = wanted })
   with_eject s eject wanted shape of few = search rules
@@ -82,7 +88,7 @@ module _ (d : BallSettings) where
 
   time_out-shape : (now : ℕ) (eject : Eject) (s : BallState) → IsEjectOf d eject → HasBallShape d s
       → HasBallShape d (time_out d now eject s).0
-  time_out-shape now eject s is shape = search rules
+  time_out-shape now eject s is shape = search (rules, next_attempt)
 
   confirm-shape : (now : ℕ) (eject : Eject) (s : BallState) → HasBallShape d s
       → HasBallShape d (confirm d now eject s).0

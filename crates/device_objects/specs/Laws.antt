@@ -22,9 +22,9 @@ abbrev pub HasBankShape : BankSettings → BankSlot → Type 0
 HasBankShape b slot =
     (length slot.enabled ≡ length b.enabled) × (length slot.states ≡ 16) × All (λ s. s ≤ b.last_state) slot.states
 
--- The number of an attempt is at least 1, and at most the limit. Without a limit it is 1.
+-- The number of an attempt is at least 1, and at most the limit, or 1,000 if there is none.
 abbrev pub IsAttempt : BallSettings → ℕ → Type 0
-IsAttempt d number = (1 ≤ number) × (number ≤ max 1 (unwrap_or d.ejects.max_attempts 1))
+IsAttempt d number = (1 ≤ number) × (number ≤ max 1 (unwrap_or d.ejects.max_attempts 1000))
 
 -- Only a device with a coil can be Pulsing. Only one with a coil, or with a mechanical eject, can be Away.
 abbrev pub IsEjectOf : BallSettings → Eject → Type 0

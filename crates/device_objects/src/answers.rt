@@ -13,7 +13,10 @@ use crate::device::{Call, Outcome};
 use crate::values::clamped;
 use arrayvec::ArrayVec;
 use machine_settings::{BlockSettings, CounterSettings, SaveSettings, StepSettings, TimerSettings};
-use plan_tables::{Act, BallSettings, BallTarget, BankSettings, Settings};
+use plan_tables::{
+    Act, BallSettings, BallTarget, BankSettings, MULTIBALL_ENDED, MULTIBALL_STARTED, SAVE_DISABLED,
+    SAVE_ENABLED, SAVE_SAVING, Settings,
+};
 
 /// What a call of a device can answer, whatever the device's state. A hit of a shot has most outcomes:
 /// nothing, or in each of 16 states a hit that completes its group, or one that does not.
@@ -386,9 +389,12 @@ fn of_save_act(save: &SaveSettings, act: Act) -> Outcomes
     ensures { map (λ o. o.items) result.items ≡ of_save_act save.now act }
 {
     match act {
-        Act::Enable => with(silent(), &[0]),
-        Act::Disable => with(silent(), &[1]),
-        Act::Save => with(with_if(silent(), 1 < save.balls, &[2]), &[2, 1]),
+        Act::Enable => with(silent(), &[SAVE_ENABLED]),
+        Act::Disable => with(silent(), &[SAVE_DISABLED]),
+        Act::Save => {
+            let goes_on = with_if(silent(), 1 < save.balls, &[SAVE_SAVING]);
+            with(goes_on, &[SAVE_SAVING, SAVE_DISABLED])
+        }
         _ => silent(),
     }
 }
@@ -398,7 +404,7 @@ fn of_save(save: &SaveSettings, call: Call) -> Outcomes
 {
     match call {
         Call::ModeStart | Call::ModeStop => silent(),
-        Call::Fire => with_if(none(), save.active_time > 0, &[1]),
+        Call::Fire => with_if(none(), save.active_time > 0, &[SAVE_DISABLED]),
         Call::Act(act) => of_save_act(save, act),
     }
 }
@@ -407,8 +413,8 @@ fn of_multiball(act: Act) -> Outcomes
     ensures { map (λ o. o.items) result.items ≡ of_multiball act }
 {
     match act {
-        Act::Start => with(silent(), &[0]),
-        Act::End => with(silent(), &[1]),
+        Act::Start => with(silent(), &[MULTIBALL_STARTED]),
+        Act::End => with(silent(), &[MULTIBALL_ENDED]),
         _ => silent(),
     }
 }

@@ -117,7 +117,7 @@ fn are_empty(switches: &[BallSwitch]) -> bool
 fn is_attempt(device: &BallSettings, attempt: Attempt) -> bool
     ensures { IsTrue result ↔ IsAttempt device.now attempt.number }
 {
-    let most = device.ejects.max_attempts.unwrap_or(1).max(1);
+    let most = device.ejects.max_attempts.unwrap_or(1000).max(1);
     1 <= attempt.number && attempt.number <= most
 }
 

@@ -255,10 +255,15 @@ fn append_mode<R: Files + AllocGlobal>(
     let path = path_in(rt.alloc(), folder, &name)?;
     let appended = match fs::open(rt, &path) {
         Ok(mut file) => append_file(rt.alloc(), bundle, &name, &mut file),
-        Err(error) if error.kind() == ErrorKind::NotFound => Ok(()),
+        Err(error) if is_not_there(error.kind()) => Ok(()),
         Err(_) => Err(ShellFault::Read),
     };
     appended.map_err(|fault| Failure::at(fault, path))
+}
+
+/// Whether there is no file of a path: none of its name, or no folder on the way to it.
+fn is_not_there(kind: ErrorKind) -> bool {
+    kind == ErrorKind::NotFound || kind == ErrorKind::NotADirectory
 }
 
 /// Adds the text of this name and file to the bundle.

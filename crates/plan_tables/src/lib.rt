@@ -3,6 +3,7 @@
 #![tactic(auto)]
 
 pub mod devices;
+pub mod effect_lists;
 pub mod entries;
 pub mod names;
 mod placing;
@@ -12,6 +13,9 @@ mod works;
 
 pub use devices::{
     Act, BallSettings, BallTarget, BankSettings, DeviceRow, RowId, Settings, Telling,
+};
+pub use effect_lists::{
+    MULTIBALL_ENDED, MULTIBALL_STARTED, SAVE_DISABLED, SAVE_ENABLED, SAVE_SAVING,
 };
 pub use entries::{
     Action, Binding, BindingId, CoilId, CoilLimits, Condition, EventId, GAME_EVENTS, GameEvent,

@@ -4,6 +4,7 @@ use crate::cases::{Subject, assert_rows};
 use crate::pen::Pen;
 use crate::yaml::tree_of;
 use mpf_values::{BadValue, Item, ListFault, boolean, event, integer, list, name, power, time};
+use std::borrow::CowSlice;
 use std::fmt::Display;
 use yaml_subset::Tree;
 
@@ -357,7 +358,7 @@ fn show_list(pen: &mut Pen, tree: &Tree) {
 }
 
 fn show_scalar_list(pen: &mut Pen, text: &[u8]) {
-    show_list(pen, &Tree::Scalar(7, text));
+    show_list(pen, &Tree::Scalar(7, CowSlice::Borrowed(text)));
 }
 
 /// Adds the value of a text that stands in brackets, or `none`.

@@ -14,7 +14,6 @@ use yaml_subset::{Key, Tree, YamlFault, read};
 fn show(pen: &mut Pen, tree: &Tree) {
     match tree {
         Tree::Scalar(line, text) => pen.quoted(text, *line),
-        Tree::Escaped(line, text) => pen.quoted(text, *line),
         Tree::List(line, items) => {
             pen.value(*line);
             pen.put("[");

@@ -14,6 +14,9 @@ use mpf_config::{
 use plan_contributions::{Contribution, Effect, Parts, add, collect_effect, collect_post, joined};
 use plan_rows::Place;
 use plan_tables::devices::{Act, Settings};
+use plan_tables::effect_lists::{
+    MULTIBALL_ENDED, MULTIBALL_STARTED, SAVE_DISABLED, SAVE_ENABLED, SAVE_SAVING,
+};
 use std::alloc::AllocError;
 
 /// What an entry gives where it is a ball save or a multiball, after what is there.
@@ -81,10 +84,14 @@ fn collect_save_lists<'a>(
 ) -> Result<(), AllocError>
     ensures { OnOk result (Gains contributions.old contributions.new (effects_from 0 (save_lists name.now))) }
 {
-    collect_post(contributions, 0, save_event(name, b"_enabled"))?;
-    collect_post(contributions, 1, save_event(name, b"_disabled"))?;
-    collect_post(contributions, 2, save_event(name, b"_saving_ball"))?;
-    collect_effect(contributions, 2, Effect::Request(1))?;
+    collect_post(contributions, SAVE_ENABLED, save_event(name, b"_enabled"))?;
+    collect_post(contributions, SAVE_DISABLED, save_event(name, b"_disabled"))?;
+    collect_post(
+        contributions,
+        SAVE_SAVING,
+        save_event(name, b"_saving_ball"),
+    )?;
+    collect_effect(contributions, SAVE_SAVING, Effect::Request(1))?;
     Ok(())
 }
 
@@ -122,8 +129,16 @@ fn collect_multiball_lists<'a>(
 ) -> Result<(), AllocError>
     ensures { OnOk result (Gains contributions.old contributions.new (effects_from 0 (multiball_lists name.now balls))) }
 {
-    collect_post(contributions, 0, multiball_event(name, b"_started"))?;
-    collect_effect(contributions, 0, Effect::AddBalls(balls))?;
-    collect_post(contributions, 1, multiball_event(name, b"_ended"))?;
+    collect_post(
+        contributions,
+        MULTIBALL_STARTED,
+        multiball_event(name, b"_started"),
+    )?;
+    collect_effect(contributions, MULTIBALL_STARTED, Effect::AddBalls(balls))?;
+    collect_post(
+        contributions,
+        MULTIBALL_ENDED,
+        multiball_event(name, b"_ended"),
+    )?;
     Ok(())
 }

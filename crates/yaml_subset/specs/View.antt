@@ -11,8 +11,7 @@ abbrev pub pair_step : (Key × Node) → Pair
 pair_step p = record { line = p.0.line; key = cow_slice_items p.0.text; value = p.1 }
 
 abbrev pub node_step : Tree-F Node → Node
-node_step (Tree-F.Scalar n text) = scalar n text.now
-node_step (Tree-F.Escaped n text) = scalar n text.items
+node_step (Tree-F.Scalar n text) = scalar n (cow_slice_items text)
 node_step (Tree-F.List n items) = sequence n (nodes_of items.items)
 node_step (Tree-F.Map n pairs) = mapping n (pairs_of (map pair_step pairs.items))
 

@@ -1,8 +1,6 @@
 //! What a text says.
 
 ghost use Rattle.std.specs.Prelude.{◌≡◌, map};
-ghost use Rattle.std.specs.Cow.{cow_slice_items};
-ghost use Rattle.yaml_subset.specs.Node.{scalar};
 ghost use Rattle.yaml_subset.specs.View.{node_view, pair_view, line_of, text_in, items_in, pairs_in, option_slice};
 
 use std::borrow::CowSlice;
@@ -20,9 +18,7 @@ pub struct Key<'t> {
 #[derive(Drop)]
 pub enum Tree<'t> {
     /// A text; the empty text where there is no value.
-    Scalar(u32, &'t [u8]),
-    /// A text in which an escape is written.
-    Escaped(u32, Vec<u8>),
+    Scalar(u32, CowSlice<'t, u8>),
     /// Nodes in order.
     List(u32, Vec<Tree<'t>>),
     /// Keys with their values, in order; no key comes twice.
@@ -30,23 +26,12 @@ pub enum Tree<'t> {
 }
 
 impl<'t> Tree<'t> {
-    /// The node that a text is, at a line.
-    pub fn scalar(line: u32, text: CowSlice<'t, u8>) -> Self
-        ensures { node_view result ≡ scalar line (cow_slice_items text.entry) }
-    {
-        match text {
-            CowSlice::Borrowed(text) => Tree::Scalar(line, text),
-            CowSlice::Owned(text) => Tree::Escaped(line, text),
-        }
-    }
-
     /// The line where the node begins.
     pub fn line(&self) -> u32
         ensures { result ≡ line_of (node_view self.now) }
     {
         match self {
             Tree::Scalar(line, _) => *line,
-            Tree::Escaped(line, _) => *line,
             Tree::List(line, _) => *line,
             Tree::Map(line, _) => *line,
         }
@@ -57,8 +42,7 @@ impl<'t> Tree<'t> {
         ensures { option_slice (λ text. text) result ≡ text_in (node_view self.now) }
     {
         match self {
-            Tree::Scalar(_, text) => Some(*text),
-            Tree::Escaped(_, text) => Some(text),
+            Tree::Scalar(_, text) => Some(text),
             _ => None,
         }
     }
