@@ -9,7 +9,7 @@ from collections.abc import Iterator
 from functools import cache
 from pathlib import Path
 
-from sources.rooms import TOP
+from sources.rooms import TOP, listed
 
 FENCED = re.compile(r"^ *```.*?^ *```$", re.M | re.S)
 INDENTED = re.compile(r"(?:(?<=\n\n)|\A)(?:    .*\n|\n(?=    ))+", re.M)
@@ -22,6 +22,8 @@ TARGET = re.compile(r"^\[([^\[\]]+)\]: (\S+)$", re.M)
 PATH = re.compile(r"(?<![\w./$\"'{}@~-])(?:\.ci|bench|crates|dev|docs|examples|tools)/[\w./*-]*[\w*]")
 # Texts that name files that are gone, or that were never there.
 OTHER_FILES = ("CHANGELOG.md", "dev/test_tools")
+# The path of a file in a crate, without `crates/`, and perhaps without its ending.
+IN_CRATE = re.compile(r"(?<![\w./])(\w+)/(src|specs|proofs)/([\w/]+(?:\.rt|\.antt)?)")
 STANDS_FOR_OTHERS = re.compile(r"\*|\.\.|\b[A-Z]+\b(?!\.md)|/out\b|/my_machine\b")
 
 
@@ -76,6 +78,10 @@ def paths_of(file: Path, text: str) -> Iterator[tuple[int, str]]:
         path = it[0].rstrip(".")
         if not STANDS_FOR_OTHERS.search(path) and not (TOP / path).exists():
             yield it.start(), f"there is no {path}"
+    for it in IN_CRATE.finditer(text) if file.suffix == ".md" else ():
+        path = TOP / "crates" / it[0]
+        if it[1] in listed() and not any(path.with_suffix(end).exists() for end in (path.suffix, ".rt", ".antt")):
+            yield it.start(), f"there is no {it[0]}"
 
 
 def files() -> list[Path]:

@@ -3,7 +3,7 @@
 The first line, `seconds - all N`, has the whole command. A line `seconds CRATE PART N COUNT LONGEST` follows for each
 crate and PART: `proof` (with the building of a program), `tests`, or `edit` (the must-fail edits). N is what all runs
 of Rattle's prover for it took, COUNT how many they were, and LONGEST what the longest took but the first: the first
-check of an edit proves the whole crate. `dev/measure times` makes a table of it. The status is the command's.
+check of an edit proves the whole crate. `dev/measure gate` makes a table of it. The status is the command's.
 
 `rt ci` prints no times, so this looks at the processes every 0.5 seconds, and misses what a check takes after the last
 look: some 0.25 seconds each. The first line misses nothing. Wants the /proc of Linux."""
