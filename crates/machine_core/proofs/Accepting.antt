@@ -40,7 +40,7 @@ module _ (a : Change) (now : CoreView) (room : IsSound now.room (do_accepted now
   pub line-room : length now.machine.lines < now.room
   line-room =
       let s = now.machine in
-      let more = (goes-told begun).lines in
+      let more = (goes-told begun).grows.lines in
       let fits = told-fits.lines in
       omega (arith, length-append s.lines (record { moment = s.moment; owner = owners.Machine; happening = lines.Switch a.switch a.active } ∷ []))
 

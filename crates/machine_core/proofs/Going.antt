@@ -1,5 +1,5 @@
 -- What is kept while actions are done, devices are called, and other devices are told.
-use Rattle.std.proofs.Common.{rules, ℕ, ℤ, Bool, if◌then◌else◌, Option, None, Some, List, [], ◌∷◌, length-append, refl, ◌∙◌}
+use Rattle.std.proofs.Common.{rules, ℕ, ℤ, Bool, if◌then◌else◌, Option, None, Some, List, [], ◌∷◌, length-append, refl, ◌∙◌, arith}
 use Rattle.plan_tables.specs.PlanView.{PlanView, act_told, actions_at, list_of_row, row_at, target_of}
 use Rattle.plan_tables.specs.declared.entries.{Action.Action, EventId.EventId, Owner.Owner, VariableId.VariableId}
 use Rattle.plan_tables.specs.declared.entries.Action.TheVariants.{Post, Pulse, Enable, Disable, Change as ChangeVariable, Enter, Leave, Lose, Arrive, Request, AddBalls}
@@ -50,8 +50,16 @@ module _ (plan : PlanView) where
 
   goes-told : (owner : Owner) (player : ℕ) (v : VariableId) (e : EventId) (value : Option ℤ) (players : PlayersState) (s : Machine)
       → Goes plan s (tell_change owner player v e value (set_players players s))
-  goes-told owner player v e None players s = record { grows = none-grows s; modes = refl; moment = refl; coils = refl; devices = λ h. h }
-  goes-told owner player v e (Some value) players s = search (rules, told-grows)
+  goes-told owner player v e None players s = record { grows = record { lines = omega arith; waiting = omega arith; known = omega arith; bookings = omega arith; tellings = omega arith }; modes = refl; moment = refl; coils = refl; devices = λ h. h }
+  goes-told owner player v e (Some value) players s =
+      let g = told-grows owner player v e (Some value) (set_players players s) in
+      record {
+        grows = record { lines = g.lines; waiting = g.waiting; known = g.known; bookings = g.bookings; tellings = g.tellings };
+        modes = refl;
+        moment = refl;
+        coils = refl;
+        devices = λ h. h;
+      }
 
   -- a device is called, and goes on to its next state
   pub goes-turn : (call : Call) (r : RowId) (s : Machine) → Goes plan s (set_device r (called plan call r s).0 s)
