@@ -14,10 +14,11 @@ use Rattle.device_objects.specs.declared.device.Call.{Call}
 use Rattle.device_objects.specs.declared.device.Call.TheVariants as calls
 use Rattle.player_game.specs.Players.{PlayersState}
 use Rattle.switch_core.specs.declared.change.Change.{Change}
-use Rattle.written_machine.specs.{declared.line.Happening.Happening, Moves.{Booked, Turned, Unheard, Does, moved, Grows}}
+use Rattle.written_machine.specs.declared.line.Happening.{Happening}
+use Rattle.written_machine.specs.Moves.{Booked, Turned, Unheard, Does, moved, Grows}
 use Rattle.written_machine.specs.Machine.{Machine, write, post, set_device, set_players, all_do, ask_coil, tell_change, book, drain_if, after_entry, enter_ball, add_balls, do_action_by, do_list_by, do_answer_by, called, call_device_by, tell_nobody, told_device, tell_device, tell_first, call_device, ask_ball, end_multiballs, confirm_on_playfield}
-use Rattle.written_machine.proofs.{Does.{book-by, grows-does, has_devices-does, none-grows, then-grows}, Held.asked-count}
-use Rattle.written_machine.proofs.Growth.{post-grows, asked-grows, told-grows}
+use Rattle.written_machine.proofs.Does.{book-by, grows-does, has_devices-does, none-grows, then-grows}
+use Rattle.written_machine.proofs.{Held.asked-count, Growth.{post-grows, asked-grows, told-grows}}
 use Rattle.machine_core.specs.{Core.{CoreView, CanCall, after}, Goes.Goes}
 
 -- devices can be called as before
