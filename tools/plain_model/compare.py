@@ -8,7 +8,7 @@ from collections import Counter
 from dataclasses import dataclass, field
 from pathlib import Path
 
-from . import cascades, damage, draw, logs, odd, plant, wanted
+from . import cascades, damage, draw, edges, logs, odd, plant, wanted
 from .answers import Answer, Judged, judge
 from .bundle import MACHINE_TEXT, VERSION, ConfigFault, joined, split_bundle
 from .costs import Costs, Weights
@@ -19,6 +19,7 @@ from .yaml_text import read
 
 SECONDS, MOST_SECONDS = 2.0, 60.0  # of the processor for an answer, and by the clock
 MOST_LINES = 200  # of an answer, in a report
+GREATEST_LINES = 4_000_000  # of a play that comes to the greatest values
 VERSION_1 = b"pinball-certificate 1\n"
 SECTIONS = {*SETTINGS, *PLAYERS}
 OF_SAVES = {"active_time", "balls_to_save", "ball_count"}  # settings
@@ -288,6 +289,20 @@ class Comparison:
         judged, seen = judge(bundle), Counter()
         self.compare("play", bundle, log, judged.play(log, seen))
         self.count("many balls wanted", *seen)
+
+    def edges(self, seed: str) -> None:
+        """A machine whose log comes close to the moments at which a rule changes."""
+        self.seed = seed
+        bundle, log = edges.drawn(random.Random(seed))
+        self.compare("play", bundle, log, judge(bundle).play(log))
+        self.count("moments at an edge")
+
+    def greatest(self) -> None:
+        """A machine in which values come to their limits."""
+        self.seed = "greatest"
+        bundle, log = edges.greatest()
+        self.compare("play", bundle, log, judge(bundle).play(log, most_lines=GREATEST_LINES))
+        self.count("greatest values")
 
     def cascade(self, seed: str) -> None:
         """A machine of long cascades, by the model that knows these alone."""

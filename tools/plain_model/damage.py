@@ -88,6 +88,8 @@ def certificate(draw: random.Random, text: bytes) -> bytes:
         lines[at] = draw.choice(ODD_LINES)
     elif kind == 5:
         lines[1] = f"bound {draw.choice([0, 1, 3, 10, 9_999, 99_999, 100_000, 100_001, 4_294_967_295])}"
+        if draw.random() < 0.5:
+            damage_switches(draw, lines)
     elif kind == 6:
         del lines[at:]
     elif kind == 7:
