@@ -19,6 +19,7 @@ from .yaml_text import read
 
 SECONDS, MOST_SECONDS = 2.0, 60.0  # of the processor for an answer, and by the clock
 MOST_LINES = 200  # of an answer, in a report
+DAMAGED = 3  # certificates of each machine that are damaged
 GREATEST_LINES = 4_000_000  # of a play that comes to the greatest values
 VERSION_1 = b"pinball-certificate 1\n"
 SECTIONS = {*SETTINGS, *PLAYERS}
@@ -189,7 +190,7 @@ class Comparison:
         certified = b""
         if judged.plan:
             certified = right_certificate(drawing, judged)
-            self.verified(judged, certified, damage.certificate(drawing, certified))
+            self.verified(judged, certified, *(damage.certificate(drawing, certified) for _ in range(DAMAGED)))
         elif drawing.random() < 0.2:
             self.compare("verify", bundle, b"?", judged.check())
             self.count("verify: refused")
