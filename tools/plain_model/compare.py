@@ -8,7 +8,7 @@ from collections import Counter
 from dataclasses import dataclass, field
 from pathlib import Path
 
-from . import cascades, damage, draw, edges, logs, odd, plant, wanted
+from . import cascades, damage, draw, edges, greatest, logs, odd, once, plant, wanted
 from .answers import Answer, Judged, judge
 from .bundle import MACHINE_TEXT, VERSION, ConfigFault, joined, split_bundle
 from .costs import Costs, Weights
@@ -298,10 +298,22 @@ class Comparison:
         self.compare("play", bundle, log, judge(bundle).play(log))
         self.count("moments at an edge")
 
+    def once(self) -> None:
+        """The texts that are compared once in each run."""
+        small = judge(once.machine(once.SMALL))
+        for number, (command, bundle, file) in enumerate(once.questions(small.certificate().encode())):
+            self.seed = f"once/{number}"
+            judged = judge(bundle)
+            if command == "check":
+                self.checked(judged)
+            else:
+                self.compare(command, bundle, file, judged.verify(file) if command == "verify" else judged.play(file))
+            self.count("once")
+
     def greatest(self) -> None:
         """A machine in which values come to their limits."""
         self.seed = "greatest"
-        bundle, log = edges.greatest()
+        bundle, log = greatest.drawn()
         self.compare("play", bundle, log, judge(bundle).play(log, most_lines=GREATEST_LINES))
         self.count("greatest values")
 
