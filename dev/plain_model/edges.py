@@ -9,7 +9,8 @@ import random
 from dataclasses import dataclass, field
 
 HEAD = "@ config/config.yaml\n#config_version=6\nmodes: m\nmachine: {min_balls: 0}\n"
-MODE = "@ modes/m/config/m.yaml\n#config_version=6\nmode: {game_mode: no, start_events: s_go_active, stop_events: s_end_active}\n"
+MODE = "@ modes/m/config/m.yaml\n#config_version=6\n"
+MODE += "mode: {game_mode: no, start_events: s_go_active, stop_events: s_end_active}\n"
 CONTROLS = "start stop pause reset restart add subtract jump".split()
 DELAY = 5  # of a switch that is not quick
 BLOCK = {"reset": "reset_events", "restart": "restart_events", "enable": "enable_events", "disable": "disable_events"}
@@ -35,7 +36,8 @@ class Edges:
     def __init__(self, draw: random.Random):
         self.draw, self.now, self.lines = draw, 0, []
         self.coming: list[int] = []
-        kinds = [self.counter, self.steps, self.timer, self.shots, self.flipper, self.coil, self.slow, self.save, self.lock]
+        kinds = [self.counter, self.steps, self.timer, self.shots, self.flipper, self.coil]
+        kinds += [self.slow, self.save, self.lock]
         base = Part(switches={"start": [], "drain": [1], "go": [], "end": []}, held={"drain": 1})
         self.parts = [base, *(kind() for kind in draw.sample(kinds, draw.choice([1, 2, 3])))]
         self.spans = {name: spans for part in self.parts for name, spans in part.switches.items()}
@@ -96,9 +98,7 @@ class Edges:
             sections["shots"] += f"  {name}: {{{', '.join(entry)}}}\n"
             switches |= {f"{name}_{act}": [] for act in SHOT}
         more = f"{self.yes('advance_on_hit')}, {self.yes('loop')}"
-        sections["shot_profiles"] = f"  p: {{states: [name: a, name: b, name: c], {more}}}".replace(
-            "[name: a, name: b, name: c]", "[{name: a}, {name: b}, {name: c}]"
-        )
+        sections["shot_profiles"] = f"  p: {{states: [{{name: a}}, {{name: b}}, {{name: c}}], {more}}}"
         return Part(machine=sections, switches=switches)
 
     def flipper(self) -> Part:
@@ -121,8 +121,8 @@ class Edges:
         drives += "  s_k_on_active: {k: enable}\n  s_k_off_active: {k: disable}"
         coil = f"{{default_pulse_ms: {pulse}, max_pulse_ms: 20, allow_enable: yes{hold}}}"
         switches = {"k_pulse": [pulse, 2 * pulse], "k_long": [long, 2 * long], "k_on": [], "k_off": []}
-        return Part({"coils": f"  k: {coil}", "coil_player": drives}, {"coil_player": drives} if self.chance(0.5) else {},
-                    switches)
+        mode = {"coil_player": drives} if self.chance(0.5) else {}
+        return Part({"coils": f"  k: {coil}", "coil_player": drives}, mode, switches)
 
     def slow(self) -> Part:
         return Part(switches={"slow": [DELAY]}, held={"slow": DELAY})
@@ -142,9 +142,10 @@ class Edges:
     def lock(self) -> Part:
         """A plunger that ejects to a device in which balls end, or to the playfield."""
         time, most = self.draw.randint(5, 30), self.draw.choice([0, 1, 2])
-        eject = self.draw.choice(["eject_coil: c_lock", "mechanical_eject: yes", "eject_coil: c_lock, mechanical_eject: yes"])
-        entry = [f"ball_switches: s_l_ball, {eject}, eject_timeouts: {time}, max_eject_attempts: {most}"]
-        entry += ["entrance_count_delay: 2, exit_count_delay: 3", f"eject_targets: {self.draw.choice(['drain', 'playfield'])}"]
+        coil, hand = "eject_coil: c_lock", "mechanical_eject: yes"
+        entry = [f"ball_switches: s_l_ball, {self.draw.choice([coil, hand, f'{coil}, {hand}'])}"]
+        entry += [f"eject_timeouts: {time}, max_eject_attempts: {most}, entrance_count_delay: 2, exit_count_delay: 3"]
+        entry += [f"eject_targets: {self.draw.choice(['drain', 'playfield'])}"]
         machine = {"coils": "  c_lock: {default_pulse_ms: 1}", "ball_devices": f"  lock: {{{', '.join(entry)}}}"}
         return Part(machine, switches={"l_ball": [2, 3, time], "field": [time]}, held={"l_ball": 3})
 
