@@ -42,6 +42,7 @@ class Edges:
         self.parts = [base, *(kind() for kind in draw.sample(kinds, draw.choice([1, 2, 3])))]
         self.spans = {name: spans for part in self.parts for name, spans in part.switches.items()}
         self.held = {name: held for part in self.parts for name, held in part.held.items()}
+        self.levels = dict.fromkeys(self.spans, 0)
 
     def chance(self, share: float) -> bool:
         return self.draw.random() < share
@@ -175,15 +176,19 @@ class Edges:
         else:
             self.now += self.draw.choice([0, 1, 1, 2, 3, 7])
 
-    def turn(self, switch: str, level: int) -> None:
-        self.lines.append(f"{self.now} s_{switch} {level}")
+    def turn(self, switch: str) -> None:
+        self.levels[switch] ^= 1
+        self.lines.append(f"{self.now} s_{switch} {self.levels[switch]}")
         self.coming += [self.now + span for span in self.spans[switch]]
 
     def press(self, switch: str) -> None:
-        self.turn(switch, 1)
+        """Closes a switch and opens it. One that is held for some time may stay as it then is."""
+        self.turn(switch)
         if switch in self.held:
+            if self.chance(0.4):
+                return
             self.now += self.held[switch] + self.draw.choice([-1, 0, 0, 0, 1])
-        self.turn(switch, 0)
+        self.turn(switch)
 
     def log(self) -> bytes:
         """Starts a game and the mode, and then mostly presses a few switches of each device."""
