@@ -90,6 +90,10 @@ class Judged:
         wrong = [switch for switch, said in zip(right.switches, given.switches) if switch != said]
         return f"10 Certificate Switch {wrong[0][0]} {wrong[0][1]}" if wrong else None
 
+    def answer(self, command: str, file: bytes) -> Answer:
+        """What a command prints, with the certificate or the log that it reads."""
+        return self.check() if command == "check" else self.verify(file) if command == "verify" else self.play(file)
+
     def play(self, log: bytes, seen: Counter[str] | None = None, most_lines: int = MOST_LINES) -> Answer:
         if not self.is_accepted:
             return self.check()
