@@ -19,7 +19,7 @@ from .yaml_text import read
 
 SECONDS, MOST_SECONDS = 2.0, 60.0  # of the processor for an answer, and by the clock
 MOST_LINES = 200  # of an answer, in a report
-DAMAGED = 3  # certificates of each machine that are damaged
+DAMAGED, ODD = 3, 4  # damaged certificates, and texts of parts of YAML, for each machine
 GREATEST_LINES = 4_000_000  # of a play that comes to the greatest values
 VERSION_1 = b"pinball-certificate 1\n"
 SECTIONS = {*SETTINGS, *PLAYERS}
@@ -203,6 +203,9 @@ class Comparison:
             self.checked(judge(f"@ {MACHINE_TEXT}\n{VERSION}\n{drawing.choice(odd.TEXTS)}".encode()))
         if drawing.random() < 0.5:
             self.checked(judge(f"@ {MACHINE_TEXT}\n{VERSION}\n{drawing.choice(odd.SAVE_TEXTS)}".encode()))
+        for _ in range(ODD):
+            text = f"@ {MACHINE_TEXT}\n{VERSION}\n{odd.drawn(drawing)}".encode()
+            self.compare("check", text, b"", judge(text).check())
         self.count("machines")
 
     def checked(self, judged: Judged) -> None:

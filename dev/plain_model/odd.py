@@ -1,4 +1,5 @@
 """Odd values and odd texts, for what random damage seldom makes."""
+import random
 
 VALUES: list[str] = [
     "0", "1", "01", "-1", "-0", "+1", "1ms", "1s", "1m", "1h", "1d", "1.5s", "1.0005s", "1.001s", "0.001s", "0.0001s",
@@ -59,6 +60,17 @@ SAVE_TEXTS: list[str] = [
     "ball_saves: {playfield: {}}", "multiballs: {playfield: {ball_count: 2}}", "ball_saves: {bs: {start_events: a}}",
     "multiballs: {mb: {ball_count: 2, enable_events: a}}", "multiballs: {mb: {ball_count: 2, start_events: [a, b]}}",
 ]
+
+
+# What drawn texts are made of: common parts, and rare ones.
+COMMON = ["a", "b", "a: ", "b: ", "k: {", ": ", ":", " ", "  ", "\n", "\n  ", "\n    ", "\n- ", "- ", "-", "\t"]
+COMMON += ["[", "]", "{", "}", ", ", ",", "'", '"', "''", '"a"', "'b'", "#", " #"]
+RARE = ["\\", "\\n", "? ", "?", "&", "|", "---", "\n...\n", "\x7f", "\r", "\r\n", "ä", "\u0085", "\u2028", "%", "*"]
+
+
+def drawn(draw: random.Random) -> str:
+    """A text of parts of YAML in any order."""
+    return "".join(draw.choice(COMMON if draw.random() < 0.95 else RARE) for _ in range(draw.randint(1, 14)))
 
 
 def nested(depth: int) -> list[str]:
