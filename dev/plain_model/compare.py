@@ -19,6 +19,8 @@ from .yaml_text import read
 
 SECONDS, MOST_SECONDS = 2.0, 60.0  # of the processor for an answer, and by the clock
 MOST_LINES = 200  # of an answer, in a report
+CASCADES, EDGES = 4, 3  # small machines for each other machine
+MACHINES_FOR_WANTED = 50  # for so many machines there is a trough that is asked for many balls
 DAMAGED, ODD = 3, 4  # damaged certificates, and texts of parts of YAML, for each machine
 GREATEST_LINES = 4_000_000  # of a play that comes to the greatest values
 VERSION_1 = b"pinball-certificate 1\n"
@@ -170,6 +172,16 @@ class Comparison:
 
     def count(self, *what: str) -> None:
         self.found.counts.update(what)
+
+    def drawn(self, seed: str, number: int) -> None:
+        """Compares the machine of this number, and what is drawn with it."""
+        self.machine(f"{seed}/{number}")
+        for part in range(EDGES):
+            self.edges(f"{seed}/{number}/edges/{part}")
+        if number % MACHINES_FOR_WANTED == 0:
+            self.wanted(f"{seed}/{number}/wanted")
+        for part in range(CASCADES):
+            self.cascade(f"{seed}/{number}/{part}")
 
     # One machine
 

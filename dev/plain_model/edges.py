@@ -39,7 +39,7 @@ class Edges:
         kinds = [self.counter, self.steps, self.timer, self.shots, self.flipper, self.coil]
         kinds += [self.slow, self.save, self.lock]
         base = Part(switches={"start": [], "drain": [1], "go": [], "end": []}, held={"drain": 1})
-        self.parts = [base, *(kind() for kind in draw.sample(kinds, draw.choice([1, 2, 3])))]
+        self.parts = [base, *(kind() for kind in draw.sample(kinds, draw.choice([1, 1, 2])))]
         self.spans = {name: spans for part in self.parts for name, spans in part.switches.items()}
         self.held = {name: held for part in self.parts for name, held in part.held.items()}
         self.levels = dict.fromkeys(self.spans, 0)

@@ -1,9 +1,24 @@
-"""Plants mistakes in copies of the model, to see whether a comparison notices them. mistakes.txt lists them."""
+"""Plants mistakes in copies of the model, and tries whether a comparison notices them. mistakes.txt lists them."""
 import shutil
+import sys
+import tempfile
+from collections.abc import Callable
+from concurrent.futures import ProcessPoolExecutor
 from dataclasses import dataclass
+from functools import partial
+from importlib import import_module
+from multiprocessing import get_context
 from pathlib import Path
+from time import process_time
+from typing import Any
+
+from .answers import Answer, judge
+from .bundle import joined
+from .compare import GREATEST_LINES as MANY
 
 HERE = Path(__file__).resolve().parent
+COPY = "planted_model"
+MACHINES_BEFORE = 25  # what is compared once
 
 
 @dataclass(frozen=True)
@@ -22,10 +37,10 @@ class Mistake:
             raise ValueError(f"{self.what}: what it changes is {text.count(self.old)} times in {self.module}")
         return text.replace(self.old, self.new)
 
-    def plant(self, folder: Path) -> None:
-        """Writes a copy of the model with the mistake into this folder."""
-        shutil.copytree(HERE, folder / HERE.name, ignore=shutil.ignore_patterns("__pycache__"))
-        (folder / HERE.name / f"{self.module}.py").write_text(self.edited())
+    def plant(self, room: Path) -> None:
+        """Writes a copy of the model with the mistake into a room."""
+        shutil.copytree(HERE, room / COPY, ignore=shutil.ignore_patterns("__pycache__"))
+        (room / COPY / f"{self.module}.py").write_text(self.edited())
 
 
 def part_of(lines: list[str], mark: str) -> str:
@@ -43,3 +58,61 @@ def listed() -> list[Mistake]:
         elif module:
             found.append(Mistake(what, module, part_of(edit, "-"), part_of(edit, "+")))
     return found
+
+
+def joined_in(folder: Path) -> bytes:
+    """The bundle of a folder."""
+    files = [file for file in folder.rglob("*") if file.is_file()]
+    return joined({str(file.relative_to(folder)): file.read_bytes() for file in files})
+
+
+def comparison_in(room: Path) -> Any:
+    """A comparison by the copy of the model in a room. This model answers in place of the program."""
+    sys.path.insert(0, str(room))
+    compare = import_module(f"{COPY}.compare")
+
+    class ByModel(compare.Comparison):
+        def ask(self, command: str, bundle: bytes, file: bytes = b"", folder: Path | None = None) -> Answer:
+            judged = judge(joined_in(folder) if folder else bundle)
+            return judged.play(file, most_lines=MANY) if command == "play" else judged.answer(command, file)
+
+    return ByModel(room, room)
+
+
+def first_difference(comparison: Any, count: int, seed: str) -> str | None:
+    """The machine on which the two models differ first, if they do."""
+    steps: list[Callable[[], None]] = [partial(comparison.drawn, seed, number) for number in range(count)]
+    steps[MACHINES_BEFORE:MACHINES_BEFORE] = [comparison.once]
+    steps.append(comparison.greatest)
+    for step in steps:
+        step()
+        for difference in comparison.found.differences:
+            return difference.seed
+    return None
+
+
+def tried(work: tuple[Mistake, int, str]) -> tuple[bool, str]:
+    """Whether a mistake is noticed, and a line that says so."""
+    mistake, count, seed = work
+    with tempfile.TemporaryDirectory() as name:
+        mistake.plant(Path(name))
+        try:
+            by = first_difference(comparison_in(Path(name)), count, seed)
+        except Exception as error:  # (the model may fail in any way)
+            return False, f"NOT noticed: {mistake.what}: the model ends by {error!r}"
+    seconds = f"{process_time():.1f} s of the processor"
+    return by is not None, f"noticed by {by}, {seconds}: {mistake.what}" if by else f"NOT noticed: {mistake.what}"
+
+
+def try_all(words: str, count: int, seed: str, processors: int) -> int:
+    """Tries the mistakes that have these words, each in a process of its own, and prints a line for each.
+
+    The status is 1 if one is not noticed."""
+    work = [(mistake, count, seed) for mistake in listed() if words in mistake.what]
+    verdicts = []
+    with ProcessPoolExecutor(processors, get_context("spawn"), max_tasks_per_child=1) as pool:
+        for is_noticed, line in pool.map(tried, work):
+            print(line, flush=True)
+            verdicts.append(is_noticed)
+    print(f"{verdicts.count(True)} mistakes noticed, {verdicts.count(False)} not")
+    return 0 if all(verdicts) else 1

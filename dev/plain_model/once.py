@@ -62,9 +62,17 @@ def tables(table: str, count: int) -> str:
     return "shots:\n" + "".join(f"  x{at}: {{reset_events: '{' '.join(names)}'}}\n" for at, names in enumerate(lists))
 
 
+def dear(more: int) -> Iterator[str]:
+    """Texts in which a weight is the limit, 100,000, or more; and the same of a bound."""
+    for event, lines in (("a", 144), ("s_active", 143)):
+        posts = " ".join(["b"] * 315 + ["c"] * (lines + more))
+        yield f"switches: {{s: {{}}}}\nevent_player: {{{event}: '{posts}', b: '{' '.join(['c'] * 316)}'}}"
+
+
 def limits() -> Iterator[bytes]:
-    """Tables, a list, the modes and a text at their limits, and one above it."""
+    """Tables, a list, the modes, a text, a weight and a bound at their limits, and one above it."""
     for more in (0, 1):
+        yield from map(machine, dear(more))
         yield from (machine(tables(table, limit + more)) for table, limit in LIMITS.items())
         yield machine("event_player: {a: '" + "b " * (LIST_LIMIT + more) + "'}")
         yield machine("event_player: {a: [" + "b, " * (LIST_LIMIT - 1 + more) + "[]]}")
