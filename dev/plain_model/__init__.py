@@ -24,12 +24,12 @@ then a folder. Of the machines with a game, two in five are busy: they have a tr
 many balls drain in their logs. For each machine there are some texts of parts of YAML in any order, three small
 machines whose logs come close to the moments at which a rule changes, and four with long cascades. For each fifty
 there is a trough that is asked for about as many balls as it can remember. Once in a run these are compared: all odd
-texts, values, certificates and lines of logs, tables at their limits, and a machine in which values come to their
-limits.
+texts, values, certificates and lines of logs, machines that are about one rule each, tables at their limits, and a
+machine in which values come to their limits.
 
 These draw what is compared: `draw` (machines), `plant` (faults in them), `odd` (values and texts that are seldom
 right), `layout` (the texts of a machine), `logs`, `edges` (moments at which a rule changes), `wanted` (a trough that
-has to eject many balls), and `damage` (of bundles, certificates and logs). `once` and `greatest` are not drawn: they
+has to eject many balls), and `damage` (of bundles, certificates and logs). `once`, `rules` and `greatest` are not drawn: they
 are compared once in a run. `cascades` draws small machines, and has a model of its own for them. `compare` asks the
 program and the model, and `coverage` says how often each thing has to come up. `mistakes` plants mistakes in copies of
 the model, to see whether all this notices them.

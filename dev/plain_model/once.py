@@ -3,7 +3,7 @@
 Of drawn machines only some would have one of them, and a rule that a single text shows would rarely be tried."""
 from collections.abc import Iterator
 
-from . import odd
+from . import odd, rules
 from .bundle import MACHINE_TEXT, VERSION
 from .damage import HEADERS, ODD_LINES, ODD_NUMBERS
 from .logs import BAD_LINES, TOO_LATE
@@ -43,6 +43,7 @@ def quoted(value: str) -> str:
 def texts() -> Iterator[str]:
     yield from odd.TEXTS
     yield from odd.SAVE_TEXTS
+    yield from rules.MACHINES
     for value in odd.VALUES:
         yield from (setting % quoted(value) for setting in SETTINGS)
 
