@@ -29,8 +29,8 @@ machine in which values come to their limits.
 
 These draw what is compared: `draw` (machines), `plant` (faults in them), `odd` (values and texts that are seldom
 right), `layout` (the texts of a machine), `logs`, `edges` (moments at which a rule changes), `wanted` (a trough that
-has to eject many balls), and `damage` (of bundles, certificates and logs). `once`, `rules` and `greatest` are not drawn: they
-are compared once in a run. `cascades` draws small machines, and has a model of its own for them. `compare` asks the
-program and the model, and `coverage` says how often each thing has to come up. `mistakes` plants mistakes in copies of
-the model, to see whether all this notices them.
+has to eject many balls), and `damage` (of bundles, certificates and logs). `once`, `rules` and `greatest` are not
+drawn: they are compared once in a run. `cascades` draws small machines, and has a model of its own for them. `compare`
+asks the program and the model, and `coverage` says how often each thing has to come up. `mistakes` plants mistakes in
+copies of the model, to see whether all this notices them.
 """

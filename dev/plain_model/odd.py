@@ -49,7 +49,8 @@ TEXTS: list[str] = [
     "'': a", '\'\': a\n"": b', "a:\n\n\n", "a: ''", "a: 'it''s'", "a: 'it' 's'", 'a: "it""s"', "a: ''''", "a: '''",
     "- 'a': b", "- 'a' : b", "- 'a':b", "- 'a' b", "-'a'", "- a:b", "- a: b: c", "- a: [b]: c",
     "-\t: b", "-\t:", "-\t? a: b", "-\t- a: b", "-\t'a': b", "k: {a b: #a, \x7f", "k: {a: #\x7f", "[a, #\x7f",
-    "[a #\x7f", "k: 'a\x7f", "k: {'a\x7f", "a: \x7f\n\tb: c", "\ta: \x7f", "a: b\na: \x7f", "a: {b: c, b: \x7f", "a: [b]\x7f",
+    "[a #\x7f", "k: 'a\x7f", "k: {'a\x7f", "a: \x7f\n\tb: c", "\ta: \x7f",
+    "a: b\na: \x7f", "a: {b: c, b: \x7f", "a: [b]\x7f",
 ]
 
 

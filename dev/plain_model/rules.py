@@ -8,7 +8,9 @@ IN_MODE = f"modes: m\n{MODE}"
 TRACK = "ball_switches: '', mechanical_eject: yes"
 TARGETS = [("e", "d"), ("e", "e"), ("e", "playfield"), ("playfield", "e"), ("f", "d")]
 ROUTES = [f"ball_devices: {{d: {{{TRACK}, tags: trough}}}}", "ball_devices: {d: {ball_switches: ''}}"]
-ROUTES += [f"ball_devices:\n  d: {{{TRACK}, eject_targets: {d}}}\n  e: {{{TRACK}, eject_targets: {e}}}" for d, e in TARGETS]
+ROUTES += [
+    f"ball_devices:\n  d: {{{TRACK}, eject_targets: {d}}}\n  e: {{{TRACK}, eject_targets: {e}}}" for d, e in TARGETS
+]
 BALL_SWITCHES = [("s s", "t"), ("s", "s"), ("s", "t"), ("s t", "t"), ("u", "u")]
 ROUTES += [
     f"switches: {{s: {{}}, t: {{}}}}\nball_devices:\n  d: {{ball_switches: {d}, mechanical_eject: yes}}\n"
@@ -18,7 +20,8 @@ ROUTES += [
 
 # Shots of groups
 SHOTS = "shots: {x: {profile: p}, y: {}, z: {}}\nshot_profiles: {p: {states: [{name: a}]}}\n"
-GROUPS = [f"{SHOTS}shot_groups: {{g: {{shots: {shots}}}, h: {{shots: z}}}}" for shots in "x,y,x y,y z,y y,y w".split(",")]
+TAKEN = ["x", "y", "x y", "y z", "y y", "y w"]
+GROUPS = [f"{SHOTS}shot_groups: {{g: {{shots: {shots}}}, h: {{shots: z}}}}" for shots in TAKEN]
 GROUPS += [f"{SHOTS}{IN_MODE}shot_groups: {{g: {{shots: {shots}}}}}" for shots in "yw"]
 
 # The ends of timers: direction, start, end
@@ -36,7 +39,9 @@ COILS = ["max_pulse_ms: 9", "max_pulse_ms: 10", "max_pulse_ms: 30", "max_pulse_p
 COILS += ["default_hold_power: 0.5", "default_hold_power: 0.5, max_hold_power: 0.25", "default_hold_power: 0"]
 ACTIONS = ["pulse", "enable", "pulse, pulse_ms: 30", "disable, pulse_ms: 31", "pulse, pulse_power: 0.6"]
 ACTIONS += ["enable, hold_power: 0.6", "enable, hold_power: 0.5"]
-DRIVES = [f"coils: {{k: {{{it}}}}}\ncoil_player: {{a: {{k: {{action: {action}}}}}}}" for it in COILS for action in ACTIONS]
+DRIVES = [
+    f"coils: {{k: {{{it}}}}}\ncoil_player: {{a: {{k: {{action: {action}}}}}}}" for it in COILS for action in ACTIONS
+]
 FLIPPER = "switches: {s: {}}\nflippers: {f: {main_coil: k, hold_coil: k, activation_switch: s}}"
 DRIVES += [f"coils: {{k: {{{it}}}}}\n{FLIPPER}" for it in COILS]
 
