@@ -323,10 +323,13 @@ class Comparison:
             self.count("once")
 
     def greatest(self) -> None:
-        """A machine in which values come to their limits."""
-        self.seed = "greatest"
+        """A machine in which values come to their limits. Its long answer is not looked at as the others are."""
+        self.seed, slowest = "greatest", self.found.slowest
         bundle, log = greatest.drawn()
-        self.compare("play", bundle, log, judge(bundle).play(log, most_lines=GREATEST_LINES))
+        wanted, got = judge(bundle).play(log, most_lines=GREATEST_LINES), self.ask("play", bundle, log)
+        if got != wanted:
+            self.differ("play", bundle, log, wanted, got, "another answer")
+        self.found.slowest = slowest
         self.count("greatest values")
 
     def cascade(self, seed: str) -> None:
