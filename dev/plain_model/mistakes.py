@@ -18,7 +18,6 @@ from .compare import GREATEST_LINES as MANY
 
 HERE = Path(__file__).resolve().parent
 COPY = "planted_model"
-MACHINES_BEFORE = 25  # what is compared once
 
 
 @dataclass(frozen=True)
@@ -81,10 +80,8 @@ def comparison_in(room: Path) -> Any:
 
 def first_difference(comparison: Any, count: int, seed: str) -> str | None:
     """The machine on which the two models differ first, if they do."""
-    steps: list[Callable[[], None]] = [partial(comparison.drawn, seed, number) for number in range(count)]
-    steps[MACHINES_BEFORE:MACHINES_BEFORE] = [comparison.once]
-    steps.append(comparison.greatest)
-    for step in steps:
+    machines: list[Callable[[], None]] = [partial(comparison.drawn, seed, number) for number in range(count)]
+    for step in [comparison.once, *machines, comparison.greatest]:
         step()
         for difference in comparison.found.differences:
             return difference.seed
