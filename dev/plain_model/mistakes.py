@@ -2,10 +2,8 @@
 import shutil
 import sys
 import tempfile
-from collections.abc import Callable
 from concurrent.futures import ProcessPoolExecutor
 from dataclasses import dataclass
-from functools import partial
 from importlib import import_module
 from multiprocessing import get_context
 from pathlib import Path
@@ -65,8 +63,14 @@ def joined_in(folder: Path) -> bytes:
     return joined({str(file.relative_to(folder)): file.read_bytes() for file in files})
 
 
+class Noticed(Exception):
+    """The two models differ on the machine of this seed."""
+
+
 def comparison_in(room: Path) -> Any:
-    """A comparison by the copy of the model in a room. This model answers in place of the program."""
+    """A comparison by the copy of the model in a room. This model answers in place of the program.
+
+    It raises Noticed at the first difference."""
     sys.path.insert(0, str(room))
     compare = import_module(f"{COPY}.compare")
 
@@ -75,17 +79,10 @@ def comparison_in(room: Path) -> Any:
             judged = judge(joined_in(folder) if folder else bundle)
             return judged.play(file, most_lines=MANY) if command == "play" else judged.answer(command, file)
 
+        def differ(self, *what: Any) -> None:
+            raise Noticed(self.seed)
+
     return ByModel(room, room)
-
-
-def first_difference(comparison: Any, count: int, seed: str) -> str | None:
-    """The machine on which the two models differ first, if they do."""
-    machines: list[Callable[[], None]] = [partial(comparison.drawn, seed, number) for number in range(count)]
-    for step in [comparison.once, *machines, comparison.greatest]:
-        step()
-        for difference in comparison.found.differences:
-            return difference.seed
-    return None
 
 
 def tried(work: tuple[Mistake, int, str]) -> tuple[bool, str]:
@@ -93,12 +90,17 @@ def tried(work: tuple[Mistake, int, str]) -> tuple[bool, str]:
     mistake, count, seed = work
     with tempfile.TemporaryDirectory() as name:
         mistake.plant(Path(name))
+        comparison = comparison_in(Path(name))
         try:
-            by = first_difference(comparison_in(Path(name)), count, seed)
+            comparison.once()
+            for number in range(count):
+                comparison.drawn(seed, number)
+            comparison.greatest()
+        except Noticed as noticed:
+            return True, f"noticed on {noticed}, after {process_time():.1f} s of the processor: {mistake.what}"
         except Exception as error:  # (the model may fail in any way)
-            return False, f"NOT noticed: {mistake.what}: the model ends by {error!r}"
-    seconds = f"{process_time():.1f} s of the processor"
-    return by is not None, f"noticed by {by}, {seconds}: {mistake.what}" if by else f"NOT noticed: {mistake.what}"
+            return False, f"NOT noticed, since the model ends by {error!r}: {mistake.what}"
+    return False, f"NOT noticed: {mistake.what}"
 
 
 def try_all(words: str, count: int, seed: str, processors: int) -> int:
