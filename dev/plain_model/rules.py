@@ -50,6 +50,22 @@ EVENTS = "sw_start ball_started game_ended mode_m_started mode_m_will_stop mode_
 NAMES = [f"modes: m\nevent_player: {{a: {event}}}" for event in EVENTS]
 NAMES += [f"variable_player: {{a: {{{it}: 1}}}}" for it in "ball number added turn_ended score".split()]
 
+# What sections may hold
+STATES = ["[]", "[{name: a}, {name: a}]", "[{name: a}, {name: b}]", "[{}]", "[{name: a, show: b}]", "[a]", "''"]
+STEPS = ["[[]]", "[a, []]", "[a, '']", "[a, [b, c]]", "''", "[]"]
+MODES = ["machine", "a a", "[a, b, a]", "m\nmode: {}"]
+OF_MODES = ["switches: {}", "game:", "modes: n", "mode: {prio: 1}", "mode:\ntimers: {t: {}}"]
+SECTIONS = [
+    *(f"shot_profiles: {{p: {{states: {states}}}}}" for states in STATES),
+    *(f"sequences: {{q: {{events: {steps}}}}}" for steps in STEPS),
+    *(f"modes: {modes}" for modes in MODES),
+    *(f"{IN_MODE}{text}" for text in OF_MODES),
+    *(f"counters: {{c: {{count_events: a}}}}\n{IN_MODE}counters: {{{name}: {{count_events: a}}}}" for name in "cd"),
+    *("shot_profiles: {default: {states: [{name: a}]}}", "coils: {playfield: {}}", "shots: {playfield: {}}"),
+    *("counters: {c: {}}", "counters: {c: {starting_count: 1}}", "flippers: {f: {}}", "autofire_coils: {a: {coil: c}}"),
+    *("mode: {}", "timers: {}", f"{MODE}mode: {{}}", f"{IN_MODE}mode: {{}}\n{MODE}mode: {{}}"),
+]
+
 # Costs
 HELD = "coils: {k: {allow_enable: yes}, l: {allow_enable: yes}}\n"
 STARTS = ["", ", start_events: ''", ", start_events: ball_ending a", ", start_events: [ball_ending, ball_ending]"]
@@ -62,4 +78,4 @@ COSTS = [
     "event_player: {a: a}",
 ]
 
-MACHINES = [*ROUTES, *GROUPS, *map(timer, ENDS), *DRIVES, *NAMES, *COSTS]
+MACHINES = [*ROUTES, *GROUPS, *map(timer, ENDS), *DRIVES, *NAMES, *SECTIONS, *COSTS]
