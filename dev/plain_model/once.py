@@ -111,7 +111,7 @@ def questions(certificate: bytes) -> Iterator[Question]:
     """All that is compared once. The certificate is the right one of SMALL."""
     for text in texts():
         yield "check", machine(text), b""
-    for bundle in limits():
+    for bundle in (*(text.encode() for text in rules.BUNDLES), *limits()):
         yield "check", bundle, b""
     for text in certificates(certificate):
         yield "verify", machine(SMALL), text

@@ -1,5 +1,5 @@
-"""Machines that are about one rule each, of the checker or of costs."""
-from .bundle import VERSION
+"""Machines that are about one rule each, of the checker or of costs, and bundles that are."""
+from .bundle import MACHINE_TEXT, VERSION
 
 MODE = f"@ modes/m/config/m.yaml\n{VERSION}\n"  # the text of a mode comes after the machine's
 IN_MODE = f"modes: m\n{MODE}"
@@ -79,3 +79,17 @@ COSTS = [
 ]
 
 MACHINES = [*ROUTES, *GROUPS, *map(timer, ENDS), *DRIVES, *NAMES, *SECTIONS, *COSTS]
+
+# The lines of a bundle
+FRONT = f"@ {MACHINE_TEXT}\n"
+VERSIONS = [f"{VERSION} ", f"{VERSION}\t ", f" {VERSION}", f"{VERSION}\r", f"{VERSION} \r", f"{VERSION}x"]
+VERSIONS += ["# config_version=6", "#config_version=5", ""]
+ATS = ["@\t{}", "@  {}  ", "@{}", "@", "@ ", "@ {}\r", "#\n@ {}", "@ x\n@ {}", "@ {} \r", "@ {}x", "\n@ {}"]
+ATS += ["@ {}\n@ {}", f"@ {{}}\n{VERSION}\n@ {{}}"]
+BUNDLES = [
+    *(f"{FRONT}{version}\nlights:\n" for version in VERSIONS),
+    *(f"{at.format(MACHINE_TEXT, MACHINE_TEXT)}\n{VERSION}\nlights:\n" for at in ATS),
+    *(f"{FRONT}{VERSION}{end}" for end in ("", "\n", "\r", "\r\n", "\n@", "\n@ x", "\n\n")),
+    FRONT + f"{VERSION}\nmodes: a b\nlights:\n"
+    + "".join(f"@ modes/{it}/config/{it}.yaml\n{VERSION}\nshows:\nlights:\n" for it in "cba"),
+]
