@@ -14,8 +14,7 @@ use Rattle.device_objects.specs.declared.device.Call.{Call}
 use Rattle.device_objects.specs.declared.device.Call.TheVariants as calls
 use Rattle.player_game.specs.Players.{PlayersState}
 use Rattle.switch_core.specs.declared.change.Change.{Change}
-use Rattle.written_machine.specs.declared.line.Happening.{Happening}
-use Rattle.written_machine.specs.Moves.{Booked, Turned, Unheard, Does, moved, Grows}
+use Rattle.written_machine.specs.{declared.line.Happening.Happening, Moves.{Booked, Turned, Does, moved, Grows}}
 use Rattle.written_machine.specs.Machine.{Machine, write, post, set_device, set_players, all_do, ask_coil, tell_change, book, drain_if, after_entry, enter_ball, add_balls, do_action_by, do_list_by, do_answer_by, called, call_device_by, tell_nobody, told_device, tell_device, tell_first, call_device, ask_ball, end_multiballs, confirm_on_playfield}
 use Rattle.written_machine.proofs.Does.{book-by, grows-does, has_devices-does, none-grows, then-grows}
 use Rattle.written_machine.proofs.{Held.asked-count, Growth.{post-grows, asked-grows, told-grows}}
@@ -51,11 +50,11 @@ module _ (plan : PlanView) where
 
   goes-told : (owner : Owner) (player : ℕ) (v : VariableId) (e : EventId) (value : Option ℤ) (players : PlayersState) (s : Machine)
       → Goes plan s (tell_change owner player v e value (set_players players s))
-  goes-told owner player v e None players s = record { grows = record { lines = omega arith; waiting = omega arith; known = omega arith; bookings = omega arith; tellings = omega arith }; modes = refl; moment = refl; coils = refl; devices = λ h. h }
+  goes-told owner player v e None players s = record { grows = record { lines = omega arith; waiting = omega arith; known = omega arith; bookings = omega arith }; modes = refl; moment = refl; coils = refl; devices = λ h. h }
   goes-told owner player v e (Some value) players s =
       let g = told-grows owner player v e (Some value) (set_players players s) in
       record {
-        grows = record { lines = g.lines; waiting = g.waiting; known = g.known; bookings = g.bookings; tellings = g.tellings };
+        grows = record { lines = g.lines; waiting = g.waiting; known = g.known; bookings = g.bookings };
         modes = refl;
         moment = refl;
         coils = refl;
@@ -132,9 +131,7 @@ module _ (plan : PlanView) where
   -- ---- where nobody is told
 
   pub goes-tell_nobody : (telling : Telling) (s : Machine) → Goes plan s (tell_nobody telling s)
-  goes-tell_nobody telling s =
-      let lost : Does plan (λ x. Unit {0}) _ s (tell_nobody telling s) = moved (Unheard telling) s tt in
-      record { grows = grows-does plan lost; modes = refl; moment = refl; coils = refl; devices = λ h. h }
+  goes-tell_nobody telling s = goes-none s
 
   goes-device : (telling : Telling) (found : Option RowId) (s : Machine) → Goes plan s (tell_device plan telling found s)
   goes-device telling None s = goes-none s

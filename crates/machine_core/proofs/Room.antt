@@ -17,7 +17,6 @@ room-before room s t g h = record {
   waiting = let a = g.waiting in let b = h.waiting in omega (arith, a, b);
   lines = let a = g.lines in let b = h.lines in omega (arith, a, b);
   kept = let a = g.bookings in let b = h.kept in omega (arith, a, b);
-  heard = let a = g.tellings in let b = h.heard in omega (arith, a, b);
   few = let a = g.known in let b = h.few in omega (arith, a, b);
 }
 

@@ -86,7 +86,7 @@ impl<'p, D: Device> Model for Core<'p, D> {
     ghost view = { λ c. record {
       plan = c.plan.now;
       running = c.handlers.running;
-      machine = record { moment = c.moment; switches = c.switches; modes = c.modes.modes; devices = map D.state_of c.devices.items; coils = c.coils; ledger = c.ledger; players = c.players.state; game = c.game.state; waiting = c.queue.waiting; lines = c.lines.items; bookings_left_out = 0; tellings_lost = 0 };
+      machine = record { moment = c.moment; switches = c.switches; modes = c.modes.modes; devices = map D.state_of c.devices.items; coils = c.coils; ledger = c.ledger; players = c.players.state; game = c.game.state; waiting = c.queue.waiting; lines = c.lines.items; bookings_left_out = 0 };
       room = c.queue.size;
     } };
 

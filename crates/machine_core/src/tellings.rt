@@ -90,7 +90,5 @@ impl Tells for TellsNobody {
 
     ghost tell = { λ plan. tell_nobody };
 
-    fn tell<D: Device>(_core: &mut Core<'_, D>, _telling: Telling) {
-        unreachable!()
-    }
+    fn tell<D: Device>(_core: &mut Core<'_, D>, _telling: Telling) {}
 }

@@ -8,7 +8,7 @@ use Rattle.written_machine.specs.{declared.line.Line.Line, CheckedView.CheckedVi
 use Rattle.written_machine.specs.{Machine.Machine, Devices.HasDevices, EventStep.EventSteps, PlanOrder.plan_steps}
 use Rattle.written_machine.specs.Run.{Stimulus, SwitchChange, Alarm, Wait, moment_of, IsAllowed, begin, IsReached}
 use Rattle.written_machine.proofs.{PlanSteps.plan_steps-event_steps, Silence.begin-still}
-use Rattle.written_machine.proofs.Reached.{reached-next, reached-within, reached-kept, reached-heard, reached-few, reached-same, reached-has_states, reached-devices, reached-kinds, reached-complete, reached-modes}
+use Rattle.written_machine.proofs.Reached.{reached-next, reached-within, reached-kept, reached-few, reached-same, reached-has_states, reached-devices, reached-kinds, reached-complete, reached-modes}
 use Rattle.written_machine.proofs.Alarms.{has_states-begin, moment-begin, moment-after}
 use Rattle.coil_driver.specs.{Board.after_lines, Driver.{DriverView, IsSendable, HasSent, HasStopped}, Agrees.Agrees}
 use Rattle.coil_driver.proofs.Sending.{cascade-agrees, sent-sendable}
@@ -63,7 +63,6 @@ module _ (c : CheckedView) (core : CoreView) (driver : DriverView) (shown : ℕ)
         waiting = omega (arith, within, room);
         lines = omega (arith, within, room);
         kept = reached-kept c held.accepted held.reached.0 core.machine held.reached.1 stimulus allowed n;
-        heard = reached-heard c held.accepted held.reached.0 core.machine held.reached.1 stimulus allowed n;
         few = reached-few c held.accepted held.reached.0 core.machine held.reached.1 stimulus allowed n;
       }
 

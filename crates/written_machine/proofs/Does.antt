@@ -29,7 +29,7 @@ use Rattle.ball_devices.specs.Bookings.{LedgerCall, after_call, booked, can_book
 use Rattle.written_machine.specs.declared.line.Happening.TheVariants as lines
 use Rattle.written_machine.specs.Machine.{Machine, write, post, set_ledger, counts_of, leave_out, book, set_mode, set_game, has_game, is_post, post_if, start_mode, stop_mode, all_do, world_of, device_state, device_at, called}
 use Rattle.written_machine.specs.{Devices.HasDevices, StimulusCost.weigh}
-use Rattle.written_machine.specs.Moves.{Move, Wrote, Sent, Switched, Began, Ended, Marked, Released, Turned, Asked, Booked, Varied, Stepped, AddedBalls, Unheard, do_move, cost_of_move, MayHold, IsListed, Licence, MayDo, Does, quiet, moved, both, less, Grows}
+use Rattle.written_machine.specs.Moves.{Move, Wrote, Sent, Switched, Began, Ended, Marked, Released, Turned, Asked, Booked, Varied, Stepped, AddedBalls, do_move, cost_of_move, MayHold, IsListed, Licence, MayDo, Does, quiet, moved, both, less, Grows}
 
 -- what these cost one after another, where each finds the state that the one before it leaves
 abbrev pub each_now : {X : Type 0} → (X → Machine → Machine) → (X → Machine → Cost) → List X → Machine → Cost
@@ -101,7 +101,7 @@ call-known : (call : LedgerCall) (l : Ledger) → l.known ≤ (after_call call l
 call-known x1 l = search (rules, transit-known, entered-known)
 
 pub none-grows : (s : Machine) → Grows s s
-none-grows s = record { lines = omega arith; waiting = omega arith; known = omega arith; bookings = omega arith; tellings = omega arith }
+none-grows s = record { lines = omega arith; waiting = omega arith; known = omega arith; bookings = omega arith }
 
 pub then-grows : {s t u : Machine} → Grows s t → Grows t u → Grows s u
 then-grows g h = record {
@@ -109,7 +109,6 @@ then-grows g h = record {
   waiting = let a = g.waiting in let b = h.waiting in omega (arith, a, b);
   known = let a = g.known in let b = h.known in omega (arith, a, b);
   bookings = let a = g.bookings in let b = h.bookings in omega (arith, a, b);
-  tellings = let a = g.tellings in let b = h.tellings in omega (arith, a, b);
 }
 
 -- ---- the potential grows by no more than the cost
@@ -253,7 +252,6 @@ module _ (plan : PlanView) where
   has_states-move l (Booked owner call) s may h = search rules
   has_states-move l (Varied v value) s may h = record { kinds = h.kinds; switches = h.switches; modes = h.modes; devices = h.devices; coils = h.coils; players = varied-few v value s.players h.players }
   has_states-move l (AddedBalls n) s may h = gamed-has_states (more_balls n s.game) s h
-  has_states-move l (Unheard telling) s may h = record { kinds = h.kinds; switches = h.switches; modes = h.modes; devices = h.devices; coils = h.coils; players = h.players }
   has_states-move l (Stepped which) s may h = search (rules, players_stay_few)
 
   -- a device that is due is one of the plan

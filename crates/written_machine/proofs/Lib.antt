@@ -38,3 +38,4 @@ pub mod Good
 pub mod Listed
 pub mod Held
 pub mod Guarded
+mod Told

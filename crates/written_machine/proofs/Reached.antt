@@ -67,9 +67,6 @@ module _ (c : CheckedView) (accepted : IsAccepted c) (trace : List Line) (s : Ma
   pub reached-kept : (n : ℕ) → (plan_steps c.plan n (begin c.plan stimulus s)).bookings_left_out ≡ 0
   reached-kept n = (reached-calm n).kept
 
-  pub reached-heard : (n : ℕ) → (plan_steps c.plan n (begin c.plan stimulus s)).tellings_lost ≡ 0
-  reached-heard n = (reached-calm n).heard
-
   pub reached-few : (n : ℕ) → (plan_steps c.plan n (begin c.plan stimulus s)).ledger.known < 2 ^ 32
   reached-few n = let known = (reached-calm n).most in omega (arith, known)
 

@@ -13,7 +13,7 @@ use Rattle.mode_stack.{specs.Modes.{needs_game, running_of}, proofs.WhoRuns.star
 use Rattle.event_queue.specs.Handlers.{takes_part}
 use Rattle.written_machine.{specs.Devices.{HasDevices, ActsAreOwn}, proofs.Inactive.{is_on, stopped-off}}
 use Rattle.written_machine.specs.Machine.{Machine, leave_out, set_device, has_game, all_do, world_of, device_state, device_at, called, call_device}
-use Rattle.written_machine.specs.Moves.{Move, Wrote, Sent, Switched, Began, Ended, Turned, Asked, Booked, Varied, Stepped, AddedBalls, Unheard, do_move, MayDo, ordinary}
+use Rattle.written_machine.specs.Moves.{Move, Wrote, Sent, Switched, Began, Ended, Turned, Asked, Booked, Varied, Stepped, AddedBalls, do_move, MayDo, ordinary}
 use Rattle.written_machine.proofs.Does.{start-by, stop-by, booked_now, book-by, due-row, has_devices-move}
 use Rattle.written_machine.proofs.Held.{IsHolding, IsNotHolding, asked-count, asked-held}
 
@@ -134,6 +134,5 @@ module _ (plan : PlanView) (valid : IsValid plan) (own : ActsAreOwn plan) (m : M
     move-rests (Varied v value) s may runs h = same-rests s (do_move plan (Varied v value) s) refl refl refl h
     move-rests (Stepped which) s may runs h = same-rests s (do_move plan (Stepped which) s) refl refl refl h
     move-rests (AddedBalls n) s may runs h = same-rests s (do_move plan (AddedBalls n) s) refl refl refl h
-    move-rests (Unheard telling) s may runs h = same-rests s (do_move plan (Unheard telling) s) refl refl refl h
     move-rests (Asked owner command) s may runs h = search (rules, asked-count, asked-held)
     move-rests _ s may runs h = absurd may

@@ -11,17 +11,18 @@
 --    in `device_objects`, the ledger in `ball_devices`, the game in `player_game`, switches in `switch_core`, handlers
 --    in `event_queue`.
 use Rattle.std.specs.{Prelude.{◌≡◌, ℕ, ◌+◌, ◌<◌, ◌≤◌, ◌^◌, false, true, Some, List, ◌∷◌, length}, List.{All, count_by}}
-use Rattle.plan_tables.specs.{PlanView.{PlanView, feeders_of, row_at, switch_at}, Valid.IsTargetThere}
+use Rattle.plan_tables.specs.{PlanView.{PlanView, act_told, feeders_of, row_at, switch_at}, Valid.IsTargetThere}
 use Rattle.plan_tables.specs.declared.entries.{SwitchId.SwitchId, ModeId.ModeId, CoilId.CoilId}
 use Rattle.plan_tables.specs.declared.entries.Owner.TheVariants as owners
-use Rattle.plan_tables.specs.declared.devices.{RowId.RowId, BallTarget.BallTarget}
-use Rattle.plan_tables.specs.declared.devices.{BallSettings.BallSettings, Settings.TheVariants.BallDevice}
+use Rattle.plan_tables.specs.declared.devices.{RowId.RowId, Telling.Telling, Settings.TheVariants.BallDevice}
+use Rattle.plan_tables.specs.declared.devices.{BallTarget.BallTarget, BallSettings.BallSettings}
+use Rattle.device_objects.specs.declared.device.Call.TheVariants as calls
 use Rattle.ball_devices.specs.Ledger.{IsBalanced, counted_in, transit_to}
 use Rattle.switch_core.specs.{SwitchStep.raw_at_rest, AcceptedLevel.accepted_level}
 use Rattle.switch_core.specs.{Switches.active_at, Calls.raw_changes}
 use Rattle.cascade_rank.specs.{Cost.price, Events.weight_of}
 use Rattle.event_queue.specs.declared.queue.Posted.{Posted}
-use Rattle.written_machine.specs.Machine.{Machine, device_at, is_device_away}
+use Rattle.written_machine.specs.Machine.{Machine, call_device_by, device_at, is_device_away, tell_nobody, told_device}
 use Rattle.written_machine.specs.{EventStep.EventStep, StimulusCost.{cost_of_stimulus, weigh}, CheckedView.CheckedView}
 use Rattle.written_machine.specs.Run.{device, source_due, IsNoAlarmDueBy, InEveryRun, InEveryCascade}
 use Rattle.written_machine.specs.{SwitchCalls.switch_calls, Silent.{HasStarted, IsSilent}}
@@ -70,13 +71,15 @@ pub record StoppedModesAreSilent (c : CheckedView) : Type 0 where
 pub record BallsAreAccountedFor (c : CheckedView) : Type 0 where
   -- Each known ball is in a device, on its way, or on the playfield.
   pub somewhere : InEveryRun c.plan (λ stimuli trace s. IsBalanced s.ledger)
-  -- No booking is left out. A ball that enters a device finds fewer than 2^32 balls known, one that leaves a device is
-  -- counted in it, and one that arrives on the playfield was on its way: so the ledger may make each booking that comes.
+  -- No booking is left out: the ledger may make each that comes. When a ball enters a device, fewer than 2^32 are known;
+  -- when one leaves a device, one is counted in it; when one arrives on the playfield, one was on its way.
   pub kept : InEveryRun c.plan (λ stimuli trace s. s.bookings_left_out ≡ 0)
   -- At no moment are 2^32 balls known.
   pub few : InEveryRun c.plan (λ stimuli trace s. s.ledger.known < 2 ^ 32)
-  -- No telling is lost: what a device answers that is told something tells no other device.
-  pub heard : InEveryRun c.plan (λ stimuli trace s. s.tellings_lost ≡ 0)
+  -- No telling is lost: a device that is told something answers no list that tells another. So in every state the call
+  -- comes to the same, whatever telling does there.
+  pub heard : (telling : Telling) (r : RowId) (s : Machine) → told_device c.plan telling s ≡ Some r → (tell : Telling → Machine → Machine) →
+      call_device_by c.plan tell (calls.Act (act_told telling)) r s ≡ call_device_by c.plan tell_nobody (calls.Act (act_told telling)) r s
   -- Each number of the ledger follows from what it has booked.
   pub booked : InEveryRun c.plan (λ stimuli trace s. IsLedgerOf c.plan (bookings trace) s.ledger)
   -- Where each ball came from that entered a device follows from what was booked before.

@@ -60,13 +60,11 @@ pub record Machine : Type 0 where
   pub waiting : List Posted
   -- the lines since the latest stimulus began
   pub lines : List Line
-  -- how many bookings were left out, as the ledger may not make them, and how many tellings were lost, as they came from
-  -- a device that was told something itself; in runs of accepted plans none (`GoodRun`)
+  -- how many bookings were left out, as the ledger may not make them: in runs of accepted plans none (`GoodRun`)
   pub bookings_left_out : ℕ
-  pub tellings_lost : ℕ
 
 -- At the beginning it is moment 0, all switches are inactive, all modes idle, all devices in their first states, all
--- coils off, no ball is known, there is no game, no mode holds the end of a ball, nothing waits, and nothing was left out.
+-- coils off, no ball is known, there is no game, no mode holds the end of a ball, nothing waits, and no booking was left out.
 abbrev pub initial : PlanView → Machine
 initial plan = record {
   moment = 0;
@@ -80,7 +78,6 @@ initial plan = record {
   waiting = [];
   lines = [];
   bookings_left_out = 0;
-  tellings_lost = 0;
 }
 
 -- ---- one change each
@@ -299,9 +296,9 @@ is_device_away _ = false
 abbrev pub first_away : PlanView → BallTarget → Machine → Option RowId
 first_away plan target s = find (λ r. is_device_away (device_at s r)) (feeders_of plan target)
 
--- a telling is lost: the lists of a device that is told something tell nobody
+-- nobody is told: the lists of a device that is told something tell nobody
 abbrev pub tell_nobody : Telling → Machine → Machine
-tell_nobody telling s = record s { tellings_lost = suc s.tellings_lost }
+tell_nobody telling s = s
 
 -- Which device is told. Of a ball that has arrived it is the first that is Away to the target. Of balls that are wanted it
 -- is the first trough.
