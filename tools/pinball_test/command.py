@@ -5,13 +5,13 @@ from pathlib import Path
 from typing import Iterator
 
 from pinball_help import program
-from pinball_help.program import NoAnswer
+from pinball_help.program import NoAnswer, Program
 from pinball_help.texts import MACHINE
 
 from . import junit, report
-from .machine import Machine, Refused, read_machine
+from .machine import Refused, read_machine
 from .reading import read_tests
-from .running import Result, run, unreadable
+from .running import Result, refused, run, unreadable
 from .script import BadLine
 
 ABOUT = "Plays the tests of a machine's rules, and says which fail. docs/rules_as_tests.md has the language."
@@ -33,7 +33,7 @@ def files_of(folder: Path, given: list[str]) -> list[Path]:
     """The files of tests. Raises ValueError where there is none."""
     tests = folder / "tests"
     if not given:
-        found = sorted(tests.glob("*.test"))
+        found = sorted(it for it in tests.glob("*.test") if it.is_file())
         if not found:
             raise ValueError(f"there is no file {tests}/*.test: {HOW}")
         return found
@@ -47,7 +47,12 @@ def files_of(folder: Path, given: list[str]) -> list[Path]:
     return found
 
 
-def results_of(files: list[Path], machine: Machine) -> Iterator[Result]:
+def results_of(folder: Path, files: list[Path], tool: Program) -> Iterator[Result]:
+    try:
+        machine = read_machine(folder, tool)
+    except Refused as error:
+        yield refused(folder / MACHINE, f"{error}: see `pinball-help errors {folder}`")
+        return
     for file in files:
         try:
             tests = read_tests(file)
@@ -63,18 +68,17 @@ def write(asked: argparse.Namespace) -> int:
     files = files_of(folder, asked.tests)
     tool = program.find(asked.program)
     program.report(tool)
-    machine = read_machine(folder, tool)
     results: list[Result] = []
 
     def kept() -> Iterator[Result]:
-        for result in results_of(files, machine):
+        for result in results_of(folder, files, tool):
             results.append(result)
             yield result
 
-    for line in (report.tap if asked.tap else report.plain)(kept(), folder):
+    for line in (report.tap if asked.tap else report.plain)(kept()):
         print(line, flush=True)
     if asked.junit:
-        Path(asked.junit).write_text(junit.document(results, folder))
+        Path(asked.junit).write_text(junit.document(results))
     if asked.logs:
         write_logs(Path(asked.logs), results)
     if any(it.is_unreadable for it in results):
@@ -96,10 +100,6 @@ def main() -> int:
     sys.stdout.reconfigure(errors="backslashreplace")  # type: ignore[union-attr]
     try:
         return write(asked)
-    except Refused as error:
-        print("Bail out! " * asked.tap + str(error))
-        print(f"pinball-test: {error}: see `pinball-help errors {asked.dir}`", file=sys.stderr)
-        return 1
     except NoAnswer as error:
         print(f"pinball-test: {error}", file=sys.stderr)
         return 3

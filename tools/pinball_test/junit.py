@@ -7,16 +7,16 @@ from .report import told
 from .running import Result
 
 
-def document(results: list[Result], folder: Path) -> str:
+def document(results: list[Result]) -> str:
     failed = [it for it in results if not it.passed]
     top = ElementTree.Element("testsuites", tests=str(len(results)), failures=str(len(failed)))
     for file, group in groupby(results, key=lambda it: it.file):
-        top.append(suite(file, list(group), folder))
+        top.append(suite(file, list(group)))
     ElementTree.indent(top)
     return ElementTree.tostring(top, encoding="unicode", xml_declaration=True) + "\n"
 
 
-def suite(file: Path, results: list[Result], folder: Path) -> ElementTree.Element:
+def suite(file: Path, results: list[Result]) -> ElementTree.Element:
     unreadable = sum(it.is_unreadable for it in results)
     counts = {
         "tests": len(results),
@@ -32,7 +32,7 @@ def suite(file: Path, results: list[Result], folder: Path) -> ElementTree.Elemen
         if result.failure:
             kind = "error" if result.is_unreadable else "failure"
             fault = ElementTree.SubElement(case, kind, message=clean(result.failure.message))
-            fault.text = clean("\n".join(told(result, folder)))
+            fault.text = clean("\n".join(told(result)))
     return found
 
 

@@ -1,5 +1,4 @@
 """What is printed of a result: for people, or in the Test Anything Protocol."""
-from pathlib import Path
 from typing import Iterator
 
 from pinball_help.trace import Step, time_of, words_of
@@ -44,7 +43,7 @@ def action_line(line: Line) -> str:
     return f"{line.number:>5}  {line.said}"
 
 
-def told(result: Result, folder: Path) -> list[str]:
+def told(result: Result) -> list[str]:
     """Why a test failed."""
     failure = result.failure
     if not failure:
@@ -53,34 +52,33 @@ def told(result: Result, folder: Path) -> list[str]:
     said = f": {line.said}" if line.said else ""
     trace = around(result)
     return [
-        f"{shown_path(result.file, folder)}:{line.number}{said}",
+        f"{printable(str(result.file))}:{line.number}{said}",
         failure.message,
         *(["The trace around it, with the lines of the test:", *trace] if trace else []),
     ]
 
 
-def shown_path(file: Path, folder: Path) -> str:
-    """A path as a person would write it, without what a terminal would obey."""
-    text = str(file)
+def printable(text: str) -> str:
+    """A text without what a terminal would obey."""
     return "".join(sign if sign.isprintable() else "?" for sign in text)
 
 
 def name_of(result: Result) -> str:
-    stem = "".join(sign if sign.isprintable() else "?" for sign in result.file.stem)
-    return stem if result.title == result.file.stem else f"{stem}: {result.title}"
+    stem = result.file.stem
+    return printable(stem if result.title == stem else f"{stem}: {result.title}")
 
 
-def plain(results: Iterator[Result], folder: Path) -> Iterator[str]:
+def plain(results: Iterator[Result]) -> Iterator[str]:
     """The lines for people. The last one is `N passed, M failed`."""
     passed = failed = 0
     for result in results:
         passed, failed = passed + result.passed, failed + (not result.passed)
         yield f"{'ok    ' if result.passed else 'FAILED'}  {name_of(result)}"
-        yield from (f"  {line}" for line in told(result, folder))
+        yield from (f"  {line}" for line in told(result))
     yield f"{passed} passed, {failed} failed"
 
 
-def tap(results: Iterator[Result], folder: Path) -> Iterator[str]:
+def tap(results: Iterator[Result]) -> Iterator[str]:
     """The Test Anything Protocol, version 13."""
     yield "TAP version 13"
     count = 0
@@ -89,11 +87,11 @@ def tap(results: Iterator[Result], folder: Path) -> Iterator[str]:
         yield f"{'ok' if result.passed else 'not ok'} {count} - {title}"
         if result.failure:
             yield "  ---"
-            yield f"  file: {quoted(shown_path(result.file, folder))}"
+            yield f"  file: {quoted(printable(str(result.file)))}"
             yield f"  line: {result.failure.line.number}"
             yield f"  message: {quoted(result.failure.message)}"
             yield "  trace: |"
-            yield from (f"    {line}" for line in told(result, folder)[2:])
+            yield from (f"    {line}" for line in told(result)[2:])
             yield "  ..."
     yield f"1..{count}"
 

@@ -66,6 +66,7 @@ class Run:
         """What an expectation looks back to begins here."""
         self.start, self.first = self.play.now, len(self.play.steps)
         self.before = self.play.state.copy()
+        self.actions: list[Line] = []  # of the step
         self.is_judging = False
 
     def failure(self) -> Failure | None:
@@ -89,6 +90,7 @@ class Run:
         if self.is_judging:
             self.begin_step()
         self.done.append((self.play.now, action.line))
+        self.actions.append(action.line)
         do(action, self)
 
     def judge(self, wanted: Expect) -> str:
@@ -103,7 +105,9 @@ class Run:
             holds = self.wait_for(watch, wanted.within)
         if holds != wanted.is_no:
             return ""
-        return watch.instead(self.play.state, self.play.steps[self.first :], self.start, self.play.now)
+        message = watch.instead(self.play.state, self.play.steps[self.first :], self.start, self.play.now)
+        many = len(self.actions) > 1
+        return f"{message} The step begins with line {self.actions[0].number}." if many else message
 
     def wait_for(self, watch: Watch, length: int) -> bool:
         """Lets time pass until what is watched for is so."""
@@ -207,6 +211,11 @@ def run(file: Path, test: Test, machine: Machine) -> Result:
         result.log, result.steps, result.done = [*one.play.log, str(one.play.now)], one.play.steps, one.done
     result.seconds = time.monotonic() - began
     return result
+
+
+def refused(machine: Path, said: str) -> Result:
+    """The result of a machine that is refused: nothing can be played on it."""
+    return Result(machine, "the machine is accepted", Failure(Line(1, ""), f"{said}."))
 
 
 def unreadable(file: Path, error: BadLine) -> Result:
