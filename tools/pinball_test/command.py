@@ -9,10 +9,10 @@ from pinball_help.program import NoAnswer, Program
 from pinball_help.texts import MACHINE
 
 from . import junit, report
-from .machine import Refused, read_machine
 from .reading import read_tests
 from .running import Result, refused, run, unreadable
 from .script import BadLine
+from .tested import Refused, read_tested
 
 ABOUT = "Plays the tests of a machine's rules, and says which fail. docs/rules_as_tests.md has the language."
 HOW = "docs/rules_as_tests.md says how to write one"
@@ -49,9 +49,9 @@ def files_of(folder: Path, given: list[str]) -> list[Path]:
 
 def results_of(folder: Path, files: list[Path], tool: Program) -> Iterator[Result]:
     try:
-        machine = read_machine(folder, tool)
+        tested = read_tested(folder, tool)
     except Refused as error:
-        yield refused(folder / MACHINE, f"{error}: see `pinball-help errors {folder}`")
+        yield refused(folder / MACHINE, str(error))
         return
     for file in files:
         try:
@@ -60,7 +60,7 @@ def results_of(folder: Path, files: list[Path], tool: Program) -> Iterator[Resul
             yield unreadable(file, error)
             continue
         for test in tests:
-            yield run(file, test, machine)
+            yield run(file, test, tested)
 
 
 def write(asked: argparse.Namespace) -> int:

@@ -1,12 +1,13 @@
 """What an expectation can be about: what happens, as a line of the trace, and how the machine is."""
 import operator
 from dataclasses import dataclass
-from typing import Protocol
+from typing import Callable, Protocol
 
 from pinball_help.trace import Step, time_of, words_of
+from pinball_table.monitor import NO_GAME, OVER, Monitor
 
-from .state import State
-
+OWN_VARIABLES = ("number", "ball")  # those that the game itself sets
+Values = dict[int, dict[str, int]]  # of each player: the value of each variable
 COMPARISONS = {
     "": operator.eq,
     "!=": operator.ne,
@@ -16,6 +17,20 @@ COMPARISONS = {
     "<": operator.lt,
 }
 MOST_NAMED = 8  # of the events that came instead
+
+
+def values_of(state: Monitor) -> Values:
+    """What each player has, with the two variables that the game itself sets."""
+    return {
+        number: {**values, "number": number, "ball": state.balls.get(number, 0)}
+        for number, values in state.players.items()
+    }
+
+
+def when(steps: list[Step], is_it: Callable[[Step], bool], otherwise: str = " since the beginning") -> str:
+    """Since when it is so: the moment of the last of these lines."""
+    moment = next((it.moment for it in reversed(steps) if is_it(it)), None)
+    return otherwise if moment is None else f" since {time_of(moment)}"
 
 
 @dataclass(frozen=True)
@@ -47,17 +62,13 @@ class Happening:
 
 
 class Condition(Protocol):
-    """How the machine is. `before` is how it was at the beginning of the step."""
+    """How the machine is. `before` is what the players had at the beginning of the step."""
 
-    def holds(self, state: State, before: State) -> bool:
-        ...
+    def holds(self, state: Monitor, before: Values) -> bool:
+        """Whether it is so now."""
 
-    def instead(self, state: State, before: State) -> str:
-        ...
-
-
-def since(moment: int | None) -> str:
-    return "since the beginning" if moment is None else f"since {time_of(moment)}"
+    def instead(self, state: Monitor, before: Values, steps: list[Step]) -> str:
+        """How it is now. `steps` is the whole trace."""
 
 
 @dataclass(frozen=True)
@@ -66,23 +77,26 @@ class IsIn:
 
     kind: str
     name: str
-    word: str  # such as `running`
     wanted: bool
-    others: tuple[str, str]  # the words for yes and no
+    states: tuple[str, str]  # the words for yes and no, such as `running` and `stopped`
 
-    def now(self, state: State) -> bool:
-        places = {"switch": state.switches, "coil": state.coils, "mode": state.modes}
-        return self.name in places[self.kind]
+    def now(self, state: Monitor) -> bool:
+        if self.kind == "coil":
+            return bool(state.coils[self.name].holder)
+        return self.name in (state.modes if self.kind == "mode" else state.switches)
 
-    def holds(self, state: State, before: State) -> bool:
+    def holds(self, state: Monitor, before: Values) -> bool:
         return self.now(state) == self.wanted
 
-    def instead(self, state: State, before: State) -> str:
-        name = f"{self.kind} {self.name}"
-        word = self.others[0 if self.now(state) else 1]
-        holder = state.coils.get(self.name) if self.kind == "coil" else None
-        by = f" by {holder}" if holder else ""
-        return f"{name[0].upper()}{name[1:]} is {word}{by} {since(state.since.get(name))}."
+    def instead(self, state: Monitor, before: Values, steps: list[Step]) -> str:
+        now = self.now(state)
+        by = f" by {state.coils[self.name].holder}" if self.kind == "coil" and now else ""
+        return f"{self.kind.capitalize()} {self.name} is {self.states[not now]}{by}{when(steps, self.changes)}."
+
+    def changes(self, step: Step) -> bool:
+        if self.kind == "mode":
+            return step.kind == "event" and step.words[0] in (f"mode_{self.name}_started", f"mode_{self.name}_stopped")
+        return step.kind == self.kind and step.words[0] == self.name and step.words[1] != "pulse"
 
 
 @dataclass(frozen=True)
@@ -94,35 +108,32 @@ class PlayerHas:
     comparison: str  # an operator; or `up` or `down`
     number: int
 
-    def value(self, state: State) -> int | None:
-        if not 1 <= self.player <= len(state.players):
-            return None
-        return state.players[self.player - 1].values.get(self.variable, 0)
-
-    def holds(self, state: State, before: State) -> bool:
-        now = self.value(state)
-        if now is None:
+    def holds(self, state: Monitor, before: Values) -> bool:
+        values = values_of(state)
+        if self.player not in values:
             return False
+        now = values[self.player].get(self.variable, 0)
         if self.comparison in ("up", "down"):
-            change = now - (self.value(before) or 0)
-            return change == (self.number if self.comparison == "up" else -self.number)
+            return now - self.then(before) == (self.number if self.comparison == "up" else -self.number)
         return COMPARISONS[self.comparison](now, self.number)
 
-    def instead(self, state: State, before: State) -> str:
-        now = self.value(state)
-        if now is None:
+    def then(self, before: Values) -> int:
+        return before.get(self.player, {}).get(self.variable, 0)
+
+    def instead(self, state: Monitor, before: Values, steps: list[Step]) -> str:
+        if self.player not in state.players:
             return f"There is no player {self.player}: {players_said(state)}."
-        change = now - (self.value(before) or 0)
-        moment = state.players[self.player - 1].since.get(self.variable)
-        when = f" {since(moment)}" if moment is not None else ""
+        now = values_of(state)[self.player].get(self.variable, 0)
+        since = when(steps, lambda it: it.kind == "player" and it.words[:2] == (str(self.player), self.variable), "")
+        change = now - self.then(before)
         step = f"; in this step it went {'up' if change > 0 else 'down'} by {abs(change)}" if change else ""
         same = "; it did not change in this step" if not change and self.comparison in ("up", "down") else ""
-        return f"Player {self.player} has {self.variable} {now}{when}{step}{same}."
+        return f"Player {self.player} has {self.variable} {now}{since}{step}{same}."
 
 
-def players_said(state: State) -> str:
+def players_said(state: Monitor) -> str:
     count = len(state.players)
-    return "no game has begun" if state.game == "none" else f"the game has {count} player{'' if count == 1 else 's'}"
+    return "no game has begun" if state.phase == NO_GAME else f"the game has {count} player{'' if count == 1 else 's'}"
 
 
 @dataclass(frozen=True)
@@ -133,30 +144,34 @@ class NumberIs:
     comparison: str
     number: int
 
-    def value(self, state: State) -> int:
-        numbers = {"players": len(state.players), "current player": state.current}
-        return numbers.get(self.what) if self.what in numbers else state.balls[self.what.split(" ")[1]]
+    def holds(self, state: Monitor, before: Values) -> bool:
+        numbers = {"players": len(state.players), "current player": state.player}
+        ledger = {f"balls {where}": count for where, count in state.ledger.items()}
+        return COMPARISONS[self.comparison]({**numbers, **ledger}[self.what], self.number)
 
-    def holds(self, state: State, before: State) -> bool:
-        return COMPARISONS[self.comparison](self.value(state), self.number)
-
-    def instead(self, state: State, before: State) -> str:
+    def instead(self, state: Monitor, before: Values, steps: list[Step]) -> str:
         if self.what == "players":
-            return f"{players_said(state).capitalize()}."
+            said = players_said(state)
+            return f"{said[0].upper()}{said[1:]}."
         if self.what == "current player":
-            return f"Player {state.current} plays." if state.current else "No player plays: no game is on."
-        ledger = ", ".join(f"{name} {count}" for name, count in state.balls.items())
-        return f"The ledger has {ledger} {since(state.since.get('balls'))}."
+            return f"Player {state.player} plays." if state.player else "No player plays: no game is on."
+        ledger = ", ".join(f"{where} {count}" for where, count in state.ledger.items())
+        return f"The ledger has {ledger}{when(steps, lambda it: it.kind == 'balls')}."
 
 
 @dataclass(frozen=True)
 class GameIs:
     word: str  # `running` or `over`
 
-    def holds(self, state: State, before: State) -> bool:
-        return state.game == self.word
+    def now(self, state: Monitor) -> str:
+        return {NO_GAME: "none", OVER: "over"}.get(state.phase, "running")
 
-    def instead(self, state: State, before: State) -> str:
-        said = {"none": "No game has begun", "running": "A game is running", "over": "The game is over"}[state.game]
-        when = f" {since(state.since.get('game'))}" if state.game == "over" else ""
-        return f"{said}{when}."
+    def holds(self, state: Monitor, before: Values) -> bool:
+        return self.now(state) == self.word
+
+    def instead(self, state: Monitor, before: Values, steps: list[Step]) -> str:
+        now = self.now(state)
+        if now == "none":
+            return "No game has begun."
+        event = "game_ended" if now == "over" else "game_will_start"
+        return f"The game is {now}{when(steps, lambda it: it.kind == 'event' and it.words[0] == event)}."

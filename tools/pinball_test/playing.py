@@ -1,81 +1,135 @@
-"""Plays a machine as a test goes on: its log grows, and its trace with it."""
+"""Plays a machine by the time of a test: with the simulated table, or with nothing behind its switches."""
 from typing import Callable, Iterator
 
-from pinball_help.program import NoAnswer
 from pinball_help.trace import Step, steps_of
+from pinball_table.answers import Replay
+from pinball_table.machine import Machine
+from pinball_table.monitor import Monitor
+from pinball_table.session import Session
+from pinball_table.settings import read_settings
+from pinball_table.smart_table import PlainTable, SmartTable
 
-from .machine import Machine, TooMuch
-from .state import State
-
-MOST_LINES = 100_000  # of a log
-LATEST = 1 << 40
+MOST_CHANGES, MOST_STEPS = 100_000, 1_000_000  # of the switches, and of the trace
+LATEST = 1 << 40  # of the moments of a log
+AT_ONCE = 600_000  # ms: how much time passes before the length of the trace is looked at
+PATIENCE = 120.0  # s: how long the program may take for one play
+LONGEST_SETTLING = 20_000  # ms: until the balls that lie in devices at first are counted
 Listener = Callable[[list[Step], int], None]  # is given the steps of a moment
 
 
+class TooMuch(Exception):
+    """A test that is longer than a test should be."""
+
+
 class Play:
-    """A play of a machine. Its trace is known up to `seen`, and its log up to `now`.
+    """A play of a machine up to the moment `now`. `state` and `steps` are what its trace says.
 
-    The program plays the whole log again each time that more of the trace is wanted: the trace of a longer log begins
-    with that of a shorter one."""
+    Without the table nothing answers the coils, so the log does not depend on the trace. Then its lines wait in
+    `pending` until somebody looks, and the program plays them at once."""
 
-    def __init__(self, machine: Machine):
-        self.machine = machine
-        self.log: list[str] = []
-        self.now = self.seen = 0
+    def __init__(self, machine: Machine, program: str, with_table: bool = False, seed: int | None = None):
+        settings = read_settings(machine)
+        settings.seed = settings.seed if seed is None else seed
+        self.machine, self.with_table = machine, with_table
+        self.table = SmartTable(settings) if with_table else PlainTable(settings)
+        self.session = Session(machine, Replay(program, machine.folder, PATIENCE), self.table)
+        self.session.start()
+        self.state = Monitor(machine)
+        self.now = self.changes = self.known = 0
         self.steps: list[Step] = []
-        self.state = State()
-        self.listeners: list[Listener] = []
+        self.pending: list[str] = []
+        self.listeners: list[Listener] = [self.follow]
 
-    def change(self, switch: str, level: int) -> None:
-        if len(self.log) == MOST_LINES:
-            raise TooMuch(f"a test has at most {MOST_LINES:,} changes of switches")
-        self.log.append(f"{self.now} {switch} {level}")
-        self.seen = -1
+    def settle(self) -> None:
+        """With the table, lets the balls that lie in devices at first be counted."""
+        places = self.table.places
+        balls = sum(deed[0] == "set" and deed[1] in places and deed[2] for _, _, deed in self.table.plan)
+        if self.with_table:
+            self.go(LONGEST_SETTLING if balls else 0, lambda: self.state.ledger["known"] >= balls)
 
-    def set(self, switch: str, active: bool) -> None:
-        self.change(switch, self.machine.level(switch, active))
+    def set(self, switch: str, is_active: bool) -> None:
+        self.changes += 1
+        if self.changes > MOST_CHANGES:
+            raise TooMuch(f"A test has at most {MOST_CHANGES:,} changes of switches.")
+        if self.with_table:
+            self.table.at(self.now, "set", switch, is_active)
+            self.look()
+        else:
+            self.pending.append(f"{self.now} {switch} {self.machine.switches[switch].level(is_active)}")
+
+    def wait_until(self, moment: int) -> None:
+        if moment >= LATEST:
+            raise TooMuch("This test lasts longer than a log may: its moments have to be below 2^40.")
+        while moment - self.now > AT_ONCE:
+            self.now += AT_ONCE
+            self.look()
+        self.now = moment
+        if self.with_table:
+            self.look()
 
     def wait(self, length: int) -> None:
         self.wait_until(self.now + length)
 
-    def wait_until(self, moment: int) -> None:
-        if moment >= LATEST:
-            raise TooMuch("this test lasts longer than a log may: its moments have to be below 2^40")
-        self.now = moment
-
     def look(self) -> None:
         """Makes the trace known up to now."""
-        if self.seen < self.now:
-            self.go(self.now, lambda: False)
+        if self.with_table:
+            self.go(self.now)
+        elif self.pending or self.now > self.session.moment:
+            self.session.load([*self.pending, str(self.now)])
+            self.pending = []
+            self.take()
 
-    def go(self, target: int, until: Callable[[], bool]) -> bool:
+    def go(self, target: int, until: Callable[[], bool] = lambda: False) -> bool:
         """Lets time pass up to the moment `target`, or to an earlier one after which `until` is true."""
-        for moment, steps in self.ahead(target):
-            self.take(moment, steps)
-            if until():
-                self.now = self.seen = max(moment, self.now)
-                return True
-        self.now = self.seen = target
+        while (coming := self.session.next()) is not None and coming <= target:
+            self.session.step()
+            self.now = max(self.now, coming)
+            following = self.session.next()
+            if following is None or following > coming:  # (else this moment is not over)
+                self.take()
+                if until():
+                    return True
+        self.session.run_until(target)
+        self.take()
+        self.now = target
         return until()
 
-    def take(self, moment: int, steps: list[Step]) -> None:
+    def take(self) -> None:
+        """Shows the further lines of the trace to those who listen, moment by moment."""
+        for moment, steps in by_moment(self.session.trace[self.known :]):
+            for listener in list(self.listeners):
+                listener(steps, moment)
+        self.known = len(self.session.trace)
+        if self.known > MOST_STEPS:
+            raise TooMuch(f"The trace of a test has at most {MOST_STEPS:,} lines: let less time pass.")
+
+    def follow(self, steps: list[Step], moment: int) -> None:
         self.steps += steps
         for step in steps:
             self.state.take(step)
-        for listener in self.listeners:
-            listener(steps, moment)
 
-    def ahead(self, target: int) -> Iterator[tuple[int, list[Step]]]:
-        """The steps up to a moment that are not yet known, moment by moment."""
-        lines = self.machine.trace([*self.log, str(target)])
-        known = len(self.steps)
-        group: list[Step] = []
-        for step in steps_of(lines[known:]):
-            if isinstance(step, str):
-                raise NoAnswer(f"the program wrote `{step[:100]}` to this log")
+    # where the balls of the table are
+
+    def in_plungers(self) -> list[str]:
+        """The places of balls that wait until somebody pulls a plunger."""
+        devices = [it for it in self.machine.devices.values() if not it.coil]
+        return [place for device in devices for place in self.table.lying(device)]
+
+    def reachable(self) -> int:
+        """How many balls are on the playfield, or can be brought there by hand."""
+        return self.table.loose + len(self.in_plungers())
+
+    def log(self) -> list[str]:
+        return [*self.session.log(), *self.pending]
+
+
+def by_moment(lines: list[str]) -> Iterator[tuple[int, list[Step]]]:
+    group: list[Step] = []
+    for step in steps_of(lines):
+        if isinstance(step, Step):
             if group and step.moment != group[0].moment:
                 yield group[0].moment, group
                 group = []
             group.append(step)
-        if group:
-            yield group[0].moment, group
+    if group:
+        yield group[0].moment, group

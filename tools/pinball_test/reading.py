@@ -7,14 +7,30 @@ from typing import Callable
 from pinball_help.near import nearest
 from pinball_help.trace import moment_of
 from pinball_help.values import milliseconds
+from pinball_table.monitor import LEDGER
 
 from .happenings import Condition, GameIs, Happening, IsIn, NumberIs, PlayerHas
-from .script import Action, BadLine, Expect, Hit, Hold, Line, LogLine, Never, Release, StartGame, Test, Wait
-from .state import BALLS
+from .script import (
+    Action,
+    BadLine,
+    Drain,
+    Expect,
+    Hit,
+    Hold,
+    Line,
+    LogLine,
+    Never,
+    Plunge,
+    Release,
+    StartGame,
+    Test,
+    Wait,
+    WaitForBalls,
+)
 
 LONGEST_TEXT, LONGEST_LINE, LONGEST_WORD = 16 << 20, 1000, 40
 LATEST = 1 << 40  # of the moments of a log
-MOST_TIMES, MOST_PLAYERS = 1000, 100
+MOST_TIMES, MOST_PLAYERS, MOST_BALLS, GREATEST_SEED = 1000, 100, 100, 10**9
 NUMBER = re.compile(r"-?\d{1,15}$")
 COMMENT = re.compile(r"(?:^|(?<=[ \t]))#.*$")
 LOG_LINE = re.compile(r"(\d+)(?:[ \t]+(\S+)[ \t]+([01]))?$")
@@ -148,9 +164,22 @@ def release(words: Words) -> Action:
 
 
 def wait(words: Words) -> Action:
-    if words.next() in ("until", "for") and words.words[1:2] != []:
-        raise words.bad("write `wait 2s`; to wait until something is so, write `expect .. within 5s`")
-    return Wait(words.line, words.time())
+    if words.next() == "until":
+        raise words.bad("to wait until something is so, write `expect .. within 5s`")
+    if words.next() != "for":
+        return Wait(words.line, words.time())
+    words.take("")
+    count = words.number("how many balls", 1, MOST_BALLS) if NUMBER.match(words.next()) else 1
+    words.one_of(("ball", "balls"), "what can be waited for")
+    return WaitForBalls(words.line, count)
+
+
+def plunge(words: Words) -> Action:
+    return Plunge(words.line)
+
+
+def drain(words: Words) -> Action:
+    return Drain(words.line)
 
 
 def start(words: Words) -> Action:
@@ -169,6 +198,8 @@ ACTIONS: dict[str, Callable[[Words], Action]] = {
     "release": release,
     "wait": wait,
     "start": start,
+    "plunge": plunge,
+    "drain": drain,
 }
 
 
@@ -186,7 +217,7 @@ def coil(words: Words) -> Subject:
     states = TWO_STATES["coil"]
     action = words.one_of((*COIL_ACTIONS, *states), "what a coil does")
     if action in states:
-        return IsIn("coil", name, action, action == states[0], states)
+        return IsIn("coil", name, action == states[0], states)
     if words.next() == "skipped":
         words.take("")
         return Happening("skip", (name, action))
@@ -199,7 +230,7 @@ def two_states(kind: str) -> Callable[[Words], Subject]:
     def read(words: Words) -> Subject:
         name, states = words.name(kind), TWO_STATES[kind]
         word = words.one_of(states, f"what a {kind} is")
-        return IsIn(kind, name, word, word == states[0], states)
+        return IsIn(kind, name, word == states[0], states)
 
     return read
 
@@ -227,7 +258,7 @@ def players(words: Words) -> Subject:
 
 
 def balls(words: Words) -> Subject:
-    where = words.one_of(BALLS, "where the ledger has balls")
+    where = words.one_of(LEDGER, "where the ledger has balls")
     return NumberIs(f"balls {where}", *comparison(words))
 
 
@@ -332,7 +363,7 @@ def read_line(line: Line, text: str) -> Action | Expect | Never:
     elif word in ("expect", "never"):
         found = expect(words) if word == "expect" else never(words)
     else:
-        known = (*ACTIONS, "expect", "never", "test")
+        known = (*ACTIONS, "expect", "never", "test", "with")
         near = nearest(word, known, 0.6)
         hint = INSTEAD.get(word) or (f"did you mean `{near}`?" if near else "")
         listed = ", ".join(f"`{it}`" for it in known)
@@ -361,18 +392,31 @@ def tests_of(data: bytes, name: str) -> list[Test]:
         if not text:
             continue
         line = Line(number, text)
-        if re.match(r"test(?:[ \t]|$)", text):
-            test = Test(title_of(line), list(head.lines), list(head.nevers))
+        word = text.split()[0]
+        if word == "test":
+            test = replace(head, title=title_of(line), lines=list(head.lines), nevers=list(head.nevers))
             found.append(test)
-            continue
-        part = read_line(line, text)
-        if isinstance(part, Never):
-            test.nevers.append(part)
+        elif word == "with":
+            read_with(test, line)
         else:
-            test.lines.append(part)
+            part = read_line(line, text)
+            (test.nevers if isinstance(part, Never) else test.lines).append(part)
     if not (found or [head])[-1].lines and not any(it.lines for it in found):
         raise BadLine(1, "there is nothing to test in this file")
     return found or [head]
+
+
+def read_with(test: Test, line: Line) -> None:
+    """Reads `with table`, which comes before all actions."""
+    words = Words(line, line.said.split()[1:])
+    words.one_of(("table",), "what a test can be played with")
+    if test.lines:
+        raise words.bad("`with table` comes before the actions of a test")
+    test.with_table = True
+    if words.next() == "seed":
+        words.take("")
+        test.seed = words.number("a seed", 0, GREATEST_SEED)
+    words.end()
 
 
 def title_of(line: Line) -> str:

@@ -53,6 +53,21 @@ class StartGame(Action):
 
 
 @dataclass(frozen=True)
+class WaitForBalls(Action):
+    count: int
+
+
+@dataclass(frozen=True)
+class Plunge(Action):
+    pass
+
+
+@dataclass(frozen=True)
+class Drain(Action):
+    pass
+
+
+@dataclass(frozen=True)
 class Expect:
     """What has to be, or with `no` may not be: happenings in their order, or a condition."""
 
@@ -76,6 +91,8 @@ class Test:
     title: str
     lines: list[Action | Expect] = field(default_factory=list)
     nevers: list[Never] = field(default_factory=list)
+    with_table: bool = False
+    seed: int | None = None  # none: that of `table.yaml`
 
 
 class BadLine(Exception):

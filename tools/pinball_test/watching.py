@@ -2,21 +2,22 @@
 from typing import Protocol
 
 from pinball_help.trace import Step, time_of
+from pinball_table.monitor import Monitor
 
-from .happenings import Happening
+from .happenings import Happening, Values
 from .script import Expect, Never
-from .state import State
 
 
 class Watch(Protocol):
     def take(self, step: Step) -> None:
         """Sees a line of the trace."""
 
-    def holds(self, state: State) -> bool:
+    def holds(self, state: Monitor) -> bool:
         """Whether what is expected is so now."""
 
-    def instead(self, state: State, steps: list[Step], start: int, now: int) -> str:
-        """What came instead, in the steps of the trace from the moment `start` to the moment `now`."""
+    def instead(self, state: Monitor, steps: list[Step], first: int, start: int, now: int) -> str:
+        """What came instead. `steps` is the whole trace. The step of the test begins with line `first` of it, at the
+        moment `start`."""
 
 
 class Happens:
@@ -33,13 +34,13 @@ class Happens:
         if at < len(order) and order[at].is_in(step):
             self.found.append(step)
 
-    def holds(self, state: State) -> bool:
+    def holds(self, state: Monitor) -> bool:
         if len(self.wanted.happenings) > 1:
             return len(self.found) == len(self.wanted.happenings)
         return len(self.found) == self.times if self.wanted.times else bool(self.found)
 
-    def instead(self, state: State, steps: list[Step], start: int, now: int) -> str:
-        order, window = self.wanted.happenings, f"from {time_of(start)} to {time_of(now)}"
+    def instead(self, state: Monitor, steps: list[Step], first: int, start: int, now: int) -> str:
+        order, window, steps = self.wanted.happenings, f"from {time_of(start)} to {time_of(now)}", steps[first:]
         if self.wanted.is_no:
             return f"It came at {time_of(self.found[0].moment)}."
         if self.wanted.times and self.found:
@@ -67,22 +68,22 @@ def counted(times: int) -> str:
 class IsSo:
     """Watches how the machine is."""
 
-    def __init__(self, wanted: Expect, before: State):
+    def __init__(self, wanted: Expect, before: Values):
         self.wanted, self.before = wanted, before
 
     def take(self, step: Step) -> None:
         pass
 
-    def holds(self, state: State) -> bool:
+    def holds(self, state: Monitor) -> bool:
         assert self.wanted.condition
         return self.wanted.condition.holds(state, self.before)
 
-    def instead(self, state: State, steps: list[Step], start: int, now: int) -> str:
+    def instead(self, state: Monitor, steps: list[Step], first: int, start: int, now: int) -> str:
         assert self.wanted.condition
-        return self.wanted.condition.instead(state, self.before)
+        return self.wanted.condition.instead(state, self.before, steps)
 
 
-def watch_of(wanted: Expect, before: State) -> Watch:
+def watch_of(wanted: Expect, before: Values) -> Watch:
     return Happens(wanted) if wanted.happenings else IsSo(wanted, before)
 
 
@@ -99,16 +100,12 @@ class Guard:
 
     def __init__(self, never: Never):
         self.never = never
-        self.found: Step | None = None
 
-    def take(self, step: Step) -> None:
-        if self.never.happening and self.never.happening.is_in(step):
-            self.found = self.found or step
-
-    def check(self, state: State, moment: int) -> None:
-        """Raises Broken where it is so at this moment."""
-        condition = self.never.condition
-        if self.found:
-            raise Broken(self.never, moment, f"It came at {time_of(self.found.moment)}.")
-        if condition and condition.holds(state, state):
-            raise Broken(self.never, moment, f"It is so at {time_of(moment)}. {condition.instead(state, state)}")
+    def see(self, state: Monitor, steps: list[Step], trace: list[Step]) -> None:
+        """Sees the steps of a moment. Raises Broken if it comes in them, or is so after them."""
+        happening, condition, moment = self.never.happening, self.never.condition, steps[0].moment
+        if happening and any(happening.is_in(it) for it in steps):
+            raise Broken(self.never, moment, f"It came at {time_of(moment)}.")
+        if condition and condition.holds(state, {}):
+            said = condition.instead(state, {}, trace)
+            raise Broken(self.never, moment, f"It is so at {time_of(moment)}. {said}")
