@@ -101,6 +101,10 @@ class SmartTable(Platform):
         self.loose = self.loose + 1 if is_there else max(0, self.loose - 1)
         self.at(now, "set", switch, not is_there)
 
+    def is_planned(self, switch: str) -> bool:
+        """Whether a switch is to become active."""
+        return any(it[0] == "set" and it[1] == switch and it[2] for _, _, it in self.plan)
+
     def drain(self, now: int) -> bool:
         """A ball of the playfield drains. Without ball devices, the drain's switch is hit."""
         where = self.settings.drain
