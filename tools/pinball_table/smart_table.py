@@ -165,7 +165,7 @@ class SmartTable(Platform):
     def arrive(self, name: str, moment: int) -> None:
         """A ball comes to a device. If that is full, the ball waits before it. One without switches swallows it."""
         switches = self.machine.devices[name].switches
-        free = [switch for switch in switches if switch not in self.active]
+        free = [switch for switch in switches if switch not in self.active and not self.is_planned(switch)]
         if free or not switches:
             self.flying -= 1
         if free:
