@@ -76,8 +76,8 @@ def without_waits(lines: list[str]) -> list[str]:
 class Replay(Answers):
     """Plays the log again for each change. What comes before the next change is known ahead."""
 
-    def __init__(self, program: str, folder: Path, patience: float = 10.0):
-        self.program, self.folder, self.patience = program, folder, patience
+    def __init__(self, program: str, folder: Path, patience: float = 10.0, further: int = AHEAD):
+        self.program, self.folder, self.patience, self.further = program, folder, patience, further
         self.lines: list[str] = []
         self.given = 0  # how many lines of the trace have been given
         self.ahead: list[str] = []  # those that follow, up to the moment `seen`
@@ -110,10 +110,10 @@ class Replay(Answers):
         moment = moment_of(line)
         if not (is_wait(line) and moment <= self.seen):
             lines = without_waits([*self.lines, line])
-            found = self.play([*lines, str(moment + AHEAD)])[self.given :]
+            found = self.play([*lines, str(moment + self.further)])[self.given :]
             if refused := next((it for it in found if it.startswith("refused")), None):
                 raise Refused(f"{refused}: {line}")
-            self.ahead, self.seen = found, moment + AHEAD
+            self.ahead, self.seen = found, moment + self.further
         self.lines = without_waits([*self.lines, line])
         count = next((at for at, it in enumerate(self.ahead) if moment_of(it) > moment), len(self.ahead))
         said, self.ahead = self.ahead[:count], self.ahead[count:]

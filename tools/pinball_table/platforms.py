@@ -33,6 +33,7 @@ class Platform(ABC):
     """Moments are those of the log, in milliseconds."""
 
     is_board = False  # whether real coils hang on it: then the clock is that of the wall, and nothing goes back
+    interval = 0.5  # s: it is polled at least so often
 
     def __init__(self) -> None:
         self.held: list[str] = []  # the coils that are held, in the order in which that began

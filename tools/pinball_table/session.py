@@ -39,6 +39,7 @@ class Session:
         self.first: State | None = None  # the simulated table before the first step
         self.is_rewound = False  # the program has to be rewound before it is asked again
         self.ended = ""  # why the session is over
+        self.epoch = 0  # grows when the trace does anything but grow
 
     def start(self) -> None:
         """Lays the balls into a simulated table."""
@@ -145,6 +146,7 @@ class Session:
         every = [*self.steps, *self.future]
         self.steps, self.future = every[:count], every[count:]
         self.trace = [line for step in self.steps for line in step.said]
+        self.epoch += 1
         self.monitor = Monitor(self.machine)
         self.monitor.take_all(self.trace)
         state = self.steps[-1].after if self.steps else self.first

@@ -101,6 +101,10 @@ class SmartTable(Platform):
         self.loose = self.loose + 1 if is_there else max(0, self.loose - 1)
         self.at(now, "set", switch, not is_there)
 
+    def is_planned(self, switch: str) -> bool:
+        """Whether a switch is to become active."""
+        return any(it[0] == "set" and it[1] == switch and it[2] for _, _, it in self.plan)
+
     def drain(self, now: int) -> bool:
         """A ball of the playfield drains. Without ball devices, the drain's switch is hit."""
         where = self.settings.drain
@@ -161,7 +165,7 @@ class SmartTable(Platform):
     def arrive(self, name: str, moment: int) -> None:
         """A ball comes to a device. If that is full, the ball waits before it. One without switches swallows it."""
         switches = self.machine.devices[name].switches
-        free = [switch for switch in switches if switch not in self.active]
+        free = [switch for switch in switches if switch not in self.active and not self.is_planned(switch)]
         if free or not switches:
             self.flying -= 1
         if free:
