@@ -395,6 +395,7 @@ def tests_of(data: bytes, name: str) -> list[Test]:
         word = text.split()[0]
         if word == "test":
             test = replace(head, title=title_of(line), lines=list(head.lines), nevers=list(head.nevers))
+            test.head = len(head.lines)
             found.append(test)
         elif word == "with":
             read_with(test, line)

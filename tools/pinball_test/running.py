@@ -67,8 +67,11 @@ class Run:
         try:
             self.play.settle()
             self.begin_step()
-            for part in self.test.lines:
+            for at, part in enumerate(self.test.lines):
                 line = part.line
+                if at == self.test.head:
+                    self.play.look()
+                    self.begin_step()
                 if isinstance(part, Action):
                     self.act(part)
                 elif message := self.judge(part):

@@ -90,6 +90,7 @@ class Never:
 class Test:
     title: str
     lines: list[Action | Expect] = field(default_factory=list)
+    head: int = 0  # how many of its lines are above the first `test` of the file
     nevers: list[Never] = field(default_factory=list)
     with_table: bool = False
     seed: int | None = None  # none: that of `table.yaml`
