@@ -7,6 +7,7 @@ from typing import Iterator
 from pinball_help import program
 from pinball_help.program import NoAnswer, Program
 from pinball_help.texts import MACHINE
+from pinball_table.command import LIVE, find_live
 
 from . import junit, report
 from .reading import read_tests
@@ -26,6 +27,7 @@ def parser() -> argparse.ArgumentParser:
     top.add_argument("--junit", metavar="FILE", help="writes JUnit's XML to FILE too")
     top.add_argument("--logs", metavar="FOLDER", help="writes the log of each test to FOLDER, for `pinball play`")
     top.add_argument("--program", metavar="PATH", help="the program `pinball`, if not the proved one")
+    top.add_argument("--live", metavar="PATH", help=f"the program `{LIVE}`, if not the one beside `pinball`")
     return top
 
 
@@ -47,9 +49,9 @@ def files_of(folder: Path, given: list[str]) -> list[Path]:
     return found
 
 
-def results_of(folder: Path, files: list[Path], tool: Program) -> Iterator[Result]:
+def results_of(folder: Path, files: list[Path], tool: Program, live: str | None) -> Iterator[Result]:
     try:
-        tested = read_tested(folder, tool)
+        tested = read_tested(folder, tool, live)
     except Refused as error:
         yield refused(folder / MACHINE, str(error))
         return
@@ -68,10 +70,11 @@ def write(asked: argparse.Namespace) -> int:
     files = files_of(folder, asked.tests)
     tool = program.find(asked.program)
     program.report(tool)
+    live = None if asked.program and not asked.live else find_live(asked.live, tool.path)
     results: list[Result] = []
 
     def kept() -> Iterator[Result]:
-        for result in results_of(folder, files, tool):
+        for result in results_of(folder, files, tool, live):
             results.append(result)
             yield result
 

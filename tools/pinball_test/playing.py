@@ -1,18 +1,17 @@
 """Plays a machine by the time of a test: with the simulated table, or with nothing behind its switches."""
+from dataclasses import replace
 from typing import Callable, Iterator
 
 from pinball_help.trace import Step, steps_of
-from pinball_table.answers import Replay
-from pinball_table.machine import Machine
+from pinball_table.answers import Answers
 from pinball_table.monitor import Monitor
 from pinball_table.session import Session
-from pinball_table.settings import read_settings
+from pinball_table.settings import Settings
 from pinball_table.smart_table import PlainTable, SmartTable
 
 MOST_CHANGES, MOST_STEPS = 100_000, 1_000_000  # of the switches, and of the trace
-LATEST = 1 << 40  # of the moments of a log
+LONGEST = 24 * 3_600_000  # ms: how long a test lasts at most
 AT_ONCE = 600_000  # ms: how much time passes before the length of the trace is looked at
-PATIENCE = 120.0  # s: how long the program may take for one play
 LONGEST_SETTLING = 20_000  # ms: until the balls that lie in devices at first are counted
 Listener = Callable[[list[Step], int], None]  # is given the steps of a moment
 
@@ -27,14 +26,13 @@ class Play:
     Without the table nothing answers the coils, so the log does not depend on the trace. Then its lines wait in
     `pending` until somebody looks, and the program plays them at once."""
 
-    def __init__(self, machine: Machine, program: str, with_table: bool = False, seed: int | None = None):
-        settings = read_settings(machine)
-        settings.seed = settings.seed if seed is None else seed
-        self.machine, self.with_table = machine, with_table
+    def __init__(self, settings: Settings, answers: Answers, with_table: bool = False, seed: int | None = None):
+        settings = settings if seed is None else replace(settings, seed=seed)
+        self.machine, self.with_table = settings.machine, with_table
         self.table = SmartTable(settings) if with_table else PlainTable(settings)
-        self.session = Session(machine, Replay(program, machine.folder, PATIENCE), self.table)
+        self.session = Session(self.machine, answers, self.table)
         self.session.start()
-        self.state = Monitor(machine)
+        self.state = Monitor(self.machine)
         self.now = self.changes = self.known = 0
         self.steps: list[Step] = []
         self.pending: list[str] = []
@@ -58,8 +56,8 @@ class Play:
             self.pending.append(f"{self.now} {switch} {self.machine.switches[switch].level(is_active)}")
 
     def wait_until(self, moment: int) -> None:
-        if moment >= LATEST:
-            raise TooMuch("This test lasts longer than a log may: its moments have to be below 2^40.")
+        if moment > LONGEST:
+            raise TooMuch("A test lasts at most 24 hours of the machine's time.")
         while moment - self.now > AT_ONCE:
             self.now += AT_ONCE
             self.look()

@@ -10,6 +10,7 @@ from pinball_help.values import milliseconds
 from pinball_table.monitor import LEDGER
 
 from .happenings import Condition, GameIs, Happening, IsIn, NumberIs, PlayerHas
+from .playing import LONGEST
 from .script import (
     Action,
     BadLine,
@@ -29,7 +30,6 @@ from .script import (
 )
 
 LONGEST_TEXT, LONGEST_LINE, LONGEST_WORD = 16 << 20, 1000, 40
-LATEST = 1 << 40  # of the moments of a log
 MOST_TIMES, MOST_PLAYERS, MOST_BALLS, GREATEST_SEED = 1000, 100, 100, 10**9
 NUMBER = re.compile(r"-?\d{1,15}$")
 COMMENT = re.compile(r"(?:^|(?<=[ \t]))#.*$")
@@ -118,8 +118,8 @@ class Words:
         found = milliseconds(word) if len(word) < 20 else None
         if found is None and re.fullmatch(r"\d{1,6}:\d\d(\.\d{1,3})?", word):
             found = moment_of(word)
-        if found is None or found >= LATEST:
-            raise self.bad(f"`{shortened(word)}` is not a time: write `2s`, `1.5s` or `500ms`")
+        if found is None or found > LONGEST:
+            raise self.bad(f"`{shortened(word)}` is not a time up to 24 hours: write `2s`, `1.5s` or `500ms`")
         return found
 
     def times(self) -> int | None:
@@ -344,9 +344,9 @@ def log_line(line: Line, text: str) -> Action:
     found = LOG_LINE.match(text)
     if not found:
         raise BadLine(line.number, "this is no line of a log: write `MOMENT SWITCH LEVEL`, such as `1000 s_target 1`")
-    if len(found[1]) > 20 or int(found[1]) >= LATEST:
-        raise BadLine(line.number, f"the moment is too late: it has to be below {LATEST}")
-    moment = int(found[1])
+    moment = int(found[1]) if len(found[1]) <= 20 else LONGEST + 1
+    if moment > LONGEST:
+        raise BadLine(line.number, f"the moment is too late: a test lasts at most {LONGEST:,} ms, which is 24 hours")
     if not found[2]:
         return LogLine(line, moment)
     return LogLine(replace(line, names=(("switch", found[2]),)), moment, found[2], int(found[3]))

@@ -136,9 +136,11 @@ def run(file: Path, test: Test, tested: Tested) -> Result:
     began = time.monotonic()
     result = Result(file, test.title, unknown_name(test, tested))
     if not result.failure:
-        play = Play(tested.machine, tested.program.path, test.with_table, test.seed)
+        answers = tested.answers()
+        play = Play(tested.settings, answers, test.with_table, test.seed)
         one = Run(test, play)
         result.failure = one.failure()
+        answers.close()
         result.log, result.steps, result.done = play.log(), play.steps, one.done
     result.seconds = time.monotonic() - began
     return result

@@ -6,9 +6,14 @@ from pinball_help.near import nearest
 from pinball_help.program import Program
 from pinball_help.scenery import Scenery
 from pinball_help.texts import read_texts
-from pinball_table.machine import Machine, read_machine
+from pinball_table.answers import Answers, Live, Replay
+from pinball_table.machine import read_machine
+from pinball_table.settings import Settings, read_settings
 
 from .happenings import OWN_VARIABLES
+
+PATIENCE = 120.0  # s: how long the program may take for one answer
+AHEAD = 30_000  # ms: how much of the trace beyond the log `pinball play` is asked for at once
 
 
 class Refused(Exception):
@@ -17,9 +22,17 @@ class Refused(Exception):
 
 @dataclass(frozen=True)
 class Tested:
-    machine: Machine
+    settings: Settings  # of the table, with the machine
     program: Program
+    live: str | None  # the program that answers a log line by line, if there is one
     names: dict[str, frozenset[str]]  # of each kind: `switch`, `coil`, `mode`, `event` and `variable`
+
+    def answers(self) -> Answers:
+        """Answers the log of one test."""
+        folder = self.settings.machine.folder
+        if self.live:
+            return Live(self.live, folder, PATIENCE)
+        return Replay(self.program.path, folder, PATIENCE, AHEAD)
 
     def unknown(self, kind: str, name: str) -> str:
         """What is to be said of a name that the machine does not have; nothing of one that it has."""
@@ -29,8 +42,9 @@ class Tested:
         return f"This machine has no {kind} `{name[:100]}`." + (f" Near it: `{near}`." if near else "")
 
 
-def read_tested(folder: Path, program: Program) -> Tested:
-    """Raises Refused where the program refuses the machine, and OSError where there is none."""
+def read_tested(folder: Path, program: Program, live: str | None = None) -> Tested:
+    """Raises Refused where the program refuses the machine, OSError where there is none, and
+    BadSetting where `table.yaml` has one."""
     scene, machine = Scenery(read_texts(folder)), read_machine(folder)
     answer = program.check(folder)
     if not answer.accepted:
@@ -44,4 +58,4 @@ def read_tested(folder: Path, program: Program) -> Tested:
         "event": frozenset(answer.weights),
         "variable": frozenset({*variables, *OWN_VARIABLES, "score"}),
     }
-    return Tested(machine, program, names)
+    return Tested(read_settings(machine), program, live, names)
