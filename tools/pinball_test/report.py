@@ -18,7 +18,7 @@ def around(result: Result) -> list[str]:
     last = next((at for at, it in enumerate(result.steps) if it.moment > failure.end), len(result.steps))
     from_ = max(0, first - BEFORE, last - MOST)
     shown = result.steps[from_:last]
-    start = shown[0].moment if shown else failure.start
+    start = result.steps[from_ - 1].moment + 1 if from_ else 0
     actions = [it for it in result.done if start <= it[0] <= failure.end]
     lines = list(merged(actions[-MOST:], shown))
     return [*(["     .."] if from_ else []), *lines]

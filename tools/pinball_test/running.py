@@ -69,9 +69,7 @@ class Run:
             self.begin_step()
             for at, part in enumerate(self.test.lines):
                 line = part.line
-                if at == self.test.head:
-                    self.play.look()
-                    self.begin_step()
+                self.is_judging |= at == self.test.head  # (the next action begins a step)
                 if isinstance(part, Action):
                     self.act(part)
                 elif message := self.judge(part):
@@ -87,6 +85,7 @@ class Run:
 
     def act(self, action: Action) -> None:
         if self.is_judging:
+            self.play.look()
             self.begin_step()
         self.done.append((self.play.now, action.line))
         self.actions.append(action.line)
