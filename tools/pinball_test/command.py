@@ -103,6 +103,8 @@ def main() -> int:
     sys.stdout.reconfigure(errors="backslashreplace")  # type: ignore[union-attr]
     try:
         return write(asked)
+    except KeyboardInterrupt:
+        return 130  # (as a shell does)
     except NoAnswer as error:
         print(f"pinball-test: {error}", file=sys.stderr)
         return 3

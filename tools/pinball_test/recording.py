@@ -48,14 +48,10 @@ def last_of_its_moment(trace: Sequence[str], at: int, step: Step) -> Step:
     return step
 
 
-def recorded(log: Iterable[str], marks: Iterable[Mark], title: str = "", with_table: bool = False) -> str:
-    """The text of a file of tests.
-
-    `log` has all changes of switches; or only those that people made, if the test is to run with the table, which then
-    makes the others again."""
+def recorded(log: Iterable[str], marks: Iterable[Mark], title: str = "") -> str:
+    """The text of a file of tests. `log` has all changes of switches, so the test needs no table."""
     lines = [line for line in log if line[:1].isdigit()]
     found = [f"test {' '.join(title.split())}"] if title.strip() else []
-    found += ["with table"] if with_table else []
     now, rest = 0, iter(sorted(dict.fromkeys(marks), key=lambda it: it.moment))
     mark = next(rest, None)
     for line in [*lines, ""]:

@@ -1,10 +1,11 @@
 """Runs a test, line by line, up to the first expectation that is not met."""
 import time
+from contextlib import closing
 from dataclasses import dataclass, field
 from pathlib import Path
 
 from pinball_help.trace import Step
-from pinball_table.answers import Gone
+from pinball_table.answers import Gone, Refused
 
 from .doing import NotDone, do
 from .happenings import Values, values_of
@@ -79,7 +80,7 @@ class Run:
             return Failure(broken.never.line, broken.message, broken.moment, broken.moment)
         except (NotDone, TooMuch) as error:
             return Failure(line, str(error), self.start, self.play.now)
-        except Gone as error:
+        except (Gone, Refused) as error:
             return Failure(line, f"The program gave no answer: {error}.", self.start, self.play.now)
         return None
 
@@ -135,12 +136,11 @@ def run(file: Path, test: Test, tested: Tested) -> Result:
     began = time.monotonic()
     result = Result(file, test.title, unknown_name(test, tested))
     if not result.failure:
-        answers = tested.answers()
-        play = Play(tested.settings, answers, test.with_table, test.seed)
-        one = Run(test, play)
-        result.failure = one.failure()
-        answers.close()
-        result.log, result.steps, result.done = play.log(), play.steps, one.done
+        with closing(tested.answers()) as answers:
+            play = Play(tested.settings, answers, test.with_table, test.seed)
+            one = Run(test, play)
+            result.failure = one.failure()
+            result.log, result.steps, result.done = play.log(), play.steps, one.done
     result.seconds = time.monotonic() - began
     return result
 
