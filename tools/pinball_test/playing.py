@@ -109,9 +109,17 @@ class Play:
     # where the balls of the table are
 
     def in_plungers(self) -> list[str]:
-        """The places of balls that wait until somebody pulls a plunger."""
+        """The places of balls that wait until somebody pulls a plunger, and that the machine has counted."""
         devices = [it for it in self.machine.devices.values() if not it.coil]
-        return [place for device in devices for place in self.table.lying(device)]
+        lying = [(place, device.name) for device in devices for place in self.table.lying(device)]
+        return [place for place, device in lying if self.is_counted(place, device)]
+
+    def is_counted(self, place: str, device: str) -> bool:
+        """Whether a ball has been counted since its place was taken."""
+        for step in reversed(self.steps):
+            if step.words[:2] == (place, "active") or step.words[0] == f"balldevice_{device}_ball_enter":
+                return step.kind == "event"
+        return False
 
     def reachable(self) -> int:
         """How many balls are on the playfield, or can be brought there by hand."""
