@@ -59,7 +59,7 @@ def state_of(player: Player) -> dict:
     table, monitor, now = session.table, session.monitor, max(clock.now(), session.moment)
     return {
         "now": now, "speed": clock.speed, "paused": clock.is_paused, "ended": session.ended,
-        "due": session.next(), "latest": player.latest,
+        "latest": player.latest,
         "steps": len(session.steps), "future": len(session.future),
         "last": session.future[-1].moment if session.future else session.moment,
         "active": sorted(table.active if table else monitor.switches),
