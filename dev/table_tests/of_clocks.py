@@ -3,7 +3,7 @@ import random
 import time
 from typing import Iterator
 
-from pinball_table.clock import MS, SPEEDS, Clock, Suspended
+from pinball_table.clock import MS, SPEEDS, Clock, Suspended, Watch
 from pinball_table.machine import read_machine
 from pinball_table.platforms import Command
 from pinball_table.player import Player
@@ -38,10 +38,10 @@ class Wall:
     """A wall clock that is set by hand, in nanoseconds."""
 
     def __init__(self) -> None:
-        self.now = self.slept = 0
+        self.now = 0
 
     def clock(self) -> Clock:
-        return Clock(lambda: self.now, lambda: self.slept)
+        return Clock(lambda: self.now)
 
 
 @test
@@ -78,15 +78,24 @@ def the_clock_is_paused_and_has_a_speed() -> None:
 
 @test
 def a_suspended_computer_is_noticed() -> None:
-    for passed, slept, is_noticed in (0.02, 0, False), (0.9, 0, False), (1.6, 0, True), (0.02, 3, True):
-        wall = Wall()
-        clock = wall.clock()
-        wall.now, wall.slept = int(passed * 1e9), int(slept * 1e9)
+    """Whether the thread that beats has its turn first or not."""
+    for passed, beats_first, is_noticed in (0.3, True, False), (1.9, False, False), (3, True, True), (3, False, True):
+        times = [0.0]
+        watch = Watch(lambda: times[0])
+        for _ in range(3):
+            times[0] += 0.2
+            watch.beat()
+            watch.check()
+        times[0] += passed
+        if beats_first:
+            watch.beat()
         try:
-            clock.watch(0, 0.01)
-            assert not is_noticed, (passed, slept)
-        except Suspended:
-            assert is_noticed, (passed, slept)
+            watch.check()
+            assert not is_noticed, passed
+        except Suspended as suspended:
+            assert is_noticed and "for 3 s" in str(suspended), suspended
+        watch.begin()
+        watch.check()
 
 
 @test
