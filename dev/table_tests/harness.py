@@ -2,7 +2,6 @@
 import http.client
 import json
 import os
-import select
 import signal
 import subprocess
 import sys
@@ -169,5 +168,9 @@ class Table:
         return self.process.communicate(timeout=SLOW)[0]
 
 
-def can_read(file: int, seconds: float) -> bool:
-    return bool(select.select([file], [], [], seconds)[0])
+def said_of(words: list[str]) -> tuple[str, int]:
+    """What `tools/pinball-table` says that does not begin to play, and its status."""
+    program = [] if "--program" in words else ["--program", programs["pinball"]]
+    command = [sys.executable, str(TOP / "tools/pinball-table"), *words, *program]
+    ran = subprocess.run(command, capture_output=True, text=True, timeout=SLOW)
+    return ran.stdout + ran.stderr, ran.returncode

@@ -158,7 +158,7 @@ def a_replay_and_a_live_program_answer_the_same() -> None:
         for answers in (replay, live):
             answers.rewind([])
     for answers in (replay, live):
-        answers.rewind(log[:20])
+        answers.rewind(log[:12])
         equal(answers.ask("3650"), [])
     equal(replay.ask("3900 s_left_button 0"), live.ask("3900 s_left_button 0"))
     live.ask("4300 s_left_button 1")

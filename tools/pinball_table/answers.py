@@ -108,7 +108,7 @@ class Replay(Answers):
 
     def ask(self, line: str) -> list[str]:
         moment = moment_of(line)
-        if not (is_wait(line) and moment < self.seen):  # (at `seen` itself, it looks further ahead)
+        if not (is_wait(line) and moment < self.seen):
             lines = without_waits([*self.lines, line])
             found = self.play([*lines, str(moment + self.further)])[self.given :]
             if refused := next((it for it in found if it.startswith("refused")), None):

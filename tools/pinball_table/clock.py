@@ -4,12 +4,14 @@ The limits of a coil are proved in the log's milliseconds. They hold by the wall
 faster than the wall between two commands. So while an alarm is late, and while the program thinks, it stands still:
 when something of moment T has been carried out, it goes on from T.
 """
+import threading
 import time
 from typing import Callable
 
 MS = 1_000_000  # nanoseconds
 LONGEST_WAIT = 0.5  # s: how long the loop waits at most
-LATEST = 1.0  # s: a wait that takes so much longer was a suspended computer
+BEAT = 0.2  # s: how often a thread of its own looks whether this program still runs
+LATEST = 2.0  # s: if it did not look for so long, the computer was suspended, or this program was stopped
 SPEEDS = (0.1, 10.0)
 
 
@@ -17,19 +19,13 @@ class Suspended(Exception):
     """The computer, or this program, was stopped for a while."""
 
 
-def asleep_ns() -> int:
-    """How long the computer was suspended since it was started."""
-    return time.clock_gettime_ns(time.CLOCK_BOOTTIME) - time.clock_gettime_ns(time.CLOCK_MONOTONIC)
-
-
 class Clock:
-    def __init__(self, wall: Callable[[], int] = time.monotonic_ns, asleep: Callable[[], int] = asleep_ns):
-        self.wall, self.asleep = wall, asleep
+    def __init__(self, wall: Callable[[], int] = time.monotonic_ns):
+        self.wall = wall
         self.at = 0  # the moment ..
         self.since = wall()  # .. that it was at this time of the wall
         self.speed = 1.0
         self.is_paused = False
-        self.slept = asleep()
 
     def now(self) -> int:
         if self.is_paused:
@@ -55,9 +51,32 @@ class Clock:
         left = (moment - self.at) * MS / self.speed - (self.wall() - self.since)
         return min(max(left / 1e9, 0.0), LONGEST_WAIT)
 
-    def watch(self, begun: int, asked: float) -> None:
-        """After a wait of `asked` seconds that began at the wall's time `begun`. Raises Suspended."""
-        late = (self.wall() - begun) / 1e9 - asked
-        slept = (self.asleep() - self.slept) / 1e9
-        if max(late, slept) > LATEST:
-            raise Suspended(f"the computer was suspended for {max(late, slept):.0f} s")
+
+class Watch:
+    """Notices that the computer was suspended, or this program stopped. Its time goes on while the computer sleeps."""
+
+    def __init__(self, now: Callable[[], float] = lambda: time.clock_gettime(time.CLOCK_BOOTTIME)):
+        self.now = now
+        self.begin()
+
+    def begin(self) -> None:
+        self.longest, self.last = 0.0, self.now()
+
+    def beat(self) -> None:
+        """What the thread does again and again."""
+        now = self.now()
+        self.longest, self.last = max(self.longest, now - self.last), now
+
+    def check(self) -> None:
+        """Raises Suspended. The thread may not have had its turn yet."""
+        late = max(self.longest, self.now() - self.last)
+        if late > LATEST:
+            raise Suspended(f"the computer was suspended, or this program was stopped, for {late:.0f} s")
+
+    def start(self) -> None:
+        def run() -> None:
+            while True:
+                time.sleep(BEAT)
+                self.beat()
+
+        threading.Thread(target=run, daemon=True).start()

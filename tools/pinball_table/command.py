@@ -1,5 +1,6 @@
 """The words of the command line."""
 import argparse
+import errno
 import os
 import shutil
 import signal
@@ -84,6 +85,16 @@ def end_by_signals(player: Player) -> None:
         signal.signal(number, end)
 
 
+def server_of(asked: argparse.Namespace, player: Player, settings: Settings, words: str) -> Server:
+    try:
+        return Server(asked.port, player, settings, words)
+    except OSError as error:
+        player.session.shut_down("there is no address")
+        if error.errno == errno.EADDRINUSE:
+            raise OSError(f"port {asked.port} is taken: choose another one, or --port 0 for any that is free") from None
+        raise
+
+
 def play(asked: argparse.Namespace) -> int:
     machine = read_machine(asked.dir)
     settings = read_settings(machine)
@@ -94,7 +105,7 @@ def play(asked: argparse.Namespace) -> int:
     if lines is not None:
         for line in player.start_over(lines):
             print(f"refused: {line}", file=sys.stderr)
-    server = Server(asked.port, player, settings, words)
+    server = server_of(asked, player, settings, words)
     threading.Thread(target=server.serve_forever, daemon=True).start()
     print(f"http://{server.hosts[0]}/", flush=True)
     player.run()

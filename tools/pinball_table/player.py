@@ -11,7 +11,7 @@ from pathlib import Path
 from typing import Callable, TypeVar
 
 from .answers import Gone, Refused
-from .clock import Clock, Suspended
+from .clock import Clock, Suspended, Watch
 from .feed import Feed
 from .platforms import BoardFailure
 from .session import Session, is_idle
@@ -31,7 +31,8 @@ class NotNow(Exception):
 
 class Player:
     def __init__(self, make: Callable[[], Session], clock: Clock | None = None, log: Path | None = None):
-        self.make, self.clock = make, clock or Clock()
+        self.make, self.clock, self.watch = make, clock or Clock(), Watch()
+        self.watch.start()
         self.feed = Feed()
         self.log = log.open("w", buffering=1) if log else None
         self.calls: queue.SimpleQueue[Callable[[], None]] = queue.SimpleQueue()
@@ -44,13 +45,14 @@ class Player:
         self.is_new = True
         self.latest = 0  # ms: how late the latest step was
         self.session = self.begin()
+        self.publish()
 
     def begin(self) -> Session:
         session = self.make()
         session.start()
         self.clock.is_paused = False
         self.clock.go_on_from(0)
-        self.clock.slept = self.clock.asleep()
+        self.watch.begin()
         self.kept = 0
         return session
 
@@ -79,36 +81,37 @@ class Player:
         session = self.session
         try:
             self.wait()
-            session.platform.poll(self.clock.now())
+            if not session.ended:
+                self.watch.check()
+                session.platform.poll(self.clock.now())
             self.answer_calls()
-            if session is self.session:
-                self.carry_out()
+            self.carry_out()
         except Gone as gone:
-            session.put_off(gone.why)
+            self.is_new = True
+            self.session.put_off(gone.why)
         except (BoardFailure, Suspended, Refused) as failure:
-            session.shut_down(str(failure))
+            self.is_new = True
+            self.session.shut_down(str(failure))
         self.keep_log()
         if self.is_new and time.monotonic() - self.shown > FRAME:
             self.publish()
 
     def wait(self) -> None:
-        """Sleeps until something is to be done. Raises Suspended if it was far longer."""
+        """Sleeps until something is to be done."""
         session = self.session
         longest = session.platform.interval
         seconds = longest if session.ended else min(longest, self.clock.until(session.next()))
         if self.is_new:
             seconds = min(seconds, max(0.0, self.shown + FRAME - time.monotonic()))
-        begun = self.clock.wall()
-        board = session.platform.watched()
+        board = None if session.ended else session.platform.watched()
         ready, _, _ = select.select([self.wakes, *([board] if board is not None else [])], [], [], seconds)
         if self.wakes in ready:
             os.read(self.wakes, 4096)
-        if not session.ended:
-            self.clock.watch(begun, seconds)
 
     def carry_out(self) -> None:
         """Does what is due by now, each as if it were in time."""
         while not self.session.ended and (coming := self.session.next()) is not None and coming <= self.clock.now():
+            self.watch.check()
             self.latest = max(self.latest, self.clock.now() - coming)
             self.session.step()
             self.clock.go_on_from(max(coming, self.session.moment))
@@ -279,7 +282,7 @@ class Player:
         session.epoch += before.epoch + 1
         self.clock.is_paused = lines is not None
         self.clock.go_on_from(session.moment)
-        self.clock.slept = self.clock.asleep()
+        self.watch.begin()
         return refused
 
     def shut_down(self, why: str) -> None:

@@ -170,7 +170,7 @@ class Handler(BaseHTTPRequestHandler):
                 raise BadRequest("there is no such request")
             found = self.server.player.call(lambda: deed(words))
             self.reply(200, "application/json", json.dumps(found).encode())
-        except (BadRequest, BadSetting, ValueError) as error:
+        except (BadRequest, BadSetting, ValueError, RecursionError) as error:
             self.refuse(400, str(error))
         except NotNow as error:
             self.reply(409, "text/plain; charset=utf-8", f"{error}\n".encode())

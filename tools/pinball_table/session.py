@@ -59,12 +59,14 @@ class Session:
             return None
         if self.future:
             return self.future[0].moment
+        self.catch_up()
         return min((it for it in (self.platform.next(), self.answers.due) if it is not None), default=None)
 
     def step(self) -> Step | None:
         """Carries out the next thing that is due. None if it was no line of the log, such as a ball that lands."""
         if self.future:
             return self.again(self.future.pop(0))
+        self.catch_up()
         due, coming = self.answers.due, self.platform.next()
         if due is not None and (coming is None or due <= coming):
             return self.ask(str(due), due, None)
@@ -87,9 +89,7 @@ class Session:
 
     def ask(self, line: str, moment: int, change: Change | None) -> Step:
         """Sends a line of the log, and carries out what the program answers."""
-        if self.is_rewound:
-            self.answers.rewind([it.line for it in self.steps])
-            self.is_rewound = False
+        self.catch_up()
         try:
             said = self.answers.ask(line)
         except Gone as gone:
@@ -101,6 +101,12 @@ class Session:
             self.steps.pop()  # (a wait in which nothing happened adds nothing to the next line)
         self.steps.append(step)
         return step
+
+    def catch_up(self) -> None:
+        """After going back, the program has to go back too, before it is asked again."""
+        if self.is_rewound:
+            self.answers.rewind([it.line for it in self.steps])
+            self.is_rewound = False
 
     def take(self, said: Iterable[str], moment: int) -> None:
         """Carries out the commands of an answer, and follows it."""
@@ -118,9 +124,7 @@ class Session:
         if self.ended:
             return
         try:
-            if self.is_rewound:
-                self.answers.rewind([it.line for it in self.steps])
-                self.is_rewound = False
+            self.catch_up()
             self.take(self.answers.end(), self.moment)
         except Gone as gone:
             self.take(gone.lines, self.moment)

@@ -56,10 +56,11 @@ def group_of(machine: Machine, switch: str) -> str:
 def state_of(player: Player) -> dict:
     """How the machine is now."""
     session, clock = player.session, player.clock
-    table, monitor, now = session.table, session.monitor, max(clock.now(), session.moment)
+    table, monitor = session.table, session.monitor
+    now = session.moment if session.ended else max(clock.now(), session.moment)
     return {
         "now": now, "speed": clock.speed, "paused": clock.is_paused, "ended": session.ended,
-        "due": session.next(), "latest": player.latest,
+        "latest": player.latest,
         "steps": len(session.steps), "future": len(session.future),
         "last": session.future[-1].moment if session.future else session.moment,
         "active": sorted(table.active if table else monitor.switches),
