@@ -17,6 +17,7 @@ from . import layout
 from .answers import Refused
 from .feed import Seen
 from .player import NotNow, Player
+from .record import record
 from .settings import PICTURE, BadSetting, Settings
 from .view import about
 
@@ -65,6 +66,7 @@ def deeds(player: Player, settings: Settings) -> dict[str, Callable[[dict[str, A
         "start_over": lambda _: player.start_over(),
         "open": lambda it: player.start_over(text(it, "log").splitlines()),
         "shut_down": lambda _: player.shut_down("shut down from the page"),
+        "record": lambda it: record(player.session, text(it, "title"), texts(it, "lines")),
         "place": lambda it: layout.place(settings, text(it, "name"), number(it, "x"), number(it, "y")),
     }
 
@@ -73,6 +75,13 @@ def text(words: dict[str, Any], key: str) -> str:
     if not isinstance(words.get(key), str):
         raise BadRequest(f"`{key}` has to be a text")
     return words[key]
+
+
+def texts(words: dict[str, Any], key: str) -> list[str]:
+    found = words.get(key)
+    if not isinstance(found, list) or not all(isinstance(it, str) for it in found):
+        raise BadRequest(f"`{key}` has to be a list of texts")
+    return found
 
 
 def number(words: dict[str, Any], key: str) -> float:

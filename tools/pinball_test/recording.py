@@ -4,6 +4,8 @@ from typing import Iterable, Sequence
 
 from pinball_help.trace import Step, steps_of
 
+LONGEST_TITLE = 200
+
 
 @dataclass(frozen=True)
 class Mark:
@@ -51,7 +53,8 @@ def last_of_its_moment(trace: Sequence[str], at: int, step: Step) -> Step:
 def recorded(log: Iterable[str], marks: Iterable[Mark], title: str = "") -> str:
     """The text of a file of tests. `log` has all changes of switches, so the test needs no table."""
     lines = [line for line in log if line[:1].isdigit()]
-    found = [f"test {' '.join(title.split())}"] if title.strip() else []
+    title = " ".join("".join(it if it.isprintable() and it != "#" else " " for it in title[:LONGEST_TITLE]).split())
+    found = [f"test {title}"] if title else []
     now, rest = 0, iter(sorted(dict.fromkeys(marks), key=lambda it: it.moment))
     mark = next(rest, None)
     for line in [*lines, ""]:

@@ -1,6 +1,7 @@
 // The trace, cascade by cascade, its filter, and what a cascade caused.
 
 import {byId, element, time} from "./link.js";
+import {isMarked, isMarking, mark} from "./record.js";
 
 const MOST = 1500;  // cascades that are shown
 const KINDS = {
@@ -70,7 +71,12 @@ function show(some) {
 }
 
 function lineOf(line, at) {
-  const made = element("div", `k_${line.kind}`);
+  const made = element("div", isMarked(line.text) ? `k_${line.kind} marked` : `k_${line.kind}`);
+  made.onclick = event => {
+    if (!isMarking()) return;
+    event.stopPropagation();
+    mark(line.text, made);
+  };
   made.append(element("i", "", at === 0 && line.moment !== null ? time(line.moment) : ""));
   if (line.owner && line.owner !== "machine") made.append(element("u", "", `${line.owner} `));
   made.append(line.kind === "note" ? line.text : `${line.kind} ${line.words.join(" ")}`);
