@@ -8,7 +8,8 @@ from contextlib import contextmanager
 from pathlib import Path
 from typing import Iterator
 
-from .harness import TOP, Table, equal, programs, test
+from . import chromium
+from .harness import TOP, Skipped, Table, equal, programs, test
 
 FIRST = TOP / "examples/first"
 TITLE = 'Both  targets: <b>"hit"</b> # ..\n\x1b[2J'
@@ -65,6 +66,25 @@ def what_cannot_be_saved_says_why() -> None:
         (folder / "tests").unlink()
         equal(table.do("record", title="../../etc", lines=[line]), "tests/etc.test")
         equal(table.do("record", title="", lines=[line]), "tests/recorded.test")
+
+
+@test
+def lines_are_marked_in_the_page() -> None:
+    if not (program := chromium.find()):
+        raise Skipped("Chromium is not installed")
+    with opened() as (table, folder), chromium.Chromium(program) as page:
+        page.open(table.address)
+        page.until("document.querySelectorAll('#trace .cascade').length === 5")
+        page.click("#marking")
+        for line in "first-child div:nth-child(3)", "last-child div:last-child", "last-child div:first-child":
+            page.click(f"#trace .cascade:{line}")
+        page.click("#trace .cascade:last-child div:first-child")  # (a second click takes the mark away)
+        equal(page.run("document.querySelectorAll('.marked').length"), 2)
+        page.run("document.querySelector('#title').value = 'A mark'")
+        page.click("#record")
+        page.until("document.querySelector('#told').textContent === 'saved as tests/a_mark.test'")
+        expected = [it for it in (folder / "tests/a_mark.test").read_text().splitlines() if "expect" in it]
+        equal(expected, ["expect event left_target_hit", "expect event ball_lost"])
 
 
 def body_of(words: dict) -> bytes:
