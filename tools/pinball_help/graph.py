@@ -1,6 +1,6 @@
 """What posts what, with the place where it is written, and how many lines each event can cause.
 
-This follows docs/machine.md and docs/devices.md in words, and is proved nowhere: tools/test_help compares its weights
+This follows docs/machine.md and docs/devices.md in words, and is proved nowhere: dev/test_help compares its weights
 with the certificates of the examples."""
 from dataclasses import dataclass, field
 from graphlib import CycleError, TopologicalSorter

@@ -1,6 +1,6 @@
 """What people who know MPF write, and what to write here: one row for each section and setting that is not read.
 
-The rows for values are in idioms_of_values.py. tools/test_help tries each row."""
+The rows for values are in idioms_of_values.py. dev/test_help tries each row."""
 
 # a section of MPF: what to write in place of it
 SECTIONS = {

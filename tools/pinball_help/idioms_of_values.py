@@ -11,7 +11,7 @@ A row holds for an entry of a section (or of several) whose key and raw value ma
     placeholder   an event with a placeholder becomes an event for each value, as an example
     power         an old power becomes a part of full power: see powers.py
 
-`sample` is a text in which the program refuses the value; tools/test_help tries each row on its sample. `recipe` is the
+`sample` is a text in which the program refuses the value; dev/test_help tries each row on its sample. `recipe` is the
 heading of docs/from_mpf.md that has a text to write instead, where one does."""
 from dataclasses import dataclass
 

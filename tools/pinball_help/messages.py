@@ -1,7 +1,7 @@
 """What each line of an answer means, in words, and what to do: one row for each message.
 
 `says` and `cure` may name the parts of the line: {key}, {text}, {line}, and {0}, {1} .. for the words of a fault that
-has no place. What depends on the user's texts is added by the other modules. tools/test_help compares the rows with
+has no place. What depends on the user's texts is added by the other modules. dev/test_help compares the rows with
 the headings of docs/faults.md."""
 import re
 from dataclasses import dataclass

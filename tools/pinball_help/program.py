@@ -40,13 +40,13 @@ class Program:
 
 def proved() -> str | None:
     """The path of the proved program, or none where there is none of these sources."""
-    ran = subprocess.run([TOP / "tools/proved"], capture_output=True, text=True)
+    ran = subprocess.run([TOP / "tools/program", "--proved"], capture_output=True, text=True)
     return ran.stdout.strip() if ran.returncode == 0 else None
 
 
 def kept_unproved() -> str | None:
     """The path of the unproved build that `examples/run` keeps, if it is of these sources."""
-    ran = subprocess.run([TOP / "tools/unproved", "--kept"], capture_output=True, text=True)
+    ran = subprocess.run([TOP / "tools/program", "--unproved", "--kept"], capture_output=True, text=True)
     return ran.stdout.strip() if ran.returncode == 0 else None
 
 

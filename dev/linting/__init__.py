@@ -1,0 +1,1 @@
+"""The checks of dev/lint: a module for each, whose `faults()` returns what is wrong."""
