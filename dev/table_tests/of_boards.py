@@ -24,25 +24,26 @@ def board_and_table(*words: str) -> Iterator[tuple[FakeBoard, Table]]:
         board.close()
 
 
-def hold_a_coil(board: FakeBoard) -> None:
+def hold_a_coil(board: FakeBoard, table: Table) -> None:
     """The play begins, and the left flipper (coil 2) is held by its button (switch 3)."""
-    for line in "switch 1 1", "switch 3 1":
-        time.sleep(0.1)
-        board.say(line)
+    board.say("switch 1 1")
+    table.until(lambda it: "s_start" in it["active"])
+    board.say("switch 3 1")
     board.until(lambda: "2" in board.on, SLOW)
 
 
 @test
 def a_board_is_told_what_the_coils_do() -> None:
     with board_and_table() as (board, table):
-        hold_a_coil(board)
+        hold_a_coil(board, table)
         board.say("switch 3 0")
         board.until(lambda: "2" not in board.on, SLOW)
-        equal([it for _, it in board.heard if not it.startswith("beat")],
-              ["hello 1 2000", "pulse 1 20 1000", "hold 2 1000", "off 2"])
+        heard = [it for _, it in board.heard if not it.startswith("beat")]
+        equal(heard, ["hello 1 2000", "pulse 1 20 1000", "hold 2 1000", "off 2"])
         log = table.get("/log").splitlines()
         assert [it.split(" ", 1)[1] for it in log[:2]] == ["s_start 1", "s_left_button 1"], log
-        equal(played(log, FLIPPERS)[: len(table.get("/trace").splitlines())], table.get("/trace").splitlines())
+        trace = table.get("/trace").splitlines()
+        equal(played(log, FLIPPERS)[: len(trace)], trace)
         board.until(lambda: sum(it.startswith("beat") for _, it in board.heard) > 2)
 
 
@@ -71,7 +72,7 @@ def with_a_board_the_time_is_that_of_the_wall() -> None:
 @test
 def a_board_that_does_not_answer() -> None:
     with board_and_table() as (board, table):
-        hold_a_coil(board)
+        hold_a_coil(board, table)
         board.is_silent = True
         begun = time.monotonic()
         state = table.until(lambda it: it["ended"] != "", SLOW)
@@ -88,7 +89,7 @@ def a_board_that_does_not_answer() -> None:
 def a_board_that_is_gone_or_talks_nonsense() -> None:
     for line in "switch 77 1", "switch 3 2", "ouch", "\x00\xff":
         with board_and_table() as (board, table):
-            hold_a_coil(board)
+            hold_a_coil(board, table)
             board.say(line)
             assert "the board said" in table.until(lambda it: it["ended"] != "", SLOW)["ended"]
             board.until(lambda: not board.on)
@@ -99,7 +100,7 @@ def a_table_that_is_killed_or_stopped_leaves_no_coil_on() -> None:
     """The board's own patience helps."""
     for number in signal.SIGKILL, signal.SIGSTOP:
         with board_and_table() as (board, table):
-            hold_a_coil(board)
+            hold_a_coil(board, table)
             table.process.send_signal(number)
             took = board.until(lambda: not board.on)
             assert board.has_tripped and took < PATIENCE + 1, took
@@ -108,7 +109,7 @@ def a_table_that_is_killed_or_stopped_leaves_no_coil_on() -> None:
 @test
 def a_signal_puts_the_coils_of_a_board_off() -> None:
     with board_and_table() as (board, table):
-        hold_a_coil(board)
+        hold_a_coil(board, table)
         table.process.send_signal(signal.SIGINT)
         board.until(lambda: not board.on)
         assert not board.has_tripped and board.has_heard("off 2") and board.has_heard("off")
@@ -117,7 +118,7 @@ def a_signal_puts_the_coils_of_a_board_off() -> None:
 @test
 def a_program_that_is_killed_puts_the_coils_of_a_board_off() -> None:
     with board_and_table() as (board, table):
-        hold_a_coil(board)
+        hold_a_coil(board, table)
         os.kill(table.child(), signal.SIGKILL)
         board.say("switch 9 1")
         board.until(lambda: not board.on)

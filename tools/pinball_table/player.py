@@ -144,9 +144,9 @@ class Player:
         def run() -> None:
             try:
                 answers.put((what(), None))
-            except Exception as error:  # (it belongs to the caller)
+            except Exception as error:
                 answers.put((None, error))
-                if not isinstance(error, NotNow):
+                if not isinstance(error, (NotNow, ValueError)):  # (these belong to the caller alone)
                     raise
 
         self.calls.put(run)
@@ -266,7 +266,10 @@ class Player:
     def start_over(self, lines: list[str] | None = None) -> list[str]:
         """Begins again, with a log or without one. Gives the lines of the log that are refused."""
         self.by_hand()
-        session = self.make()
+        try:
+            session = self.make()
+        except (Refused, Gone) as error:
+            raise NotNow(f"the machine is not played: {error}") from None
         refused: list[str] = []
         if lines is not None:
             session.first = session.table.state() if session.table else None

@@ -18,7 +18,7 @@ from .answers import Refused
 from .feed import Seen
 from .player import NotNow, Player
 from .record import record
-from .settings import PICTURE, BadSetting, Settings
+from .settings import PICTURE, Settings
 from .view import about
 
 PAGE = Path(__file__).with_name("page")
@@ -37,7 +37,7 @@ FRAME = 0.03  # s: a page gets news at most so often
 HEARTBEAT = 0.25  # s: a page that is closed is missed after so long
 
 
-class BadRequest(Exception):
+class BadRequest(ValueError):
     """A request that no page of this server sends."""
 
 
@@ -179,7 +179,7 @@ class Handler(BaseHTTPRequestHandler):
                 raise BadRequest("there is no such request")
             found = self.server.player.call(lambda: deed(words))
             self.reply(200, "application/json", json.dumps(found).encode())
-        except (BadRequest, BadSetting, ValueError, RecursionError) as error:
+        except (ValueError, RecursionError) as error:
             self.refuse(400, str(error))
         except NotNow as error:
             self.reply(409, "text/plain; charset=utf-8", f"{error}\n".encode())
