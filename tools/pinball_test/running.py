@@ -64,7 +64,7 @@ class Run:
 
     def failure(self) -> Failure | None:
         """Runs the test. Says why it failed, if it did."""
-        line = (self.test.lines or self.test.nevers)[0].line
+        line = self.test.lines[0].line
         try:
             self.play.settle()
             self.begin_step()

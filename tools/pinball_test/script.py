@@ -89,9 +89,10 @@ class Never:
 @dataclass
 class Test:
     title: str
+    number: int = 1  # the line where it begins
     lines: list[Action | Expect] = field(default_factory=list)
-    head: int = 0  # how many of its lines are above the first `test` of the file
     nevers: list[Never] = field(default_factory=list)
+    head: int = 0  # how many of its lines are above the first `test` of the file
     with_table: bool = False
     seed: int | None = None  # none: that of `table.yaml`
 
