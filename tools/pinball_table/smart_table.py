@@ -212,3 +212,6 @@ class PlainTable(SmartTable):
 
     def carry_out(self, command: Command, moment: int) -> None:
         pass
+
+    def follow(self, change: Change) -> None:
+        (self.active.add if change.is_active else self.active.discard)(change.switch)

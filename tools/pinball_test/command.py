@@ -58,7 +58,7 @@ def results_of(folder: Path, files: list[Path], tool: Program, live: str | None)
     for file in files:
         try:
             tests = read_tests(file)
-        except BadLine as error:
+        except (BadLine, OSError) as error:
             yield unreadable(file, error)
             continue
         for test in tests:

@@ -105,8 +105,11 @@ class Run:
         if holds != wanted.is_no:
             return ""
         message = watch.instead(self.play.state, self.play.steps, self.first, self.start, self.play.now)
-        many = len(self.actions) > 1
-        return f"{message} The step begins with line {self.actions[0].number}." if many else message
+        if len(self.actions) > 1:
+            message += f" The step begins with line {self.actions[0].number}."
+        if self.actions and self.play.now == self.start:
+            message += " No time has passed in this step, and a normal switch is accepted after 5 ms."
+        return message
 
     def wait_for(self, watch: Watch, length: int) -> bool:
         """Lets time pass until what is watched for is so."""
@@ -145,8 +148,9 @@ def run(file: Path, test: Test, tested: Tested) -> Result:
     return result
 
 
-def unreadable(file: Path, error: BadLine) -> Result:
-    return Result(file, "cannot be read", Failure(Line(error.number, ""), f"{error.message}."), True)
+def unreadable(file: Path, error: BadLine | OSError) -> Result:
+    number, message = (error.number, error.message) if isinstance(error, BadLine) else (1, str(error.strerror))
+    return Result(file, "cannot be read", Failure(Line(number, ""), f"{message}."), True)
 
 
 def refused(machine: Path, message: str) -> Result:
