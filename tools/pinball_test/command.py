@@ -99,7 +99,7 @@ def write_logs(folder: Path, results: list[Result]) -> None:
 
 
 def main() -> int:
-    asked = parser().parse_args()
+    asked = parser().parse_intermixed_args()
     sys.stdout.reconfigure(errors="backslashreplace")  # type: ignore[union-attr]
     try:
         return write(asked)

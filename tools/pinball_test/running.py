@@ -150,7 +150,7 @@ def run(file: Path, test: Test, tested: Tested) -> Result:
 
 def unreadable(file: Path, error: BadLine | OSError) -> Result:
     number, message = (error.number, error.message) if isinstance(error, BadLine) else (1, str(error.strerror))
-    return Result(file, "cannot be read", Failure(Line(number, ""), f"{message}."), True)
+    return Result(file, "cannot be read", Failure(Line(number, ""), f"{message[0].upper()}{message[1:]}."), True)
 
 
 def refused(machine: Path, message: str) -> Result:
