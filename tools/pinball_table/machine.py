@@ -78,7 +78,7 @@ class Machine:
     flippers: dict[str, Flipper] = field(default_factory=dict)
     saves: list[str] = field(default_factory=list)
     multiballs: list[str] = field(default_factory=list)
-    fired: dict[str, str] = field(default_factory=dict)  # of an autofire coil: the coil that its switch fires
+    fired: dict[str, str] = field(default_factory=dict)  # of the coil of an autofire coil: its switch
     raised: dict[str, tuple[str, ...]] = field(default_factory=dict)  # the drop targets that a coil raises
     kicked: dict[str, str] = field(default_factory=dict)  # the ball device out of which a coil kicks a ball
     at_first: tuple[str, ...] | None = None  # the switches that are active at first, if the machine says so
@@ -122,7 +122,8 @@ def read_parts(scene: Scenery, machine: Machine) -> None:
     for name, (_, it) in scene.defined("ball_devices").items():
         switches = tuple(switch for switch in names_of(it, "ball_switches") if switch in machine.switches)
         target = text_of(it, "eject_targets", PLAYFIELD)
-        machine.devices[name] = BallDevice(name, switches, text_of(it, "eject_coil"), target, tuple(names_of(it, "tags")))
+        tags = tuple(names_of(it, "tags"))
+        machine.devices[name] = BallDevice(name, switches, text_of(it, "eject_coil"), target, tags)
     for name, (_, it) in scene.defined("flippers").items():
         coils = tuple(coil for coil in (text_of(it, "main_coil"), text_of(it, "hold_coil")) if coil)
         machine.flippers[name] = Flipper(name, text_of(it, "activation_switch"), coils)

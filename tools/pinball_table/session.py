@@ -1,7 +1,7 @@
 """Plays a machine by the time of its log, and keeps what happened, step by step.
 
-A step is one line of the log: a switch changes, or an alarm is due. Nothing here looks at the wall's clock: `live` does,
-and a test goes straight from one moment to the next. If the table is simulated, a session can go back.
+A step is one line of the log: a switch changes, or an alarm is due. Nothing here looks at the wall's clock: `player`
+does, and a test goes straight from one moment to the next. If the table is simulated, a session can go back.
 """
 from dataclasses import dataclass
 from pathlib import Path

@@ -35,7 +35,7 @@ function news({state: now, anew, lines}) {
 
 function showTime() {
   byId("pause").textContent = state.paused ? "go on" : "pause";
-  byId("speed_now").textContent = `${state.speed < 1 ? state.speed.toFixed(2) : state.speed.toFixed(1)}×`.replace(".0×", "×");
+  byId("speed_now").textContent = `${+state.speed.toPrecision(2)}×`;
   if (document.activeElement !== byId("speed")) byId("speed").value = Math.log10(state.speed);
   const slider = byId("moment");
   slider.max = Math.max(state.last, state.now);

@@ -54,7 +54,8 @@ function makeActs(about) {
 function switchButton(it) {
   const button = element("button", it.stays ? "switch stays" : "switch", it.label || it.name);
   button.dataset.switch = it.name;
-  button.title = [it.name, it.number && `number ${it.number}`, it.stays && "stays as a click has left it"].filter(Boolean).join(", ");
+  const words = [it.name, it.number && `number ${it.number}`, it.stays && "stays as a click has left it"];
+  button.title = words.filter(Boolean).join(", ");
   for (const key of it.keys) button.append(element("kbd", "", key));
   button.onpointerdown = event => {
     if (isMoving) return move(event, button, it.name);
