@@ -1,4 +1,4 @@
-"""What the table has to know of a machine: its switches, coils, ball devices, modes and timers, and what goes with what.
+"""What the table has to know of a machine: its switches, coils, ball devices, modes and timers.
 
 It reads the folder by the reader of `pinball_help`, which skips what it cannot read. Whether the machine is accepted is
 for the program to say.

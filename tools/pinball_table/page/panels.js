@@ -117,7 +117,8 @@ function showCoils(state) {
     const shown = rows.get(name), lamp = lamps.get(name);
     if (!shown) continue;
     const skipped = it.skipped ? ` (${it.skipped} skipped)` : "", held = it.holder ? " held" : "";
-    const texts = [it.pulses + skipped, time(it.on) + held, `${Math.round(it.duty * 100)}%`, `${Math.round(it.most * 100)}%`];
+    const percent = part => `${Math.round(part * 100)}%`;
+    const texts = [it.pulses + skipped, time(it.on) + held, percent(it.duty), percent(it.most)];
     texts.forEach((text, at) => { if (shown.cells[at].textContent !== text) shown.cells[at].textContent = text; });
     if (it.last > lamp.last) lamp.until = now + Math.max(GLOW, it.ms / state.speed);
     lamp.last = it.last;

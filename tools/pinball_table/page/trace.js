@@ -95,7 +95,8 @@ function showCaused(cascade) {
     if (words) list.append(element("li", `k_${line.kind}`, words));
   }
   const events = cascade.lines.filter(it => it.kind === "event").map(it => it.words[0]);
-  if (events.length) list.append(element("li", "dim", `${events.length} event${events.length > 1 ? "s" : ""}: ${events.join(", ")}`));
+  const count = events.length === 1 ? "1 event" : `${events.length} events`;
+  if (events.length) list.append(element("li", "dim", `${count}: ${events.join(", ")}`));
   const cause = first.kind === "switch" ? `${first.words.join(" is ")}` : "an alarm was due";
   const title = element("b", "", first.moment === null ? "" : `${time(first.moment)} ${cause}`);
   byId("caused").replaceChildren(title, list);
