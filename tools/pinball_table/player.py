@@ -39,6 +39,7 @@ class Player:
         self.wakes, self.waker = os.pipe()
         os.set_blocking(self.waker, False)
         self.holds: dict[str, set[str]] = {}  # the switches that each page presses
+        self.pressed: dict[str, int] = {}  # when each was pressed last
         self.is_over = False
         self.stop_reason = ""
         self.shown = 0.0  # when the page heard last
@@ -188,17 +189,21 @@ class Player:
         self.table.tap(switch, self.act())
 
     def press(self, switch: str, who: str = PAGE) -> None:
-        table = self.table
-        table.press(switch, self.act())
+        table, now = self.table, self.act()
+        table.press(switch, now)
         self.holds.setdefault(who, set()).add(switch)
+        self.pressed[switch] = now
 
     def release(self, switch: str, who: str = PAGE) -> None:
-        """Lets go. A switch that another page holds stays pressed."""
+        """Lets go. A switch that another page holds stays pressed, and each is pressed for as long as a click is.
+
+        (The time of the log stands still while the program answers, so a click may be short by it.)"""
         self.holds.get(who, set()).discard(switch)
         is_held = any(switch in switches for switches in self.holds.values())
         table = self.table
         if not is_held and not self.session.ended and (switch in table.active or table.is_planned(switch)):
-            table.release(switch, self.act())
+            shortest = self.pressed.get(switch, 0) + table.settings.times.tap
+            table.release(switch, max(self.act(), shortest))
 
     def let_go(self, who: str) -> None:
         """A page is closed: what it held is released."""
@@ -260,6 +265,7 @@ class Player:
         self.clock.pause(True)
         self.clock.go_on_from(self.session.moment)
         self.holds.clear()
+        self.pressed.clear()
 
     # a new session
 
@@ -279,6 +285,7 @@ class Player:
         self.session.shut_down("a new session begins")
         self.session, before = session, self.session
         self.holds.clear()
+        self.pressed.clear()
         self.kept = 0
         if lines is not None:
             session.go_to(0)
