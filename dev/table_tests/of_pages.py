@@ -1,8 +1,10 @@
 """Tests of the requests of a page, and of those that no page of the table sends."""
 import json
 import socket
+import tempfile
 import threading
 import time
+from pathlib import Path
 from typing import Any, Callable
 
 from pinball_table.settings import FILE
@@ -152,6 +154,45 @@ def news_come_as_they_happen() -> None:
                 found = json.loads(text[6:])
                 lines = [*([] if found["anew"] else lines), *found["lines"]]
         equal(lines, table.get("/trace").splitlines()[: len(lines)])
+
+
+@test
+def a_new_session_reads_the_files_again() -> None:
+    with folder_of("switches: {s_a: {number: 1}}") as folder, Table(folder) as table:
+        config = folder / "config/config.yaml"
+        config.write_text("#config_version=6\nswitches: {s_b: {number: 1}}\n")
+        table.do("start_over")
+        equal([it["name"] for it in json.loads(table.get("/about"))["switches"]], ["s_b"])
+        table.do("tap", switch="s_b")
+        for text, words in ("switches: {a b: {number: 1}}", "BadValue"), ("switches: [", "Flow"):
+            config.write_text(f"#config_version=6\n{text}\n")
+            status, said = table.request("POST", "/start_over", b"{}", X_Pinball="1")
+            assert status == 409 and words in said.decode(), said
+        (folder / FILE).write_text("balls: x\n")
+        equal(table.request("POST", "/start_over", b"{}", X_Pinball="1")[0], 409)
+        assert "s_b 1" in table.get("/log")  # (the one before goes on)
+
+
+@test
+def a_log_is_kept_in_a_file() -> None:
+    """Also after going back, and after starting over. What only waits is left out."""
+    with tempfile.TemporaryDirectory() as room:
+        file = Path(room) / "log"
+        with Table(TOP / "examples/first", "--log", str(file)) as table:
+            for switch in "s_left_target", "s_drain":
+                table.do("tap", switch=switch)
+                table.until(lambda it: it["active"] == [])
+            table.do("go_to", moment=0)
+            table.do("go")
+            table.until(lambda it: it["future"] == 0)
+            kept = [it for it in file.read_text().splitlines() if " " in it]
+            equal(kept, [it for it in table.get("/log").splitlines() if " " in it])
+            table.do("start_over")
+            table.do("tap", switch="s_right_target")
+            table.until(lambda it: it["active"] == [] and it["steps"] > 3)
+            table.end()
+        lines = [it for it in file.read_text().splitlines() if " " in it]
+        equal([it.split(" ", 1)[1] for it in lines], ["s_right_target 1", "s_right_target 0"])
 
 
 # what nobody may send

@@ -85,9 +85,9 @@ def end_by_signals(player: Player) -> None:
         signal.signal(number, end)
 
 
-def server_of(asked: argparse.Namespace, player: Player, settings: Settings, words: str) -> Server:
+def server_of(asked: argparse.Namespace, player: Player, words: str) -> Server:
     try:
-        return Server(asked.port, player, settings, words)
+        return Server(asked.port, player, words)
     except OSError as error:
         player.session.shut_down("there is no address")
         if error.errno == errno.EADDRINUSE:
@@ -96,16 +96,25 @@ def server_of(asked: argparse.Namespace, player: Player, settings: Settings, wor
 
 
 def play(asked: argparse.Namespace) -> int:
-    machine = read_machine(asked.dir)
-    settings = read_settings(machine)
     make_answers, words = answers_of(asked)
     lines = log_lines(asked.open) if asked.open else None
-    player = Player(lambda: Session(machine, make_answers(), platform_of(asked, machine, settings)), log=asked.log)
+
+    def make() -> tuple[Session, Settings]:
+        machine = read_machine(asked.dir)
+        settings = read_settings(machine)
+        platform = platform_of(asked, machine, settings)
+        try:
+            return Session(machine, make_answers(), platform), settings
+        except BaseException:
+            platform.close()
+            raise
+
+    player = Player(make, log=asked.log)
     end_by_signals(player)
     if lines is not None:
         for line in player.start_over(lines):
             print(f"refused: {line}", file=sys.stderr)
-    server = server_of(asked, player, settings, words)
+    server = server_of(asked, player, words)
     threading.Thread(target=server.serve_forever, daemon=True).start()
     print(f"http://{server.hosts[0]}/", flush=True)
     player.run()

@@ -10,7 +10,7 @@ from typing import Iterable
 from pinball_help.trace import Step as TraceStep
 from pinball_help.trace import steps_of
 
-from .answers import Answers, Gone, is_wait, moment_of, without_waits
+from .answers import Answers, Gone, Refused, is_wait, moment_of, without_waits
 from .machine import Machine
 from .monitor import Monitor
 from .platforms import BoardFailure, Change, Command, Platform
@@ -129,7 +129,7 @@ class Session:
         except Gone as gone:
             self.take(gone.lines, self.moment)
             why = f"{why}; {gone.why}"
-        except BoardFailure as failure:
+        except (BoardFailure, Refused) as failure:
             why = f"{why}; {failure}"
         self.put_off(why)
 
