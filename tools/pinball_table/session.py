@@ -126,10 +126,7 @@ class Session:
         try:
             self.catch_up()
             self.take(self.answers.end(), self.moment)
-        except Gone as gone:
-            self.take(gone.lines, self.moment)
-            why = f"{why}; {gone.why}"
-        except (BoardFailure, Refused) as failure:
+        except (Gone, Refused, BoardFailure) as failure:
             why = f"{why}; {failure}"
         self.put_off(why)
 
