@@ -83,7 +83,7 @@ def a_whole_game_by_clicks() -> None:
         games.play(ClickHand(page, table))
         log, trace = table.get("/log").splitlines(), table.get("/trace").splitlines()
         equal(played(log, COMPLETE), trace)
-        equal(page.run("[...document.querySelectorAll('.player b')].map(it => it.textContent)"), ["13,320", "10"])
+        equal(page.run("[...document.querySelectorAll('.player b')].map(it => it.textContent)"), ["13,330", "10"])
         page.click("#shut_down")
         page.until("!document.getElementById('ended').hidden")
         assert page.run("document.querySelector('[data-act=drain]').disabled")

@@ -21,7 +21,7 @@ from .view import state_of
 
 FRAME = 0.025  # s: the page hears of changes at most so often ..
 QUIET = 0.5  # s: .. and of the time at least so often
-ANSWER = 30.0  # s: how long a caller waits for the loop
+ANSWER = 120.0  # s: how long a caller waits for the loop
 PAGE = "the page"  # who holds a switch, if no page says its name
 
 T = TypeVar("T")
@@ -50,7 +50,7 @@ class Player:
         self.shown = 0.0  # when the page heard last
         self.is_new = True
         self.number = 0  # of sessions that were begun again
-        self.kept, self.is_other_log = 0, False  # how many lines of the log its file has, and whether of another one
+        self.kept, self.is_other_log = 0, False  # how many steps the log's file has, and whether of another log
         self.closed: set[str] = set()  # pages that are closed
         self.session = self.begin()
         self.publish()
@@ -129,18 +129,18 @@ class Player:
         self.shown, self.is_new = time.monotonic(), False
 
     def keep_log(self, is_last: bool = False) -> None:
-        """Writes the new lines of the log to its file; all of them if somebody went back. What only waits is left out."""
+        """Writes the new steps to the file of the log; all of them if somebody went back. What only waits can wait."""
         if not self.log:
             return
-        steps = self.session.steps
-        lines = [step.line for step in steps if not is_idle(step) or is_last and step is steps[-1]]
-        if len(lines) < self.kept or self.is_other_log:
-            self.is_other_log = False
+        if len(self.session.steps) < self.kept or self.is_other_log:
             self.log.seek(0)
             self.log.truncate()
-            self.kept = 0
-        self.log.write("".join(f"{line}\n" for line in lines[self.kept :]))
-        self.kept = len(lines)
+            self.kept, self.is_other_log = 0, False
+        new = self.session.steps[self.kept :]
+        if new and is_idle(new[-1]) and not is_last:
+            new.pop()
+        self.log.write("".join(f"{step.line}\n" for step in new))
+        self.kept += len(new)
 
     # calls of other threads
 

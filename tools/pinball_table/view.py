@@ -89,7 +89,7 @@ def devices_of(monitor: Monitor, now: int) -> dict:
         "timers": timers,
         "coils": {
             name: {"pulses": it.pulses, "skipped": it.skipped, "on": it.on_ms + (now - it.since if it.holder else 0),
-                   "holder": it.holder, "power": it.power, "last": it.last, "ms": it.last_ms,
+                   "holder": it.holder, "last": it.last, "ms": it.last_ms,
                    "duty": round(it.duty_at(now), 3), "most": round(max(it.duty, it.duty_at(now)), 3)}
             for name, it in monitor.coils.items()},
     }
