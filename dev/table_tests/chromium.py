@@ -11,7 +11,7 @@ from pathlib import Path
 from typing import Any
 
 NAMES = ("chromium", "chromium-browser", "google-chrome")
-PATIENCE = 30.0  # s
+PATIENCE = 120.0  # s
 
 
 def find() -> str | None:
@@ -86,7 +86,8 @@ class Chromium:
     # the page
 
     def size(self, width: int, height: int, is_mobile: bool = False) -> None:
-        self.ask("Emulation.setDeviceMetricsOverride", width=width, height=height, deviceScaleFactor=1, mobile=is_mobile)
+        words = {"width": width, "height": height, "deviceScaleFactor": 1, "mobile": is_mobile}
+        self.ask("Emulation.setDeviceMetricsOverride", **words)
 
     def open(self, url: str) -> None:
         self.ask("Page.enable")
@@ -102,7 +103,8 @@ class Chromium:
         end = time.monotonic() + seconds
         while not self.run(f"!!({script})"):
             if time.monotonic() > end:
-                raise AssertionError(f"not within {seconds:g} s: {script}; {self.run('JSON.stringify(window.pinball)')}")
+                state = self.run("JSON.stringify(window.pinball)")
+                raise AssertionError(f"not within {seconds:g} s: {script}; {state}")
             time.sleep(0.02)
 
     def place(self, css: str) -> tuple[float, float]:

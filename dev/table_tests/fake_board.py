@@ -1,4 +1,4 @@
-"""A board that is none, at a pseudo-terminal. It has the protocol of docs/table.md, and keeps what it heard and when."""
+"""A board that is none, at a pseudo-terminal. It has the protocol of docs/table.md, and keeps what it heard."""
 import os
 import select
 import threading

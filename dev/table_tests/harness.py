@@ -21,7 +21,7 @@ TOP = Path(__file__).resolve().parents[2]
 COMPLETE = TOP / "examples/complete"
 EXAMPLES = sorted(it.parent for it in (TOP / "examples").glob("*/expected-play"))
 STAND_IN = Path(__file__).with_name("stand_in.py")
-SLOW = 60.0  # s: the unproved program may take so long
+SLOW = 150.0  # s: nothing takes so long, even with an unproved program on a busy computer
 
 TESTS: list[Callable[[], None]] = []
 programs = {"pinball": "", "live": str(STAND_IN)}

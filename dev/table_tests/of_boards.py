@@ -63,8 +63,9 @@ def with_a_board_the_time_is_that_of_the_wall() -> None:
     with board_and_table() as (_, table):
         assert json.loads(table.get("/about"))["board"]
         for deed, words in (
-            ("pause", "{}"), ("go", "{}"), ("step", "{}"), ("back", "{}"), ("speed", '{"speed": 2}'), ("start_over", "{}"),
-            ("go_to", '{"moment": 0}'), ("open", '{"log": ""}'), ("tap", '{"switch": "s_start"}'), ("drain", "{}"),
+            ("pause", "{}"), ("go", "{}"), ("step", "{}"), ("back", "{}"), ("speed", '{"speed": 2}'),
+            ("start_over", "{}"), ("go_to", '{"moment": 0}'),
+            ("open", '{"log": ""}'), ("tap", '{"switch": "s_start"}'), ("drain", "{}"),
         ):
             equal((deed, table.request("POST", f"/{deed}", words.encode(), X_Pinball="1")[0]), (deed, 409))
 

@@ -134,7 +134,8 @@ def late_pulses(clock: Clock) -> Iterator[tuple[int, int]]:
     with folder_of(MACHINE, {"m": MODE}) as folder:
         machine = read_machine(folder)
         table = LateTable(read_settings(machine))
-        player = Player(lambda: Session(machine, replayed(folder), table), clock)
+        settings = read_settings(machine)
+        player = Player(lambda: (Session(machine, replayed(folder), table), settings), clock)
         table.at(10, "set", "s_go", True)
         for moment in range(40, 2000, 70):
             table.at(moment, "set", "s_hit", moment // 70 % 2 == 0)

@@ -1,8 +1,10 @@
 """Tests of the requests of a page, and of those that no page of the table sends."""
 import json
 import socket
+import tempfile
 import threading
 import time
+from pathlib import Path
 from typing import Any, Callable
 
 from pinball_table.settings import FILE
@@ -112,6 +114,18 @@ def a_held_switch_belongs_to_its_page() -> None:
 
 
 @test
+def a_short_press_lasts_as_long_as_a_click() -> None:
+    """By the log, however long the program takes to answer: otherwise it would be taken for a bounce."""
+    with Table(TOP / "examples/first") as table:
+        for _ in range(3):
+            table.do("press", switch="s_drain", page="a")
+            table.do("release", switch="s_drain", page="a")
+            table.until(lambda it: not it["active"])
+        moments = [int(line.split()[0]) for line in table.get("/log").splitlines() if " " in line]
+        assert len(moments) == 6 and all(moments[it + 1] - moments[it] >= 60 for it in (0, 2, 4)), moments
+
+
+@test
 def a_page_that_is_closed_lets_go() -> None:
     with Table(COMPLETE) as table:
         start_game(table)
@@ -140,6 +154,45 @@ def news_come_as_they_happen() -> None:
                 found = json.loads(text[6:])
                 lines = [*([] if found["anew"] else lines), *found["lines"]]
         equal(lines, table.get("/trace").splitlines()[: len(lines)])
+
+
+@test
+def a_new_session_reads_the_files_again() -> None:
+    with folder_of("switches: {s_a: {number: 1}}") as folder, Table(folder) as table:
+        config = folder / "config/config.yaml"
+        config.write_text("#config_version=6\nswitches: {s_b: {number: 1}}\n")
+        table.do("start_over")
+        equal([it["name"] for it in json.loads(table.get("/about"))["switches"]], ["s_b"])
+        table.do("tap", switch="s_b")
+        for text, words in ("switches: {a b: {number: 1}}", "BadValue"), ("switches: [", "Flow"):
+            config.write_text(f"#config_version=6\n{text}\n")
+            status, said = table.request("POST", "/start_over", b"{}", X_Pinball="1")
+            assert status == 409 and words in said.decode(), said
+        (folder / FILE).write_text("balls: x\n")
+        equal(table.request("POST", "/start_over", b"{}", X_Pinball="1")[0], 409)
+        assert "s_b 1" in table.get("/log")  # (the one before goes on)
+
+
+@test
+def a_log_is_kept_in_a_file() -> None:
+    """Also after going back, and after starting over. What only waits is left out."""
+    with tempfile.TemporaryDirectory() as room:
+        file = Path(room) / "log"
+        with Table(TOP / "examples/first", "--log", str(file)) as table:
+            for switch in "s_left_target", "s_drain":
+                table.do("tap", switch=switch)
+                table.until(lambda it: it["active"] == [])
+            table.do("go_to", moment=0)
+            table.do("go")
+            table.until(lambda it: it["future"] == 0)
+            kept = [it for it in file.read_text().splitlines() if " " in it]
+            equal(kept, [it for it in table.get("/log").splitlines() if " " in it])
+            table.do("start_over")
+            table.do("tap", switch="s_right_target")
+            table.until(lambda it: it["active"] == [] and it["steps"] > 3)
+            table.end()
+        lines = [it for it in file.read_text().splitlines() if " " in it]
+        equal([it.split(" ", 1)[1] for it in lines], ["s_right_target 1", "s_right_target 0"])
 
 
 # what nobody may send
@@ -172,8 +225,9 @@ def a_request_that_makes_no_sense_is_refused() -> None:
         for path, body in (
             ("/tap", b""), ("/tap", b"{"), ("/tap", b"[]"), ("/tap", b"{}"), ("/tap", b'{"switch": "s_nope"}'),
             ("/tap", b'{"switch": ["s_drain"]}'), ("/press", b'{"switch": "s_drain"}'), ("/nope", b"{}"), ("/", b"{}"),
-            ("/speed", b'{"speed": "9"}'), ("/speed", b'{"speed": true}'), ("/speed", b'{"speed": NaN}'), ("/speed", b"{}"),
-            ("/go_to", b'{"moment": 1e99}'), ("/open", b'{"log": 3}'), ("/place", b'{"name": "s_drain", "x": 1, "y": 101}'),
+            ("/speed", b'{"speed": "9"}'), ("/speed", b'{"speed": true}'), ("/speed", b'{"speed": NaN}'),
+            ("/speed", b"{}"), ("/go_to", b'{"moment": 1e99}'), ("/open", b'{"log": 3}'),
+            ("/place", b'{"name": "s_drain", "x": 1, "y": 101}'),
             ("/place", b'{"name": "../x", "x": 1, "y": 1}'), ("/tap", b"\xff\xfe"), ("/__class__", b"{}"),
             ("/tap", b'{"switch": "s_drain", "a":' + b"[" * 100_000),
         ):
@@ -182,16 +236,19 @@ def a_request_that_makes_no_sense_is_refused() -> None:
         for path in ("/page.py", "/../settings.py", "/%2e%2e/settings.py", "//etc/passwd", "/index.html", "/table.png"):
             equal((path, table.request("GET", path)[0]), (path, 404))
         equal(table.request("PUT", "/tap", b"{}")[0], 501)
-        equal(raw(table, b"POST /tap HTTP/1.1\r\nHost: %s\r\nX-Pinball: 1\r\nContent-Length: 99999999\r\n\r\n"), b"413")
-        equal(raw(table, b"POST /tap HTTP/1.1\r\nHost: %s\r\nX-Pinball: 1\r\nTransfer-Encoding: chunked\r\n\r\n0\r\n\r\n"), b"413")
-        equal(raw(table, b"POST /tap HTTP/1.1\r\nHost: %s\r\nHost: evil\r\nX-Pinball: 1\r\nContent-Length: 2\r\n\r\n{}"), b"403")
+        for headers, status in (
+            (b"Content-Length: 99999999\r\n\r\n", b"413"), (b"Transfer-Encoding: chunked\r\n\r\n0\r\n\r\n", b"413"),
+            (b"Host: evil\r\nContent-Length: 2\r\n\r\n{}", b"403"),
+        ):
+            head = f"POST /tap HTTP/1.1\r\nHost: 127.0.0.1:{table.port}\r\nX-Pinball: 1\r\n".encode()
+            equal(raw(table, head + headers), status)
         table.do("tap", switch="s_drain")  # (it still answers)
         assert not (TOP / "examples/first" / FILE).exists()
 
 
 def raw(table: Table, data: bytes) -> bytes:
     with socket.create_connection(("127.0.0.1", table.port), SLOW) as link:
-        link.sendall(data.replace(b"%s", f"127.0.0.1:{table.port}".encode()))
+        link.sendall(data)
         return link.recv(4096).split(b" ")[1]
 
 

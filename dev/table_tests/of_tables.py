@@ -24,7 +24,11 @@ coils:
   c_plunger: {number: 2}
   c_up: {number: 3}
 ball_devices:
-  trough: {ball_switches: "s_trough_1, s_trough_2, s_trough_3", eject_coil: c_trough, eject_targets: plunger, tags: "trough, drain"}
+  trough:
+    ball_switches: s_trough_1, s_trough_2, s_trough_3
+    eject_coil: c_trough
+    eject_targets: plunger
+    tags: trough, drain
   plunger: {ball_switches: s_plunger, mechanical_eject: yes}
 """
 PULSE = {coil: Command(coil, "pulse", 10, 1000) for coil in ("c_trough", "c_plunger", "c_up")}
@@ -151,7 +155,8 @@ def a_place_is_written_and_comments_stay() -> None:
     places = {"s_hit": (3.5, 99.0), "c_up": (0.0, 100.0)}
     for before in (
         "", "# mine\n", "balls: 2 # two\n", "layout:\n", "layout:\n  s_hit: 1, 2 # here\n# end\n",
-        "layout: {s_hit: \"1, 2\", s_drop_1: \"3, 4\"} # all\nballs: 1\n", "layout:\r\n    s_drop_1: 3, 4\r\nballs: 1\r\n",
+        "layout: {s_hit: \"1, 2\", s_drop_1: \"3, 4\"} # all\nballs: 1\n",
+        "layout:\r\n    s_drop_1: 3, 4\r\nballs: 1\r\n",
         "layout:\n  s_drop_1: [3, 4]\n  s_hit:\nballs: 1 # one", "layout:\n  s_hit: 1, 2\n  c_up: 3, 4",
     ):
         with folder_of(BALLS, table=before) as folder:

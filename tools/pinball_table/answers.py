@@ -13,6 +13,8 @@ from abc import ABC, abstractmethod
 from pathlib import Path
 from typing import Iterator
 
+from pinball_help.texts import read_texts, write_texts
+
 AHEAD = 5_000  # ms: how far a replay looks ahead for what is due
 LOADING = 60.0  # s: how long a program may take to read a folder
 
@@ -30,9 +32,17 @@ class Refused(Exception):
 
 
 class Answers(ABC):
-    """Answers the lines of one log, in their order. `due` is the moment of the next alarm, or none."""
+    """Answers the lines of one log, in their order. `due` is the moment of the next alarm, or none.
+
+    The program is started more than once. So it reads a copy of the texts, which stays as it is if somebody edits them."""
 
     due: int | None = None
+
+    def __init__(self, program: str, folder: Path, patience: float):
+        self.program, self.patience = program, patience
+        self.room = tempfile.TemporaryDirectory(prefix="pinball-table-")
+        self.folder = Path(self.room.name)
+        write_texts(read_texts(folder), self.folder)
 
     @abstractmethod
     def ask(self, line: str) -> list[str]:
@@ -77,7 +87,8 @@ class Replay(Answers):
     """Plays the log again for each change. What comes before the next change is known ahead."""
 
     def __init__(self, program: str, folder: Path, patience: float = 10.0, further: int = AHEAD):
-        self.program, self.folder, self.patience, self.further = program, folder, patience, further
+        super().__init__(program, folder, patience)
+        self.further = further
         self.lines: list[str] = []
         self.given = 0  # how many lines of the trace have been given
         self.ahead: list[str] = []  # those that follow, up to the moment `seen`
@@ -159,7 +170,7 @@ class Live(Answers):
     Nothing is sent before the last answer has come, so neither side ever waits for the other."""
 
     def __init__(self, program: str, folder: Path, patience: float = 0.5):
-        self.program, self.folder, self.patience = program, folder, patience
+        super().__init__(program, folder, patience)
         self.start()
 
     def start(self) -> None:

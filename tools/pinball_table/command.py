@@ -33,7 +33,7 @@ AT_LAST = 0.3  # s: the pages hear of the end
 def parser() -> argparse.ArgumentParser:
     one = argparse.ArgumentParser(prog="pinball-table", description=ABOUT, epilog="docs/table.md says more.")
     one.add_argument("dir", metavar="DIR", type=Path, help="the folder of the machine")
-    one.add_argument("--port", type=int, default=PORT, help=f"of the address on 127.0.0.1 ({PORT}; 0: any that is free)")
+    one.add_argument("--port", type=int, default=PORT, help=f"on 127.0.0.1 ({PORT}; 0: any that is free)")
     one.add_argument("--open", metavar="LOG", type=Path, help="begins with this log")
     one.add_argument("--log", metavar="FILE", type=Path, help="keeps the log here, line by line")
     one.add_argument("--program", metavar="PATH", help="the program `pinball`, if not the proved one")
@@ -41,7 +41,7 @@ def parser() -> argparse.ArgumentParser:
     one.add_argument("--patience", type=float, metavar="S", help="how long the program may take to answer a line")
     one.add_argument("--board", metavar="DEVICE", help="a board at this serial port, in place of the simulated table")
     one.add_argument("--baud", type=int, default=115_200, help="the speed of that port (115200)")
-    one.add_argument("--board-patience", type=float, default=PATIENCE, metavar="S", help=f"see docs/table.md ({PATIENCE})")
+    one.add_argument("--board-patience", type=float, metavar="S", default=PATIENCE, help=f"({PATIENCE})")
     return one
 
 
@@ -85,9 +85,9 @@ def end_by_signals(player: Player) -> None:
         signal.signal(number, end)
 
 
-def server_of(asked: argparse.Namespace, player: Player, settings: Settings, words: str) -> Server:
+def server_of(asked: argparse.Namespace, player: Player, words: str) -> Server:
     try:
-        return Server(asked.port, player, settings, words)
+        return Server(asked.port, player, words)
     except OSError as error:
         player.session.shut_down("there is no address")
         if error.errno == errno.EADDRINUSE:
@@ -96,16 +96,25 @@ def server_of(asked: argparse.Namespace, player: Player, settings: Settings, wor
 
 
 def play(asked: argparse.Namespace) -> int:
-    machine = read_machine(asked.dir)
-    settings = read_settings(machine)
     make_answers, words = answers_of(asked)
     lines = log_lines(asked.open) if asked.open else None
-    player = Player(lambda: Session(machine, make_answers(), platform_of(asked, machine, settings)), log=asked.log)
+
+    def make() -> tuple[Session, Settings]:
+        machine = read_machine(asked.dir)
+        settings = read_settings(machine)
+        platform = platform_of(asked, machine, settings)
+        try:
+            return Session(machine, make_answers(), platform), settings
+        except BaseException:
+            platform.close()
+            raise
+
+    player = Player(make, log=asked.log)
     end_by_signals(player)
     if lines is not None:
         for line in player.start_over(lines):
             print(f"refused: {line}", file=sys.stderr)
-    server = server_of(asked, player, settings, words)
+    server = server_of(asked, player, words)
     threading.Thread(target=server.serve_forever, daemon=True).start()
     print(f"http://{server.hosts[0]}/", flush=True)
     player.run()
@@ -122,7 +131,7 @@ def main() -> int:
         return play(asked)
     except Refused as refused:
         print(refused)
-        print(f"pinball-table: the machine is refused: tools/pinball-help errors {asked.dir} says more", file=sys.stderr)
+        print(f"pinball-table: refused: tools/pinball-help errors {asked.dir} says more", file=sys.stderr)
         return 1
     except (NoAnswer, Gone, BoardFailure) as error:
         print(f"pinball-table: {error}", file=sys.stderr)

@@ -1,4 +1,4 @@
-"""What the table has to know of a machine: its switches, coils, ball devices, modes and timers, and what goes with what.
+"""What the table has to know of a machine: its switches, coils, ball devices, modes and timers.
 
 It reads the folder by the reader of `pinball_help`, which skips what it cannot read. Whether the machine is accepted is
 for the program to say.
@@ -10,11 +10,10 @@ from pinball_help.graph import names_of, setting, text_of
 from pinball_help.outline import Entry
 from pinball_help.scenery import Scenery, action_of
 from pinball_help.texts import MACHINE, mode_text, read_texts
-from pinball_help.values import event_of, is_yes, milliseconds, number
+from pinball_help.values import event_of, number
 
 PLAYFIELD = "playfield"
 PRIORITY = 100  # of a mode that states none
-PULSE = 10  # ms, of a coil that states none
 
 
 @dataclass(frozen=True)
@@ -35,8 +34,6 @@ class Coil:
     name: str
     number: str
     label: str
-    pulse_ms: int
-    may_be_held: bool
 
 
 @dataclass(frozen=True)
@@ -78,7 +75,7 @@ class Machine:
     flippers: dict[str, Flipper] = field(default_factory=dict)
     saves: list[str] = field(default_factory=list)
     multiballs: list[str] = field(default_factory=list)
-    fired: dict[str, str] = field(default_factory=dict)  # of an autofire coil: the coil that its switch fires
+    fired: dict[str, str] = field(default_factory=dict)  # of the coil of an autofire coil: its switch
     raised: dict[str, tuple[str, ...]] = field(default_factory=dict)  # the drop targets that a coil raises
     kicked: dict[str, str] = field(default_factory=dict)  # the ball device out of which a coil kicks a ball
     at_first: tuple[str, ...] | None = None  # the switches that are active at first, if the machine says so
@@ -117,22 +114,17 @@ def read_parts(scene: Scenery, machine: Machine) -> None:
             name, text_of(it, "number"), text_of(it, "label"), text_of(it, "type") == "NC", tuple(names_of(it, "tags"))
         )
     for name, (_, it) in scene.defined("coils").items():
-        pulse = milliseconds(text_of(it, "default_pulse_ms")) or PULSE
-        machine.coils[name] = Coil(name, text_of(it, "number"), text_of(it, "label"), pulse, may_be_held(it))
+        machine.coils[name] = Coil(name, text_of(it, "number"), text_of(it, "label"))
     for name, (_, it) in scene.defined("ball_devices").items():
         switches = tuple(switch for switch in names_of(it, "ball_switches") if switch in machine.switches)
         target = text_of(it, "eject_targets", PLAYFIELD)
-        machine.devices[name] = BallDevice(name, switches, text_of(it, "eject_coil"), target, tuple(names_of(it, "tags")))
+        tags = tuple(names_of(it, "tags"))
+        machine.devices[name] = BallDevice(name, switches, text_of(it, "eject_coil"), target, tags)
     for name, (_, it) in scene.defined("flippers").items():
         coils = tuple(coil for coil in (text_of(it, "main_coil"), text_of(it, "hold_coil")) if coil)
         machine.flippers[name] = Flipper(name, text_of(it, "activation_switch"), coils)
     for _, it in scene.defined("autofire_coils").values():
         machine.fired[text_of(it, "coil")] = text_of(it, "switch")
-
-
-def may_be_held(coil: Entry) -> bool:
-    power = text_of(coil, "default_hold_power")
-    return is_yes(text_of(coil, "allow_enable")) or bool(power.strip("0.%"))
 
 
 def read_modes(scene: Scenery, machine: Machine) -> None:

@@ -21,7 +21,6 @@ class CoilState:
     on_ms: int = 0
     holder: str = ""
     since: int = 0
-    power: int = 0
     last: int = -1  # the moment of its last pulse ..
     last_ms: int = 0  # .. and its length
     duty: float = 0.0  # the greatest part of a second
@@ -116,10 +115,10 @@ class Monitor:
         elif action == "pulse":
             length = int(step.words[2])
             coil.pulses += 1
-            coil.last, coil.last_ms, coil.power = step.moment, length, int(step.words[3])
+            coil.last, coil.last_ms = step.moment, length
             coil.was_on(step.moment, step.moment + length)
         elif action == "enable":
-            coil.holder, coil.since, coil.power = step.owner, step.moment, int(step.words[2])
+            coil.holder, coil.since = step.owner, step.moment
         else:
             coil.put_off(step.moment)
 

@@ -15,14 +15,17 @@ from .clock import Clock, Suspended, Watch
 from .feed import Feed
 from .platforms import BoardFailure
 from .session import Session, is_idle
+from .settings import BadSetting, Settings
 from .smart_table import SmartTable
 from .view import state_of
 
-FRAME = 0.025  # s: the page hears of changes at most so often
-ANSWER = 30.0  # s: how long a caller waits for the loop
+FRAME = 0.025  # s: the page hears of changes at most so often ..
+QUIET = 0.5  # s: .. and of the time at least so often
+ANSWER = 120.0  # s: how long a caller waits for the loop
 PAGE = "the page"  # who holds a switch, if no page says its name
 
 T = TypeVar("T")
+Make = Callable[[], tuple[Session, Settings]]
 
 
 class NotNow(Exception):
@@ -30,7 +33,9 @@ class NotNow(Exception):
 
 
 class Player:
-    def __init__(self, make: Callable[[], Session], clock: Clock | None = None, log: Path | None = None):
+    """`make` reads the machine again, so that a new session plays what its texts say now."""
+
+    def __init__(self, make: Make, clock: Clock | None = None, log: Path | None = None):
         self.make, self.clock, self.watch = make, clock or Clock(), Watch()
         self.watch.start()
         self.feed = Feed()
@@ -39,21 +44,22 @@ class Player:
         self.wakes, self.waker = os.pipe()
         os.set_blocking(self.waker, False)
         self.holds: dict[str, set[str]] = {}  # the switches that each page presses
+        self.pressed: dict[str, int] = {}  # when each was pressed last
         self.is_over = False
         self.stop_reason = ""
         self.shown = 0.0  # when the page heard last
         self.is_new = True
-        self.latest = 0  # ms: how late the latest step was
+        self.number = 0  # of sessions that were begun again
+        self.kept, self.is_other_log = 0, False  # how many steps the log's file has, and whether of another log
+        self.closed: set[str] = set()  # pages that are closed
         self.session = self.begin()
         self.publish()
 
     def begin(self) -> Session:
-        session = self.make()
+        session, self.settings = self.make()
         session.start()
-        self.clock.is_paused = False
         self.clock.go_on_from(0)
         self.watch.begin()
-        self.kept = 0
         return session
 
     @property
@@ -71,7 +77,7 @@ class Player:
                 self.turn()
         finally:
             self.session.shut_down(self.stop_reason or "the table has failed")
-            self.keep_log()
+            self.keep_log(is_last=True)
             self.publish()
             self.session.platform.close()
             if self.log:
@@ -93,7 +99,7 @@ class Player:
             self.is_new = True
             self.session.shut_down(str(failure))
         self.keep_log()
-        if self.is_new and time.monotonic() - self.shown > FRAME:
+        if time.monotonic() - self.shown > (FRAME if self.is_new else QUIET):
             self.publish()
 
     def wait(self) -> None:
@@ -112,7 +118,6 @@ class Player:
         """Does what is due by now, each as if it were in time."""
         while not self.session.ended and (coming := self.session.next()) is not None and coming <= self.clock.now():
             self.watch.check()
-            self.latest = max(self.latest, self.clock.now() - coming)
             self.session.step()
             self.clock.go_on_from(max(coming, self.session.moment))
             self.is_new = True
@@ -123,17 +128,19 @@ class Player:
         self.feed.publish(state_of(self), self.session.trace, self.session.epoch)
         self.shown, self.is_new = time.monotonic(), False
 
-    def keep_log(self) -> None:
-        """Writes the new lines of the log to its file; all of them if somebody went back."""
+    def keep_log(self, is_last: bool = False) -> None:
+        """Writes the new steps to the file of the log; all of them if somebody went back. What only waits can wait."""
         if not self.log:
             return
-        lines = [step.line for step in self.session.steps]
-        if len(lines) < self.kept:
+        if len(self.session.steps) < self.kept or self.is_other_log:
             self.log.seek(0)
             self.log.truncate()
-            self.kept = 0
-        self.log.write("".join(f"{line}\n" for line in lines[self.kept :]))
-        self.kept = len(lines)
+            self.kept, self.is_other_log = 0, False
+        new = self.session.steps[self.kept :]
+        if new and is_idle(new[-1]) and not is_last:
+            new.pop()
+        self.log.write("".join(f"{step.line}\n" for step in new))
+        self.kept += len(new)
 
     # calls of other threads
 
@@ -188,23 +195,37 @@ class Player:
         self.table.tap(switch, self.act())
 
     def press(self, switch: str, who: str = PAGE) -> None:
-        table = self.table
-        table.press(switch, self.act())
+        if who in self.closed:
+            raise NotNow("this page is closed")
+        table, now = self.table, self.act()
+        table.press(switch, now)
         self.holds.setdefault(who, set()).add(switch)
+        self.pressed[switch] = now
 
     def release(self, switch: str, who: str = PAGE) -> None:
-        """Lets go. A switch that another page holds stays pressed."""
+        """Lets go. A switch that another page holds stays pressed, and each is pressed for as long as a click is.
+
+        (The time of the log stands still while the program answers, so a click may be short by it.)"""
         self.holds.get(who, set()).discard(switch)
         is_held = any(switch in switches for switches in self.holds.values())
         table = self.table
         if not is_held and not self.session.ended and (switch in table.active or table.is_planned(switch)):
-            table.release(switch, self.act())
+            shortest = self.pressed.get(switch, 0) + table.settings.times.tap
+            table.release(switch, max(self.act(), shortest))
 
     def let_go(self, who: str) -> None:
         """A page is closed: what it held is released."""
         for switch in sorted(self.holds.get(who, set())):
             self.release(switch, who)
         self.holds.pop(who, None)
+
+    def page_is_closed(self, who: str) -> None:
+        """Nobody is there any more who could let go, also of what it asks for late."""
+        self.closed.add(who)
+        self.let_go(who)
+
+    def page_is_open(self, who: str) -> None:
+        self.closed.discard(who)
 
     def drain(self) -> None:
         if not self.table.drain(self.act()):
@@ -260,6 +281,7 @@ class Player:
         self.clock.pause(True)
         self.clock.go_on_from(self.session.moment)
         self.holds.clear()
+        self.pressed.clear()
 
     # a new session
 
@@ -267,8 +289,8 @@ class Player:
         """Begins again, with a log or without one. Gives the lines of the log that are refused."""
         self.by_hand()
         try:
-            session = self.make()
-        except (Refused, Gone) as error:
+            session, settings = self.make()
+        except (Refused, Gone, BadSetting, OSError) as error:
             raise NotNow(f"the machine is not played: {error}") from None
         refused: list[str] = []
         if lines is not None:
@@ -277,9 +299,10 @@ class Player:
         else:
             session.start()
         self.session.shut_down("a new session begins")
-        self.session, before = session, self.session
+        self.session, before, self.settings = session, self.session, settings
+        self.number, self.is_other_log = self.number + 1, True
         self.holds.clear()
-        self.kept = 0
+        self.pressed.clear()
         if lines is not None:
             session.go_to(0)
         session.epoch += before.epoch + 1

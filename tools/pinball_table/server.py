@@ -18,7 +18,7 @@ from .answers import Refused
 from .feed import Seen
 from .player import NotNow, Player
 from .record import record
-from .settings import PICTURE, Settings
+from .settings import PICTURE
 from .view import about
 
 PAGE = Path(__file__).with_name("page")
@@ -41,12 +41,11 @@ class BadRequest(ValueError):
     """A request that no page of this server sends."""
 
 
-def deeds(player: Player, settings: Settings) -> dict[str, Callable[[dict[str, Any]], Any]]:
+def deeds(player: Player) -> dict[str, Callable[[dict[str, Any]], Any]]:
     """What a page can do: each takes the words of the request."""
-    switches = settings.machine.switches
 
     def switch(words: dict[str, Any]) -> str:
-        if words.get("switch") not in switches:
+        if text(words, "switch") not in player.session.machine.switches:
             raise BadRequest("there is no such switch")
         return words["switch"]
 
@@ -67,7 +66,7 @@ def deeds(player: Player, settings: Settings) -> dict[str, Callable[[dict[str, A
         "open": lambda it: player.start_over(text(it, "log").splitlines()),
         "shut_down": lambda _: player.shut_down("shut down from the page"),
         "record": lambda it: record(player.session, text(it, "title"), texts(it, "lines")),
-        "place": lambda it: layout.place(settings, text(it, "name"), number(it, "x"), number(it, "y")),
+        "place": lambda it: layout.place(player.settings, text(it, "name"), number(it, "x"), number(it, "y")),
     }
 
 
@@ -140,10 +139,10 @@ class Handler(BaseHTTPRequestHandler):
             file = FILES[url.path]
             self.reply(200, f"{KINDS[file.suffix]}; charset=utf-8", file.read_bytes())
         elif url.path == "/about":
-            found = about(self.server.settings, player.session.platform.is_board, self.server.program)
+            found = player.call(lambda: about(player, self.server.program))
             self.reply(200, "application/json", json.dumps(found).encode())
-        elif url.path == "/table.png" and (self.server.settings.machine.folder / PICTURE).is_file():
-            self.reply(200, "image/png", (self.server.settings.machine.folder / PICTURE).read_bytes())
+        elif url.path == "/table.png" and (picture := player.settings.machine.folder / PICTURE).is_file():
+            self.reply(200, "image/png", picture.read_bytes())
         elif url.path in ("/log", "/trace", "/state"):
             self.lines(url.path)
         elif url.path == "/events":
@@ -196,6 +195,7 @@ class Handler(BaseHTTPRequestHandler):
         self.end_headers()
         self.close_connection = True
         player, seen = self.server.player, Seen()
+        player.post(lambda: player.page_is_open(page))
         try:
             while not self.is_closed():
                 news = player.feed.wait(seen, HEARTBEAT)
@@ -205,7 +205,7 @@ class Handler(BaseHTTPRequestHandler):
         except OSError:
             pass
         finally:
-            player.post(lambda: player.let_go(page))
+            player.post(lambda: player.page_is_closed(page))
 
     def is_closed(self) -> bool:
         if not select.select([self.connection], [], [], 0)[0]:
@@ -217,10 +217,9 @@ class Server(ThreadingHTTPServer):
     daemon_threads = True
     allow_reuse_address = True
 
-    def __init__(self, port: int, player: Player, settings: Settings, program: str):
+    def __init__(self, port: int, player: Player, program: str):
         super().__init__(("127.0.0.1", port), Handler)
-        self.player, self.settings, self.program = player, settings, program
-        self.deeds = deeds(player, settings)
+        self.player, self.program, self.deeds = player, program, deeds(player)
         port = self.server_address[1]
         self.hosts = (f"127.0.0.1:{port}", f"localhost:{port}")
 

@@ -1,7 +1,7 @@
 """Plays a machine by the time of its log, and keeps what happened, step by step.
 
-A step is one line of the log: a switch changes, or an alarm is due. Nothing here looks at the wall's clock: `live` does,
-and a test goes straight from one moment to the next. If the table is simulated, a session can go back.
+A step is one line of the log: a switch changes, or an alarm is due. Nothing here looks at the wall's clock: `player`
+does, and a test goes straight from one moment to the next. If the table is simulated, a session can go back.
 """
 from dataclasses import dataclass
 from pathlib import Path
@@ -10,7 +10,7 @@ from typing import Iterable
 from pinball_help.trace import Step as TraceStep
 from pinball_help.trace import steps_of
 
-from .answers import Answers, Gone, is_wait, moment_of, without_waits
+from .answers import Answers, Gone, Refused, is_wait, moment_of, without_waits
 from .machine import Machine
 from .monitor import Monitor
 from .platforms import BoardFailure, Change, Command, Platform
@@ -126,10 +126,7 @@ class Session:
         try:
             self.catch_up()
             self.take(self.answers.end(), self.moment)
-        except Gone as gone:
-            self.take(gone.lines, self.moment)
-            why = f"{why}; {gone.why}"
-        except BoardFailure as failure:
+        except (Gone, Refused, BoardFailure) as failure:
             why = f"{why}; {failure}"
         self.put_off(why)
 

@@ -66,8 +66,10 @@ class Settings:
 
 
 def defaults(machine: Machine) -> Settings:
-    return Settings(
-        machine, raises=dict(machine.raised), kicks=dict(machine.kicked), drain=drain_of(machine), keys=keys_of(machine))
+    found = Settings(machine, drain=drain_of(machine), keys=keys_of(machine))
+    found.raises.update(machine.raised)
+    found.kicks.update(machine.kicked)
+    return found
 
 
 def drain_of(machine: Machine) -> str:

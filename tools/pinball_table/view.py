@@ -5,7 +5,7 @@ from typing import TYPE_CHECKING
 
 from .machine import Machine
 from .monitor import Monitor
-from .settings import PICTURE, Settings
+from .settings import PICTURE
 
 if TYPE_CHECKING:
     from .player import Player
@@ -13,9 +13,9 @@ if TYPE_CHECKING:
 OTHERS = "other"
 
 
-def about(settings: Settings, is_board: bool, program: str) -> dict:
+def about(player: Player, program: str) -> dict:
     """What the machine has, and what the page may do with it."""
-    machine = settings.machine
+    settings, machine = player.settings, player.settings.machine
     keys: dict[str, list[str]] = {}
     for key, name in settings.keys.items():
         keys.setdefault(name, []).append(key)
@@ -24,7 +24,8 @@ def about(settings: Settings, is_board: bool, program: str) -> dict:
     return {
         "name": machine.name,
         "program": program,
-        "board": is_board,
+        "board": player.session.platform.is_board,
+        "session": player.number,
         "picture": (machine.folder / PICTURE).is_file(),
         "switches": [
             {"name": it.name, "label": it.label, "number": it.number, "group": group_of(machine, it.name),
@@ -60,7 +61,7 @@ def state_of(player: Player) -> dict:
     now = session.moment if session.ended else max(clock.now(), session.moment)
     return {
         "now": now, "speed": clock.speed, "paused": clock.is_paused, "ended": session.ended,
-        "latest": player.latest,
+        "session": player.number,
         "steps": len(session.steps), "future": len(session.future),
         "last": session.future[-1].moment if session.future else session.moment,
         "active": sorted(table.active if table else monitor.switches),
@@ -88,7 +89,7 @@ def devices_of(monitor: Monitor, now: int) -> dict:
         "timers": timers,
         "coils": {
             name: {"pulses": it.pulses, "skipped": it.skipped, "on": it.on_ms + (now - it.since if it.holder else 0),
-                   "holder": it.holder, "power": it.power, "last": it.last, "ms": it.last_ms,
+                   "holder": it.holder, "last": it.last, "ms": it.last_ms,
                    "duty": round(it.duty_at(now), 3), "most": round(max(it.duty, it.duty_at(now)), 3)}
             for name, it in monitor.coils.items()},
     }

@@ -27,7 +27,8 @@ async function send(deed, words) {
 
 // Lets go of all switches that this page holds, also while it is being closed.
 export function letGo() {
-  fetch("/let_go", {method: "POST", keepalive: true, headers: {"X-Pinball": "1"}, body: JSON.stringify({page})}).catch(() => {});
+  const made = {method: "POST", keepalive: true, headers: {"X-Pinball": "1"}, body: JSON.stringify({page})};
+  fetch("/let_go", made).catch(() => {});
 }
 
 export async function about() {

@@ -10,17 +10,23 @@ const ACTIONS = {drain: "drain", plunge: "plunge", step: "step", back: "back", p
 let machine, state = null, heard = 0;
 
 async function begin() {
+  await make();
+  listen(news, () => tell("the table is gone"));
+  setInterval(tick, 50);
+}
+
+// A new session may play another machine: its texts are read again.
+async function make() {
   machine = await about();
   makeTable(machine);
   makePanels(machine);
   makeTrace(machine);
   byId("time").hidden = byId("start_over").hidden = byId("open").hidden = machine.board;
   byId("clock").title = `the time of the log; ${machine.program}`;
-  listen(news, () => tell("the table is gone"));
-  setInterval(tick, 50);
 }
 
-function news({state: now, anew, lines}) {
+async function news({state: now, anew, lines}) {
+  if (now.session !== machine.session) await make();
   state = now;
   heard = performance.now();
   window.pinball = state;  // (for scripts that test the page)
@@ -35,7 +41,7 @@ function news({state: now, anew, lines}) {
 
 function showTime() {
   byId("pause").textContent = state.paused ? "go on" : "pause";
-  byId("speed_now").textContent = `${state.speed < 1 ? state.speed.toFixed(2) : state.speed.toFixed(1)}×`.replace(".0×", "×");
+  byId("speed_now").textContent = `${+state.speed.toPrecision(2)}×`;
   if (document.activeElement !== byId("speed")) byId("speed").value = Math.log10(state.speed);
   const slider = byId("moment");
   slider.max = Math.max(state.last, state.now);

@@ -80,8 +80,8 @@ export function showPanels(state) {
   for (const [name, chip] of modes) chip.classList.toggle("on", on.has(name));
   byId("modes").lastChild.replaceChildren(...state.running.map(it => element("span", "chip on", it)));
   const ledger = state.ledger;
-  byId("ledger").textContent = `Ledger: ${ledger.known} known, ${ledger.counted} in devices, ${ledger.transit} on the way, ` +
-    `${ledger.playfield} on the playfield`;
+  byId("ledger").textContent = `Ledger: ${ledger.known} known, ${ledger.counted} in devices, ` +
+    `${ledger.transit} on the way, ${ledger.playfield} on the playfield`;
   byId("loose").textContent = state.loose === null ? "" :
     `Really: ${state.loose} on the playfield, ${state.flying} on the way`;
   showTimers(state.timers);
@@ -93,7 +93,8 @@ function showPlayers(state) {
   byId("players").replaceChildren(...players.map(([number, variables]) => {
     const made = element("div", +number === state.player ? "player current" : "player");
     const ball = state.balls[number] ? `, ball ${state.balls[number]}` : "";
-    made.append(element("b", "", (variables.score || 0).toLocaleString("en")), element("span", "", `player ${number}${ball}`));
+    const score = (variables.score || 0).toLocaleString("en");
+    made.append(element("b", "", score), element("span", "", `player ${number}${ball}`));
     return made;
   }));
   const names = [...new Set(players.flatMap(([, variables]) => Object.keys(variables)))];
@@ -115,8 +116,9 @@ function showCoils(state) {
   for (const [name, it] of Object.entries(state.coils)) {
     const shown = rows.get(name), lamp = lamps.get(name);
     if (!shown) continue;
-    const texts = [it.pulses + (it.skipped ? ` (${it.skipped} skipped)` : ""), it.holder ? `${time(it.on)} held` : time(it.on),
-      `${Math.round(it.duty * 100)}%`, `${Math.round(it.most * 100)}%`];
+    const skipped = it.skipped ? ` (${it.skipped} skipped)` : "", held = it.holder ? " held" : "";
+    const percent = part => `${Math.round(part * 100)}%`;
+    const texts = [it.pulses + skipped, time(it.on) + held, percent(it.duty), percent(it.most)];
     texts.forEach((text, at) => { if (shown.cells[at].textContent !== text) shown.cells[at].textContent = text; });
     if (it.last > lamp.last) lamp.until = now + Math.max(GLOW, it.ms / state.speed);
     lamp.last = it.last;
@@ -129,6 +131,8 @@ export function showLamps() {
   const now = performance.now(), placed = lampsOnPicture();
   for (const [name, lamp] of lamps) {
     const kind = lamp.held ? "lamp held" : lamp.until > now ? "lamp pulse" : "lamp";
-    for (const shown of [rows.get(name).lamp, placed.get(name)]) if (shown && shown.className !== kind) shown.className = kind;
+    for (const shown of [rows.get(name).lamp, placed.get(name)]) {
+      if (shown && shown.className !== kind) shown.className = kind;
+    }
   }
 }

@@ -54,7 +54,8 @@ function makeActs(about) {
 function switchButton(it) {
   const button = element("button", it.stays ? "switch stays" : "switch", it.label || it.name);
   button.dataset.switch = it.name;
-  button.title = [it.name, it.number && `number ${it.number}`, it.stays && "stays as a click has left it"].filter(Boolean).join(", ");
+  const words = [it.name, it.number && `number ${it.number}`, it.stays && "stays as a click has left it"];
+  button.title = words.filter(Boolean).join(", ");
   for (const key of it.keys) button.append(element("kbd", "", key));
   button.onpointerdown = event => {
     if (isMoving) return move(event, button, it.name);
@@ -147,21 +148,22 @@ export function setMoving(on) {
   byId("table").classList.toggle("moving", on);
 }
 
-// Drags a switch or a coil over the picture, and saves its place.
+// Drags a switch or a coil over the picture, and saves its place. (The window listens, since the item may get another
+// parent meanwhile, and would lose the pointer.)
 function move(event, item, name) {
   event.preventDefault();
-  item.setPointerCapture(event.pointerId);
-  const board = byId("board").getBoundingClientRect();
+  const board = byId("board").getBoundingClientRect(), drag = new AbortController();
   let place = null;
-  item.onpointermove = moved => {
+  addEventListener("pointermove", moved => {
     const x = (moved.clientX - board.left) / board.width * 100, y = (moved.clientY - board.top) / board.height * 100;
     place = [x, y].map(it => Math.round(Math.min(100, Math.max(0, it)) * 10) / 10);
     if (item.classList.contains("loose_coil")) item.className = "coil";
     put(item, place);
-  };
-  const end = () => {
-    item.onpointermove = item.onpointerup = null;
-    if (place) { machine.layout[name] = place; ask("place", {name, x: place[0], y: place[1]}); }
-  };
-  item.onpointerup = end;
+  }, {signal: drag.signal});
+  for (const end of ["pointerup", "pointercancel"]) addEventListener(end, () => {
+    drag.abort();
+    if (!place) return;
+    machine.layout[name] = place;
+    ask("place", {name, x: place[0], y: place[1]});
+  }, {signal: drag.signal});
 }

@@ -5,7 +5,8 @@ import {isMarked, isMarking, mark} from "./record.js";
 
 const MOST = 1500;  // cascades that are shown
 const KINDS = {
-  "": "all lines", switch: "switches", event: "events", coil: "coils", player: "variables", balls: "balls", note: "notes",
+  "": "all lines", switch: "switches", event: "events", coil: "coils", player: "variables", balls: "balls",
+  note: "notes",
 };
 let cascades = [], chosen = null, machine;
 
@@ -32,7 +33,8 @@ export function addLines(lines, anew) {
   const first = cascades.length ? cascades.length - 1 : 0;
   for (const line of lines.map(parsed)) {
     const last = cascades.at(-1);
-    const goesOn = last && line.kind !== "switch" && (line.moment === last.moment || line.kind === "note" && last.isNote);
+    const isNext = last && (line.moment === last.moment || line.kind === "note" && last.isNote);
+    const goesOn = isNext && line.kind !== "switch";
     if (goesOn) last.lines.push(line);
     else cascades.push({moment: line.moment, isNote: line.kind === "note", lines: [line], shown: null});
   }
@@ -99,9 +101,10 @@ function showCaused(cascade) {
     if (words) list.append(element("li", `k_${line.kind}`, words));
   }
   const events = cascade.lines.filter(it => it.kind === "event").map(it => it.words[0]);
-  if (events.length) list.append(element("li", "dim", `${events.length} events: ${events.join(", ")}`));
+  const count = events.length === 1 ? "1 event" : `${events.length} events`;
+  if (events.length) list.append(element("li", "dim", `${count}: ${events.join(", ")}`));
   const cause = first.kind === "switch" ? `${first.words.join(" is ")}` : "an alarm was due";
-  const title = element("b", "", `${first.moment === null ? "" : time(first.moment)} ${first.moment === null ? "" : cause}`);
+  const title = element("b", "", first.moment === null ? "" : `${time(first.moment)} ${cause}`);
   byId("caused").replaceChildren(title, list);
 }
 
@@ -114,7 +117,7 @@ function said(line) {
   if (line.kind === "off") return `coil ${name}: put off at the end`;
   if (line.kind === "player") return `player ${name}: ${word} = ${(+numbers[0]).toLocaleString("en")}`;
   if (line.kind === "final") return `player ${name} ends with ${(+word).toLocaleString("en")}`;
-  if (line.kind === "balls") return `balls: ${word} in devices, ${numbers[0]} on the way, ${numbers[1]} on the playfield`;
+  if (line.kind === "balls") return `${word} in devices, ${numbers[0]} on the way, ${numbers[1]} on the playfield`;
   if (line.kind === "note") return line.text;
   const mode = machine.modes.find(([it]) => name === `mode_${it}_started` || name === `mode_${it}_stopped`);
   return line.kind === "event" && mode ? `mode ${mode[0]} ${name.endsWith("started") ? "starts" : "stops"}` : "";
