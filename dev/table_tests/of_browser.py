@@ -42,14 +42,18 @@ def keep(page: Chromium, name: str) -> None:
 
 
 class ClickHand:
-    """Plays by clicks, at four times the speed. The time stands still between them."""
+    """Plays by clicks. The time stands still between them, and is fast while nobody can be late."""
 
     def __init__(self, page: Chromium, table: Table):
         self.page, self.table = page, table
-        page.run("(() => { const it = document.getElementById('speed'); it.value = Math.log10(4);"
-                 " it.dispatchEvent(new Event('input')); })()")
-        page.until("window.pinball.speed > 3.9")
         self.pause()
+
+    def set_speed(self, speed: int) -> None:
+        if self.table.state()["speed"] != speed:
+            self.page.run(
+                f"(() => {{ const it = document.getElementById('speed'); it.value = Math.log10({speed});"
+                " it.dispatchEvent(new Event('input')); })()")
+            self.page.until(f"window.pinball.speed === {speed}")
 
     def pause(self) -> None:
         self.page.click("#pause")
@@ -70,6 +74,7 @@ class ClickHand:
         self.page.click('[data-act="drain"]')
 
     def until(self, what: str, holds: Callable[[dict[str, Any]], bool]) -> None:
+        self.set_speed(10 if what in games.LONG else 1)
         self.page.click("#pause")
         self.table.until(holds)
         self.pause()

@@ -25,11 +25,10 @@ flippers:
 
 
 class PageHand:
-    """Plays by requests, at four times the speed. The time stands still between them, however long they take."""
+    """Plays by requests. The time stands still between them, and is fast while nobody can be late."""
 
     def __init__(self, table: Table):
         self.table = table
-        table.do("speed", speed=4)
 
     def tap(self, switch: str) -> None:
         self.table.do("tap", switch=switch)
@@ -46,6 +45,7 @@ class PageHand:
         self.table.do("drain")
 
     def until(self, what: str, holds: Callable[[dict[str, Any]], bool]) -> None:
+        self.table.do("speed", speed=10 if what in games.LONG else 1)
         self.table.do("go")
         self.table.until(holds)
         self.table.do("pause")

@@ -1,7 +1,7 @@
 // The page: it shows the news of the table, and turns clicks and keys into requests.
 
 import {about, ask, byId, listen, onTold, time} from "./link.js";
-import {find, press, release, releaseAll, makeTable, setMoving, showSwitches} from "./table.js";
+import {find, forgetAll, makeTable, press, release, releaseAll, setMoving, showSwitches} from "./table.js";
 import {makePanels, showLamps, showPanels} from "./panels.js";
 import {addLines, makeTrace} from "./trace.js";
 
@@ -30,7 +30,10 @@ async function news({state: now, anew, lines}) {
   state = now;
   heard = performance.now();
   window.pinball = state;  // (for scripts that test the page)
-  if (anew) tell("");
+  if (anew) {
+    tell("");
+    forgetAll();  // (the table has let go of all, as after going back)
+  }
   addLines(lines, anew);
   showSwitches(state);
   showPanels(state);

@@ -79,14 +79,24 @@ const stays = name => machine.switches.find(it => it.name === name)?.stays;
 export function press(name, latch = false) {
   if (stays(name)) return ask("tap", {switch: name});
   if (latched.has(name)) {
-    latched.delete(name);
-    mark(name);
+    forget(name);
     return ask("release", {switch: name});
   }
   if (latch) latched.add(name);
   else held.set(name, performance.now());
   mark(name);
-  return ask("press", {switch: name});
+  return ask("press", {switch: name}).then(done => { if (done === undefined) forget(name); });
+}
+
+// Nobody holds this switch any more.
+function forget(name) {
+  held.delete(name);
+  latched.delete(name);
+  mark(name);
+}
+
+export function forgetAll() {
+  for (const name of [...held.keys(), ...latched]) forget(name);
 }
 
 export function release(name) {
@@ -99,8 +109,7 @@ export function release(name) {
 // The page is left, or hidden: nobody is there to let go.
 export function releaseAll() {
   if (!held.size && !latched.size) return;
-  held.clear();
-  for (const name of [...latched]) { latched.delete(name); mark(name); }
+  forgetAll();
   letGo();
 }
 
@@ -112,7 +121,6 @@ export function showSwitches(state) {
     button.classList.toggle("on", active.has(name));
     button.setAttribute("aria-pressed", active.has(name));
   }
-  if (!state.held.length && latched.size) for (const name of [...latched]) { latched.delete(name); mark(name); }
 }
 
 export function find(words) {
