@@ -31,6 +31,6 @@ def saved(folder: Path, words: str, text: str) -> str:
     """Writes a file of a name that no other file has, and gives this name."""
     names = (f"{words}_{number}.test" if number > 1 else f"{words}.test" for number in itertools.count(1))
     name = next(it for it in names if not (folder / it).exists())
-    with (folder / name).open("x") as file:
+    with (folder / name).open("x", encoding="utf-8") as file:
         file.write(text)
     return name

@@ -81,7 +81,7 @@ def write(asked: argparse.Namespace) -> int:
     for line in (report.tap if asked.tap else report.plain)(kept()):
         print(line, flush=True)
     if asked.junit:
-        Path(asked.junit).write_text(junit.document(results))
+        Path(asked.junit).write_text(junit.document(results), "utf-8")
     if asked.logs:
         write_logs(Path(asked.logs), results)
     if any(it.is_unreadable for it in results):
@@ -95,7 +95,7 @@ def write_logs(folder: Path, results: list[Result]) -> None:
     for number, result in enumerate(results, 1):
         if result.log:
             text = "".join(f"{line}\n" for line in [f"# {report.name_of(result)}", *result.log])
-            (folder / f"{number:03}_{result.file.stem}.log").write_text(text)
+            (folder / f"{number:03}_{result.file.stem}.log").write_text(text, "utf-8")
 
 
 def main() -> int:
