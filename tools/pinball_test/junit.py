@@ -5,6 +5,7 @@ from xml.etree import ElementTree
 
 from .report import told
 from .running import Result
+from .words import printable
 
 
 def document(results: list[Result]) -> str:
@@ -23,19 +24,14 @@ def suite(file: Path, results: list[Result]) -> ElementTree.Element:
         "failures": sum(not it.passed for it in results) - unreadable,
         "errors": unreadable,
     }
-    found = ElementTree.Element("testsuite", name=clean(str(file)), **{key: str(it) for key, it in counts.items()})
+    found = ElementTree.Element("testsuite", name=printable(str(file)), **{key: str(it) for key, it in counts.items()})
     found.set("time", f"{sum(it.seconds for it in results):.3f}")
     for result in results:
         case = ElementTree.SubElement(
-            found, "testcase", classname=clean(file.stem), name=clean(result.title), time=f"{result.seconds:.3f}"
+            found, "testcase", classname=printable(file.stem), name=printable(result.title), time=f"{result.seconds:.3f}"
         )
         if result.failure:
             kind = "error" if result.is_unreadable else "failure"
-            fault = ElementTree.SubElement(case, kind, message=clean(result.failure.message))
-            fault.text = clean("\n".join(told(result)))
+            fault = ElementTree.SubElement(case, kind, message=printable(result.failure.message))
+            fault.text = printable("\n".join(told(result)), also="\n")
     return found
-
-
-def clean(text: str) -> str:
-    """A text without the characters that XML cannot have."""
-    return "".join(it if it.isprintable() or it == "\n" else "?" for it in text)

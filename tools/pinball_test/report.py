@@ -5,6 +5,7 @@ from pinball_help.trace import Step, time_of, words_of
 
 from .running import Result
 from .script import Line
+from .words import printable
 
 BEFORE, MOST = 6, 24  # lines of the trace that are shown: before a step, and in all
 
@@ -56,11 +57,6 @@ def told(result: Result) -> list[str]:
         failure.message,
         *(["The trace around it, with the lines of the test:", *trace] if trace else []),
     ]
-
-
-def printable(text: str) -> str:
-    """A text without what a terminal would obey."""
-    return "".join(sign if sign.isprintable() else "?" for sign in text)
 
 
 def name_of(result: Result) -> str:

@@ -12,10 +12,14 @@ LONGEST_WORD, MOST_TIMES, MOST_PLAYERS = 40, 1000, 100
 NUMBER = re.compile(r"-?\d{1,15}$")
 
 
+def printable(text: str, also: str = "") -> str:
+    """A text without what a terminal would obey, or XML cannot have, but with these characters."""
+    return "".join(sign if sign.isprintable() or sign in also else "?" for sign in text)
+
+
 def shortened(word: str) -> str:
-    """A word as a message shows it: without what a terminal would obey."""
-    clean = "".join(sign if sign.isprintable() else "?" for sign in word)
-    return clean if len(clean) <= LONGEST_WORD else f"{clean[:LONGEST_WORD]}.."
+    """A word as a message shows it."""
+    return printable(word) if len(word) <= LONGEST_WORD else f"{printable(word[:LONGEST_WORD])}.."
 
 
 class Words:
