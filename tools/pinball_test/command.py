@@ -81,7 +81,7 @@ def write(asked: argparse.Namespace) -> int:
     for line in (report.tap if asked.tap else report.plain)(kept()):
         print(line, flush=True)
     if asked.junit:
-        Path(asked.junit).write_text(junit.document(results), "utf-8")
+        Path(asked.junit).write_bytes(junit.document(results))
     if asked.logs:
         write_logs(Path(asked.logs), results)
     if any(it.is_unreadable for it in results):

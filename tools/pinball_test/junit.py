@@ -8,24 +8,23 @@ from .running import Result
 from .words import printable
 
 
-def document(results: list[Result]) -> str:
-    failed = [it for it in results if not it.passed]
-    top = ElementTree.Element("testsuites", tests=str(len(results)), failures=str(len(failed)))
+def document(results: list[Result]) -> bytes:
+    top = ElementTree.Element("testsuites", counts(results))
     for file, group in groupby(results, key=lambda it: it.file):
         top.append(suite(file, list(group)))
     ElementTree.indent(top)
-    return ElementTree.tostring(top, encoding="unicode", xml_declaration=True) + "\n"
+    return ElementTree.tostring(top, encoding="utf-8", xml_declaration=True) + b"\n"
+
+
+def counts(results: list[Result]) -> dict[str, str]:
+    errors = sum(it.is_unreadable for it in results)
+    failures = sum(not it.passed for it in results) - errors
+    seconds = f"{sum(it.seconds for it in results):.3f}"
+    return {"tests": str(len(results)), "failures": str(failures), "errors": str(errors), "time": seconds}
 
 
 def suite(file: Path, results: list[Result]) -> ElementTree.Element:
-    unreadable = sum(it.is_unreadable for it in results)
-    counts = {
-        "tests": len(results),
-        "failures": sum(not it.passed for it in results) - unreadable,
-        "errors": unreadable,
-    }
-    found = ElementTree.Element("testsuite", name=printable(str(file)), **{key: str(it) for key, it in counts.items()})
-    found.set("time", f"{sum(it.seconds for it in results):.3f}")
+    found = ElementTree.Element("testsuite", {"name": printable(str(file)), **counts(results)})
     for result in results:
         case = ElementTree.SubElement(
             found, "testcase", classname=printable(file.stem), name=printable(result.title), time=f"{result.seconds:.3f}"
