@@ -6,12 +6,11 @@ import tempfile
 import time
 from pathlib import Path
 
-from .harness import COMPLETE, SLOW, TOP, Table, equal, folder_of, played, programs, said_of, test
+from .harness import COMPLETE, SLOW, SOON, TOP, Table, equal, folder_of, played, programs, said_of, test
 from .of_pages import start_game
 
 HELD = "c_left_hold"
 OFF = f"the table puts {HELD} off"
-SOON = 5.0  # s: far above what it takes on a quiet computer
 
 
 def hold_a_coil(table: Table) -> None:

@@ -3,14 +3,13 @@ import json
 import socket
 import tempfile
 import threading
-import time
 from pathlib import Path
 from typing import Any, Callable
 
 from pinball_table.settings import FILE
 
 from . import games
-from .harness import COMPLETE, SLOW, TOP, Table, equal, folder_of, played, test, without_notes
+from .harness import COMPLETE, SLOW, SOON, TOP, Table, equal, folder_of, played, test, without_notes
 
 HOSTILE = "<img src=x onerror=alert(1)>"
 LABELS = f"""
@@ -110,7 +109,7 @@ def a_held_switch_belongs_to_its_page() -> None:
         equal(table.until(lambda it: it["now"] > begun + 50)["held"], ["s_left_button"])
         assert "s_left_button" in table.state()["active"]
         table.do("let_go", page="b")
-        table.until(lambda it: not it["active"] and not it["held"], 5)
+        table.until(lambda it: not it["active"] and not it["held"], SOON)
 
 
 @test
@@ -132,9 +131,7 @@ def a_page_that_is_closed_lets_go() -> None:
         with table.page("mine"):
             table.do("press", switch="s_left_button", page="mine")
             table.until(lambda it: it["coils"]["c_left_hold"]["holder"] != "")
-        begun = time.monotonic()
-        table.until(lambda it: it["coils"]["c_left_hold"]["holder"] == "", 5)
-        assert time.monotonic() - begun < 3
+        table.until(lambda it: it["coils"]["c_left_hold"]["holder"] == "", SOON)
 
 
 def start_game(table: Table) -> None:
@@ -280,7 +277,7 @@ def many_pages_and_requests_at_once() -> None:
             worker.start()
         for worker in workers:
             worker.join()
-        table.until(lambda it: not it["active"] and not it["held"], 10)
+        table.until(lambda it: not it["active"] and not it["held"], SOON)
         table.do("pause")
         equal(played(table.get("/log").splitlines(), TOP / "examples/first"), table.get("/trace").splitlines())
 

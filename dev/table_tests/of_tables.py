@@ -66,6 +66,13 @@ def each_example_is_read_without_a_table_yaml() -> None:
 
 
 @test
+def a_mode_has_the_priority_that_is_written() -> None:
+    modes = {"a": "mode: {priority: 0}", "b": "mode: {game_mode: no}", "c": ""}
+    with folder_of("modes: a, b, c, d", modes) as folder:
+        equal(read_machine(folder).modes, {"a": 0, "b": 100, "c": 100, "d": 100})
+
+
+@test
 def the_drop_targets_of_the_examples_are_found() -> None:
     drops = tuple(f"s_drop_{it}" for it in range(1, 5))
     equal(read_machine(TOP / "examples/targets").raised, {"c_raise": drops})

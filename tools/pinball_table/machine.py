@@ -131,7 +131,8 @@ def read_modes(scene: Scenery, machine: Machine) -> None:
     for mode in scene.modes:
         sections = scene.outlines[mode_text(mode)].entries or [] if mode_text(mode) in scene.outlines else []
         section = next((it for it in sections if it.key == "mode"), None)
-        machine.modes[mode] = (number(text_of(section, "priority")) if section else None) or PRIORITY
+        written = number(text_of(section, "priority")) if section else None
+        machine.modes[mode] = PRIORITY if written is None else written
     for name, (text, it) in scene.defined("timers").items():
         machine.timers[name] = timer_of(name, scene.owner(text), it)
     machine.saves = list(scene.defined("ball_saves"))

@@ -93,13 +93,19 @@ class Session:
         try:
             said = self.answers.ask(line)
         except Gone as gone:
-            self.take(gone.lines, moment)
+            self.answered(line, moment, change, gone.lines)
             raise
-        self.take(said, moment)
-        step = Step(moment, line, change, tuple(said), self.table.state() if self.table else None)
-        if self.steps and is_idle(self.steps[-1]):
-            self.steps.pop()  # (a wait in which nothing happened adds nothing to the next line)
-        self.steps.append(step)
+        return self.answered(line, moment, change, said)
+
+    def answered(self, line: str, moment: int, change: Change | None, said: list[str]) -> Step:
+        """Carries out an answer, and keeps the step, also if the board fails meanwhile."""
+        try:
+            self.take(said, moment)
+        finally:
+            step = Step(moment, line, change, tuple(said), self.table.state() if self.table else None)
+            if self.steps and is_idle(self.steps[-1]):
+                self.steps.pop()  # (a wait in which nothing happened adds nothing to the next line)
+            self.steps.append(step)
         return step
 
     def catch_up(self) -> None:

@@ -16,7 +16,7 @@ export function makePanels(about) {
   makeCoils(about.coils);
   makeDevices(about.devices);
   makeModes(about.modes);
-  byId("timers_section").hidden = !about.timers.length;
+  for (const part of ["devices", "modes", "timers", "coils"]) byId(`${part}_section`).hidden = !about[part].length;
 }
 
 function row(...cells) {
@@ -43,7 +43,7 @@ function makeCoils(coils) {
   }
   table.append(element("thead"), body);
   table.tHead.append(head);
-  byId("coils").replaceChildren(coils.length ? table : element("p", "dim", "no coils"));
+  byId("coils").replaceChildren(table);
 }
 
 function makeDevices(devices) {

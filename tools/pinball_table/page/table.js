@@ -128,6 +128,7 @@ export function find(words) {
     const text = `${it.name} ${it.label} ${it.group}`.toLowerCase();
     buttons.get(it.name).hidden = !text.includes(words.toLowerCase());
   }
+  for (const made of document.querySelectorAll(".group")) made.hidden = !made.querySelector(".switch:not([hidden])");
 }
 
 // the picture

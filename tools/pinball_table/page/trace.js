@@ -9,6 +9,7 @@ const KINDS = {
   note: "notes",
 };
 let cascades = [], chosen = null, machine;
+let follows = true;  // whether the end of the trace stays in sight
 
 export function makeTrace(about) {
   machine = about;
@@ -16,6 +17,9 @@ export function makeTrace(about) {
   const owners = ["machine", ...about.modes.map(([name]) => name)];
   byId("owner").replaceChildren(new Option("all owners", ""), ...owners.map(it => new Option(it, it)));
   for (const id of ["kind", "owner", "words"]) byId(id).oninput = showAll;
+  const log = byId("trace");
+  log.onscroll = () => { follows = log.scrollTop + log.clientHeight > log.scrollHeight - 40; };
+  new ResizeObserver(showEnd).observe(log);
 }
 
 function parsed(text) {
@@ -39,7 +43,7 @@ export function addLines(lines, anew) {
     else cascades.push({moment: line.moment, isNote: line.kind === "note", lines: [line], shown: null});
   }
   if (lines.length) show(cascades.slice(first));
-  if (!chosen) showCaused(cascades.findLast(it => it.lines[0].kind === "switch"));
+  if (!chosen) showCaused(latest());
 }
 
 function wanted() {
@@ -56,7 +60,7 @@ function showAll() {
 }
 
 function show(some) {
-  const log = byId("trace"), isAtEnd = log.scrollTop + log.clientHeight > log.scrollHeight - 40, filter = wanted();
+  const log = byId("trace"), filter = wanted();
   for (const cascade of some) {
     const lines = cascade.lines.filter(filter);
     if (!lines.length) continue;
@@ -69,7 +73,11 @@ function show(some) {
   }
   while (log.childElementCount > MOST) log.firstChild.remove();
   if (cascades.length > 2 * MOST) cascades = cascades.slice(-MOST);
-  if (isAtEnd) log.scrollTop = log.scrollHeight;
+  showEnd();
+}
+
+function showEnd() {
+  if (follows) byId("trace").scrollTop = byId("trace").scrollHeight;
 }
 
 function lineOf(line, at) {
@@ -89,8 +97,11 @@ function choose(cascade) {
   chosen?.shown?.classList.remove("chosen");
   chosen = chosen === cascade ? null : cascade;
   chosen?.shown?.classList.add("chosen");
-  showCaused(chosen || cascades.findLast(it => it.lines[0].kind === "switch"));
+  showCaused(chosen || latest());
 }
+
+// The latest cascade that somebody has caused.
+const latest = () => cascades.findLast(({lines: [first]}) => first.kind === "switch" && first.words[1] === "active");
 
 // In words: the coils, the variables, the balls and the modes of a cascade, and how many events it has.
 function showCaused(cascade) {
