@@ -1,0 +1,137 @@
+"""A page in headless Chromium, over its debugging pipe: messages of JSON, each ended by a zero byte."""
+import base64
+import json
+import os
+import select
+import shutil
+import subprocess
+import tempfile
+import time
+from pathlib import Path
+from typing import Any
+
+NAMES = ("chromium", "chromium-browser", "google-chrome")
+PATIENCE = 120.0  # s
+
+
+def find() -> str | None:
+    return next((path for name in NAMES if (path := shutil.which(name))), None)
+
+
+class Chromium:
+    """One page. It is closed at the end of a `with`."""
+
+    def __init__(self, program: str, width: int = 1280, height: int = 900):
+        self.room = tempfile.TemporaryDirectory(prefix="chromium-")
+        out, inlet = os.pipe()  # we write to `inlet`, it reads from `out`
+        outlet, back = os.pipe()
+        words = [
+            program, "--headless=new", "--no-sandbox", "--disable-gpu", "--no-first-run", "--disable-dev-shm-usage",
+            "--disable-background-networking", "--remote-debugging-pipe", f"--user-data-dir={self.room.name}",
+            f"--window-size={width},{height}", "about:blank"]
+        # (it reads from file 3 and writes to file 4)
+        self.process = subprocess.Popen(
+            ["/bin/sh", "-c", f'exec "$@" 3<&{out} 4>&{back}', "sh", *words], pass_fds=(out, back),
+            stdout=subprocess.DEVNULL, stderr=subprocess.DEVNULL, start_new_session=True)
+        os.close(out)
+        os.close(back)
+        self.inlet, self.outlet, self.rest = inlet, outlet, b""
+        self.number, self.session = 0, ""
+        page = next(it for it in self.ask("Target.getTargets")["targetInfos"] if it["type"] == "page")
+        self.session = self.ask("Target.attachToTarget", targetId=page["targetId"], flatten=True)["sessionId"]
+        self.size(width, height)
+
+    def __enter__(self) -> "Chromium":
+        return self
+
+    def __exit__(self, *_: object) -> None:
+        self.close()
+
+    def close(self) -> None:
+        self.process.kill()
+        self.process.wait()
+        os.close(self.inlet)
+        os.close(self.outlet)
+        for _ in range(20):  # (its children may still write)
+            try:
+                return self.room.cleanup()
+            except OSError:
+                time.sleep(0.1)
+
+    # messages
+
+    def ask(self, method: str, **words: Any) -> dict[str, Any]:
+        self.number += 1
+        message: dict[str, Any] = {"id": self.number, "method": method, "params": words}
+        if self.session:
+            message["sessionId"] = self.session
+        os.write(self.inlet, json.dumps(message).encode() + b"\0")
+        while True:
+            found = self.message()
+            if found.get("id") == self.number:
+                if "error" in found:
+                    raise AssertionError(f"{method}: {found['error']}")
+                return found["result"]
+
+    def message(self) -> dict[str, Any]:
+        while b"\0" not in self.rest:
+            if not select.select([self.outlet], [], [], PATIENCE)[0]:
+                raise AssertionError("Chromium does not answer")
+            piece = os.read(self.outlet, 1 << 20)
+            assert piece, "Chromium has ended"
+            self.rest += piece
+        message, _, self.rest = self.rest.partition(b"\0")
+        return json.loads(message)
+
+    # the page
+
+    def size(self, width: int, height: int, is_mobile: bool = False) -> None:
+        words = {"width": width, "height": height, "deviceScaleFactor": 1, "mobile": is_mobile}
+        self.ask("Emulation.setDeviceMetricsOverride", **words)
+
+    def open(self, url: str) -> None:
+        self.ask("Page.enable")
+        self.ask("Page.navigate", url=url)
+        self.until("document.readyState === 'complete' && window.pinball !== undefined")
+
+    def run(self, script: str) -> Any:
+        found = self.ask("Runtime.evaluate", expression=script, returnByValue=True, awaitPromise=True)
+        assert "exceptionDetails" not in found, found["exceptionDetails"]
+        return found["result"].get("value")
+
+    def until(self, script: str, seconds: float = PATIENCE) -> None:
+        end = time.monotonic() + seconds
+        while not self.run(f"!!({script})"):
+            if time.monotonic() > end:
+                state = self.run("JSON.stringify(window.pinball)")
+                raise AssertionError(f"not within {seconds:g} s: {script}; {state}")
+            time.sleep(0.02)
+
+    def place(self, css: str) -> tuple[float, float]:
+        """The middle of an element, after it has been scrolled into sight."""
+        at = self.run(
+            f"(() => {{ const it = document.querySelector({json.dumps(css)}); it.scrollIntoView({{block: 'nearest'}});"
+            " const box = it.getBoundingClientRect(); return [box.x + box.width / 2, box.y + box.height / 2]; })()")
+        return at[0], at[1]
+
+    def mouse(self, kind: str, css: str, modifiers: int = 0) -> None:
+        x, y = self.place(css)
+        self.ask("Input.dispatchMouseEvent", type=kind, x=x, y=y, button="left", clickCount=1, modifiers=modifiers)
+
+    def click(self, css: str, modifiers: int = 0) -> None:
+        self.mouse("mousePressed", css, modifiers)
+        self.mouse("mouseReleased", css, modifiers)
+
+    def drag(self, css: str, x: float, y: float) -> None:
+        self.mouse("mousePressed", css)
+        for part in (0.5, 1.0):
+            self.ask("Input.dispatchMouseEvent", type="mouseMoved", x=x * part, y=y * part, button="left", buttons=1)
+        self.ask("Input.dispatchMouseEvent", type="mouseReleased", x=x, y=y, button="left", clickCount=1)
+
+    def key(self, kind: str, key: str) -> None:
+        code = {"/": "Slash", " ": "Space"}.get(key, f"Key{key.upper()}")
+        self.ask("Input.dispatchKeyEvent", type=kind, key=key, code=code, text=key if kind == "keyDown" else "")
+
+    def shot(self, path: Path, whole: bool = False) -> None:
+        found = self.ask("Page.captureScreenshot", format="png", captureBeyondViewport=whole)
+        path.write_bytes(base64.b64decode(found["data"]))

@@ -1,0 +1,74 @@
+"""A board that is none, at a pseudo-terminal. It has the protocol of docs/table.md, and keeps what it heard."""
+import os
+import select
+import threading
+import time
+import tty
+
+
+class FakeBoard:
+    """`on` has the coils that are held now, and `heard` all lines with their times. `is_silent` makes it hang."""
+
+    def __init__(self, levels: dict[str, int] | None = None):
+        self.master, slave = os.openpty()
+        tty.setraw(self.master)
+        self.path = os.ttyname(slave)
+        self.slave = slave  # (kept open, so that the board does not end with the table)
+        self.levels = levels or {}
+        self.heard: list[tuple[float, str]] = []
+        self.on: set[str] = set()
+        self.patience = 10.0
+        self.latest = time.monotonic()
+        self.is_silent = self.has_tripped = self.is_over = False
+        self.thread = threading.Thread(target=self.run, daemon=True)
+        self.thread.start()
+
+    def close(self) -> None:
+        self.is_over = True
+        self.thread.join()
+        os.close(self.master)
+        os.close(self.slave)
+
+    def run(self) -> None:
+        rest = b""
+        while not self.is_over:
+            if not self.is_silent and select.select([self.master], [], [], 0.005)[0]:
+                *lines, rest = (rest + os.read(self.master, 4096)).split(b"\n")
+                for line in lines:
+                    self.hear(line.decode())
+            elif self.is_silent:
+                time.sleep(0.005)
+            if time.monotonic() - self.latest > self.patience and not self.has_tripped:
+                self.has_tripped = True
+                self.on.clear()
+
+    def hear(self, line: str) -> None:
+        self.latest = time.monotonic()
+        self.heard.append((self.latest, line))
+        word, *rest = line.split()
+        if word == "hello":
+            self.patience, self.has_tripped = int(rest[1]) / 1000, False
+            self.say("hello 1 fake")
+            for switch, level in self.levels.items():
+                self.say(f"switch {switch} {level}")
+            self.say("ready")
+        elif word == "beat":
+            self.say(line)
+        elif word == "hold" and not self.has_tripped:
+            self.on.add(rest[0])
+        elif word == "off":
+            self.on -= {*rest} if rest else {*self.on}
+
+    def say(self, line: str) -> None:
+        os.write(self.master, line.encode() + b"\n")
+
+    def until(self, holds: object, seconds: float = 20.0) -> float:
+        """Waits until something holds, and gives how long that took."""
+        begun = time.monotonic()
+        while not holds():  # type: ignore[operator]
+            assert time.monotonic() - begun < seconds, f"not within {seconds:g} s; heard {self.heard[-5:]}"
+            time.sleep(0.002)
+        return time.monotonic() - begun
+
+    def has_heard(self, line: str) -> bool:
+        return any(it == line for _, it in self.heard)
