@@ -1,6 +1,5 @@
 """All errors at once: checks a copy, mends or leaves out what was refused, and checks again."""
 import sys
-import tempfile
 import time
 from dataclasses import dataclass, field, replace
 from pathlib import Path
@@ -8,15 +7,16 @@ from pathlib import Path
 from .answers import Answer, Complaint
 from .findings import Finding, cure_of, finding_of
 from .mending import commented, take_out
+from .probes import Probes, Verdict, is_error
 from .program import Program
 from .scenery import Scenery
-from .texts import Edit, Texts, edited, read_texts, write_texts
+from .texts import MACHINE, Edit, Texts, edited, read_texts
 from .ways import Cure, Way
 
-ROUNDS = 2000
-FAR = (1_000_000, 0, 0)
-PHASES = {"Bundle": 0, "Version": 1, "Yaml": 2}
-LAST_PHASE = 3
+ROUNDS = 500
+MOST_TRIES = 3  # to mend one place before something is taken out
+ALONE = ("Bundle", "Limit", "Cycle", "Bound")  # what has to be mended before others are said
+BEST = (0, 0)
 SECTIONS_WITH_NAMES = ("switches", "coils", "ball_devices", "shots", "shot_profiles", "shot_groups")
 
 
@@ -49,7 +49,7 @@ class Search:
     """Looks for all that is refused in the texts of a folder."""
 
     def __init__(self, program: Program, folder: Path, leave_out: bool):
-        self.program, self.leave_out = program, leave_out
+        self.probes, self.leave_out = Probes(program), leave_out
         self.original = read_texts(folder)
         self.scene = Scenery(self.original)
         self.report = Report()
@@ -71,97 +71,94 @@ class Search:
         return self.report
 
     def mend_all(self) -> Answer:
-        """Mends one after the other, until all is accepted or nothing helps."""
-        answer = self.ask(self.scene.texts)
+        """Mends all that is found, and looks again, until all is accepted or nothing helps."""
+        answer = self.ask()
         for _ in range(ROUNDS):
             if answer.accepted or not answer.complaints:
                 break
-            following = self.one(answer.complaints[0]) if is_single(answer) else self.many(answer)
-            if following is None:
+            if not self.mend(self.found(answer)):
                 self.report.unsolved = True
                 break
-            answer = following
+            answer = self.ask()
             self.progress.at(len(self.report.findings))
         return answer
 
-    def ask(self, texts: Texts) -> Answer:
-        with tempfile.TemporaryDirectory(prefix="pinball-help-") as room:
-            write_texts(texts, Path(room))
-            return self.program.check(Path(room))
+    def ask(self) -> Answer:
+        return self.probes.answer({name: self.scene.texts[name] for name in (self.scene.read or [MACHINE])})
 
-    def place(self, complaint: Complaint) -> tuple:
-        """How far a complaint is: the text, the part of the judging, and of a fault of YAML the line."""
-        if complaint.message.startswith("fault"):
-            return FAR
-        order = self.scene.read.index(complaint.text) if complaint.text in self.scene.read else -1
-        phase = PHASES.get(complaint.name, LAST_PHASE)
-        return (order, phase, complaint.line if phase < LAST_PHASE else 0)
+    def found(self, answer: Answer) -> list[Complaint]:
+        """What can be mended at once: the first error of each entry, or all faults that are listed."""
+        first = answer.complaints[0]
+        if first.name in ALONE:
+            return [first]
+        if not is_error(first):
+            return list(answer.complaints)
+        return [it for text in self.scene.read for it in self.errors_of(text)] or [first]
+
+    def errors_of(self, text: str) -> list[Complaint]:
+        head = self.probes.head_error(self.scene, text)
+        return [head] if head else self.probes.first_errors(self.scene, text)
 
     def cure(self, complaint: Complaint) -> Cure:
         cure = cure_of(self.scene, complaint)
         if self.leave_out and cure.out and not cure.stays:
             outs = (Way(cure.out),)
             if complaint.name == "Yaml":
-                outs = tuple(
-                    it for it in cure.ways if all(not line for edit in it.edits for line in edit.lines)
-                ) or outs
+                outs = tuple(filter(is_removal, cure.ways)) or outs
             first = cure.ways[0] if cure.ways else Way(())
             outs = tuple(replace(first, edits=it.edits) for it in outs)
             return replace(cure, ways=outs)
         return cure
 
-    def one(self, complaint: Complaint) -> Answer | None:
-        """Mends one error or fault by the way after which the answer is furthest on, and gives that answer."""
-        cure, here = self.cure(complaint), self.place(complaint)
-        best: tuple[tuple, Way, Answer] | None = None
-        ways = (*cure.ways, *self.last_ways(complaint)) if self.tries(complaint) < 2 else self.last_ways(complaint)
+    def mend(self, complaints: list[Complaint]) -> bool:
+        """Mends the copy at each complaint, where no other one is mended at the same lines. Says whether it has."""
+        taken: list[Edit] = []
+        cures = [self.cure(it) for it in complaints]
+        ways = self.probes.workers.map(self.choose, complaints, cures)
+        for complaint, cure, way in zip(complaints, cures, ways):
+            if way and any(overlap(one, other) for one in way.edits for other in taken):
+                continue  # (it is found again)
+            self.add_finding(complaint, cure, way or next(iter(cure.ways), None))
+            if way:
+                taken += way.edits
+                self.count(complaint)
+                self.touch(complaint)
+        self.faults_were_reported |= not is_error(complaints[0])
+        before = self.scene.texts
+        self.change(tuple(taken))
+        return self.scene.texts != before
+
+    def choose(self, complaint: Complaint, cure: Cure) -> Way | None:
+        """The likeliest way that helps. What takes something out comes last, the smallest part first."""
+        tries = self.counts.get(self.identity(complaint), 0)
+        ways = [it for it in cure.ways if it.edits]
+        if complaint.name != "Yaml":
+            return next(iter([*ways, *self.last_ways(complaint)][tries:]), None)
+        mends, removals = [it for it in ways if not is_removal(it)], [it for it in ways if is_removal(it)]
+        for some in (mends if tries < MOST_TRIES else [], [*removals, *self.last_ways(complaint)][max(0, tries - 1) :]):
+            if best := self.best(complaint, some):
+                return best
+        return None
+
+    def best(self, complaint: Complaint, ways: list[Way]) -> Way | None:
+        """The way after which the entry has no error, or the one that is furthest on."""
+        found: list[tuple[tuple[int, int], Way]] = []
         for way in ways:
-            if not way.edits:
-                continue
-            answer = self.ask(edited(self.scene.texts, way.edits))
-            first = answer.complaints[0] if answer.complaints else None
-            far = (FAR[0] + 1, 0, 0) if first is None else self.place(first)
-            helps = first is None or far > here or far == here and first.said != complaint.said
-            if helps and (best is None or far > best[0]):
-                best = (far, way, answer)
-            if best and (complaint.name != "Yaml" or first is None):
-                break
-        self.add_finding(complaint, cure, best[1] if best else cure.ways[0] if cure.ways else None)
-        if best is None:
-            return None
-        self.change(best[1].edits, complaint)
-        return best[2]
+            rank = rank_of(complaint, self.probes.verdict(self.scene, complaint.text, complaint.line - 1, way.edits))
+            if rank == BEST:
+                return way
+            found += [(rank, way)] if rank else []
+        return min(found, key=lambda it: it[0])[1] if found else None
 
     def last_ways(self, complaint: Complaint) -> list[Way]:
-        """Where nothing else helps: takes the entry around a place out, and then the section."""
+        """If nothing else helps: takes the entry around a place out, and then what is around that."""
         entry = self.scene.around(complaint.text, complaint.line - 1)
-        outer = [*entry.path, entry][:2][::-1] if entry else []
+        outer = [*entry.path, entry][::-1] if entry else []
         return [Way((take_out(self.scene.texts, complaint.text, it),)) for it in outer]
 
-    def many(self, answer: Answer) -> Answer | None:
-        """Mends all faults of entries that are at different lines."""
-        taken: list[Edit] = []
-        for complaint in answer.complaints:
-            cure = self.cure(complaint)
-            mending = [it for it in cure.ways if it.edits]
-            ways = [*mending[:1], *mending[1:][-1:], *self.last_ways(complaint)]
-            way = next(iter(ways[self.tries(complaint) :]), None)
-            self.add_finding(complaint, cure, way)
-            if way and not any(overlap(one, other) for one in way.edits for other in taken):
-                taken += way.edits
-                self.touch(complaint)
-        if not taken:
-            return None
-        self.faults_were_reported = True
-        before = self.scene
-        self.change(tuple(taken), None)
-        return self.ask(self.scene.texts) if self.scene.texts != before.texts else None
-
-    def tries(self, complaint: Complaint) -> int:
-        """How often the complaint has come before. Counts it once more."""
-        count = self.counts.get(self.identity(complaint), 0)
-        self.counts[self.identity(complaint)] = count + 1
-        return count
+    def count(self, complaint: Complaint) -> None:
+        """Counts how often a complaint has been mended."""
+        self.counts[self.identity(complaint)] = self.counts.get(self.identity(complaint), 0) + 1
 
     def identity(self, complaint: Complaint) -> tuple:
         number = self.scene.number(complaint.text, complaint.line - 1)
@@ -201,15 +198,11 @@ class Search:
             number = self.scene.number(complaint.text, outer.line)
             self.touched |= {(complaint.text, number, outer.key), (complaint.text, number, entry.key)}
 
-    def change(self, edits: tuple[Edit, ...], complaint: Complaint | None) -> None:
-        if complaint:
-            self.touch(complaint)
+    def change(self, edits: tuple[Edit, ...]) -> None:
         names = self.names()
-        texts = self.scene.texts
         if self.leave_out:
-            why = self.report.findings[-1].said if complaint else ""
-            edits = tuple(commented(edit, texts, why or self.why(edit)) for edit in edits)
-        self.scene = Scenery(edited(texts, edits), self.scene)
+            edits = tuple(commented(edit, self.scene.texts, self.why(edit)) for edit in edits)
+        self.scene = Scenery(edited(self.scene.texts, edits), self.scene)
         self.gone |= names - self.names()
 
     def why(self, edit: Edit) -> str:
@@ -222,10 +215,18 @@ class Search:
         return {entry.key for section in SECTIONS_WITH_NAMES for _, entry in self.scene.entries_of(section)}
 
 
-def is_single(answer: Answer) -> bool:
-    """Whether the answer has one complaint that has to be mended before others are said."""
-    first = answer.complaints[0]
-    return first.message.startswith("error") or first.name in ("Limit", "Cycle", "Bound")
+def is_removal(way: Way) -> bool:
+    return not any(line.strip() for edit in way.edits for line in edit.lines)
+
+
+def rank_of(complaint: Complaint, verdict: Verdict) -> tuple[int, int] | None:
+    """How good a change is that mends a fault of YAML, by what is wrong after it; none where it does not help."""
+    error = verdict.error
+    if error is None or error.name != "Yaml":
+        return (1, 0) if verdict.at_edit else BEST
+    if error.line > complaint.line:
+        return 2, -error.line
+    return (3, 0) if error.line == complaint.line and error.key != complaint.key else None
 
 
 def overlap(one: Edit, other: Edit) -> bool:

@@ -37,6 +37,11 @@ class Program:
     def check(self, folder: Path) -> Answer:
         return answer_of(self.output(["check", str(folder)]))
 
+    def check_texts(self, texts: dict[str, list[str]]) -> Answer:
+        """The answer for texts that are in no folder, by a bundle of them."""
+        bundle = "".join(f"@ {name}\n" + "".join(f"{line}\n" for line in lines) for name, lines in texts.items())
+        return answer_of(self.output(["check"], bundle))
+
 
 def proved() -> str | None:
     """The path of the proved program, or none where there is none of these sources."""
