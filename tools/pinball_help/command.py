@@ -5,7 +5,7 @@ import sys
 from dataclasses import asdict, replace
 from pathlib import Path
 
-from . import errors, picture, program, trace, unused
+from . import errors, picture, program, schema, trace, unused
 from .answers import Answer, answer_of, complaint_of
 from .findings import Finding, as_json, cure_of, finding_of, shown
 from .program import NoAnswer, Program
@@ -143,6 +143,16 @@ def write_picture(asked: argparse.Namespace) -> int:
     return 0
 
 
+def write_schema(asked: argparse.Namespace) -> int:
+    folder = Path(asked.dir)
+    folder.mkdir(parents=True, exist_ok=True)
+    for kind, is_mode in ("machine", False), ("mode", True):
+        file = folder / f"{kind}.schema.json"
+        file.write_text(json.dumps(schema.schema(is_mode), indent=1) + "\n")
+        print(f"{file}: for the text of {'a mode' if is_mode else 'the machine'}")
+    return 0
+
+
 def find(asked: argparse.Namespace) -> Program:
     tool = program.find(asked.program)
     program.report(tool)
@@ -191,6 +201,9 @@ def parser() -> argparse.ArgumentParser:
     one.add_argument("-o", "--output", default="-", metavar="FILE", help="where the page goes; else standard output")
     with_program(one)
     one.set_defaults(run=write_picture)
+    one = commands.add_parser("schema", help="JSON Schemas, by which an editor completes and underlines what you write")
+    one.add_argument("dir", metavar="FOLDER", help="where the two schemas go")
+    one.set_defaults(run=write_schema)
     return top
 
 

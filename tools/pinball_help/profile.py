@@ -22,6 +22,7 @@ TABLES = {
     "shots": ("Setting of a shot",),
     "shot_groups": ("Setting of a group",),
     "shot_profiles": ("Setting of a profile",),
+    "states": ("Setting of a state",),
     "ball_devices": ("Setting of a ball device",),
     "ball_saves": ("Setting of a ball save",),
     "multiballs": ("Setting of a multiball",),
@@ -45,6 +46,7 @@ CALLED = {
     "shots": "a shot",
     "shot_groups": "a group",
     "shot_profiles": "a profile",
+    "states": "an item of `states`",
     "ball_devices": "a ball device",
     "ball_saves": "a ball save",
     "multiballs": "a multiball",
@@ -100,6 +102,12 @@ def settings(section: str) -> dict[str, Setting]:
 def sections() -> dict[str, str]:
     """Each section, and the texts that have it: `the machine`, `a mode` or `both`."""
     return {name: row[1] for row in tables().get("Section", []) for name in names(row[0])}
+
+
+@cache
+def entries() -> dict[str, tuple[str, str]]:
+    """What an entry of each section is, and what settings it has."""
+    return {name: (row[2], row[3]) for row in tables().get("Section", []) for name in names(row[0])}
 
 
 @cache
