@@ -1,6 +1,8 @@
 """The words of the command line, and what each subcommand writes."""
 import argparse
+import io
 import json
+import re
 import sys
 from dataclasses import asdict, replace
 from pathlib import Path
@@ -8,9 +10,10 @@ from pathlib import Path
 from . import errors, picture, program, schema, trace, unused
 from .answers import Answer, answer_of, complaint_of
 from .findings import Finding, as_json, cure_of, finding_of, shown
-from .program import NoAnswer, Program
+from .printed import clean
+from .program import NoAnswer, Program, path_of
 from .scenery import Scenery
-from .texts import MACHINE, read_text, read_texts, write_texts
+from .texts import MACHINE, Log, read_texts, write_texts
 from .ways import Cure
 
 ABOUT = "Helps with the answers of pinball: it calls the program and reads what it says. It proves nothing."
@@ -20,6 +23,7 @@ LINE_NUMBERS = (
     "Line numbers are those of your files now: begin with the last one, or run this again after each change."
 )
 MOST_NAMES = 3  # of switches that are named, and not counted
+MOST_OF_YES = 10_000  # lines of a certificate, which has one for each event and switch
 
 
 def write_errors(asked: argparse.Namespace) -> int:
@@ -61,9 +65,10 @@ def kept_words(report: errors.Report, keep: Path) -> str:
     """What the answer for a copy does not cover."""
     count = len(report.findings)
     answer = "yes" if report.answer and report.answer.accepted else "no"
+    name = clean(str(keep))
     return (
-        f"!! {keep} IS NOT YOUR MACHINE: {count} places were refused, and are left out of it, each with a comment\n"
-        f"!! `# left out`. `pinball check {keep}` answers {answer}, about what is left and about nothing else.\n"
+        f"!! {name} IS NOT YOUR MACHINE: {count} places were refused, and are left out of it, each with a comment\n"
+        f"!! `# left out`. `pinball check {name}` answers {answer}, about what is left and about nothing else.\n"
     )
 
 
@@ -71,23 +76,26 @@ def write_explain(asked: argparse.Namespace) -> int:
     """Says what each line on standard input means. Without DIR it has no texts to look into."""
     texts = read_texts(Path(asked.dir)) if asked.dir else {}
     scene = Scenery(texts)
-    original = {**texts, asked.log: read_text(Path(asked.log))} if asked.log else texts
-    found, said = [], sys.stdin.read()
-    for line in said.split("\n"):
-        if complaint := complaint_of(line):
-            if complaint.message.startswith("refused"):
-                complaint = replace(complaint, text=asked.log or "")
+    original = {**texts, asked.log: Log(Path(asked.log))} if asked.log else texts
+    of_yes: list[str] = []  # the lines from `yes` on: those of a certificate
+    found: list[Finding] = []
+    for line in (it.rstrip("\n") for it in sys.stdin):
+        complaint = complaint_of(line)
+        if complaint and complaint.message.startswith("refused"):
+            complaint = replace(complaint, text=asked.log or "")
+        if complaint:
             cure = cure_of(scene, complaint) if texts else Cure()
-            way = next(iter(cure.ways), None)
-            found.append(finding_of(scene, complaint, cure, way, original))
-        elif line == "yes":
-            print("yes: the machine is accepted. What that promises is in docs/promises.md.")
-            answer = answer_of(said)
-            print(f"{longest(answer)}\n" if answer.switches else "")
+            finding = finding_of(scene, complaint, cure, next(iter(cure.ways), None), original)
+            found += [finding] if asked.json else []
+            print("" if asked.json else "\n".join(shown(finding)) + "\n\n", end="")
+        elif (line == "yes" or of_yes) and len(of_yes) < MOST_OF_YES:
+            of_yes.append(line)
+    if of_yes:
+        print("yes: the machine is accepted. What that promises is in docs/promises.md.")
+        answer = answer_of("\n".join(of_yes))
+        print(f"{longest(answer)}\n" if answer.switches else "")
     if asked.json:
         print(json.dumps([as_json(it) for it in found], indent=2))
-    for finding in found if not asked.json else []:
-        print("\n".join(shown(finding)) + "\n")
     return 0
 
 
@@ -105,12 +113,12 @@ def longest(answer: Answer) -> str:
 
 
 def write_unused(asked: argparse.Namespace) -> int:
-    tool = find(asked)
+    tool, texts = find(asked), read_texts(Path(asked.dir))
     answer = tool.check(Path(asked.dir))
     if not answer.accepted:
         print("The machine is refused, so it has no list of events: mend it first (pinball-help errors DIR).")
         return 1
-    found = unused.unused(Scenery(read_texts(Path(asked.dir))), answer)
+    found = unused.unused(Scenery(texts), answer)
     if asked.json:
         print(json.dumps([asdict(it) for it in found], indent=2))
         return 0
@@ -129,17 +137,17 @@ def write_trace(asked: argparse.Namespace) -> int:
 
 def write_picture(asked: argparse.Namespace) -> int:
     tool, folder = find(asked), Path(asked.dir)
-    answer = tool.check(folder)
+    texts, answer = read_texts(folder), tool.check(folder)
     if not answer.accepted and answer.complaints[0].message.startswith("error"):
-        print(f"pinball-help: the machine cannot be read: {answer.complaints[0].said}", file=sys.stderr)
+        print(f"pinball-help: the machine cannot be read: {clean(answer.complaints[0].said)}", file=sys.stderr)
         return 1
-    trace_text = tool.output(["play", asked.log, str(folder)]) if asked.log and answer.accepted else None
-    text = picture.page(folder.resolve().name, Scenery(read_texts(folder)), answer, trace_text)
+    trace_text = tool.output(["play", asked.log, path_of(folder)]) if asked.log and answer.accepted else None
+    text = picture.page(folder.resolve().name, Scenery(texts), answer, trace_text)
     if asked.output == "-":
         print(text, end="")
     else:
         Path(asked.output).write_text(text)
-        print(f"{asked.output}: {len(text) / 1e6:.1f} MB. Open it in a browser.")
+        print(f"{clean(asked.output)}: {len(text) / 1e6:.1f} MB. Open it in a browser.")
     return 0
 
 
@@ -149,7 +157,7 @@ def write_schema(asked: argparse.Namespace) -> int:
     for kind, is_mode in ("machine", False), ("mode", True):
         file = folder / f"{kind}.schema.json"
         file.write_text(json.dumps(schema.schema(is_mode), indent=1) + "\n")
-        print(f"{file}: for the text of {'a mode' if is_mode else 'the machine'}")
+        print(f"{clean(str(file))}: for the text of {'a mode' if is_mode else 'the machine'}")
     return 0
 
 
@@ -162,6 +170,15 @@ def find(asked: argparse.Namespace) -> Program:
 def with_program(one: argparse.ArgumentParser) -> None:
     """Takes the option after the subcommand too."""
     one.add_argument("--program", metavar="PATH", default=argparse.SUPPRESS, help=argparse.SUPPRESS)
+
+
+def pattern(text: str) -> str:
+    """A regular expression. Raises ArgumentTypeError if it is none."""
+    try:
+        re.compile(text)
+    except (re.error, RecursionError, OverflowError) as error:
+        raise argparse.ArgumentTypeError(f"`{text}` is no regular expression: {error}") from error
+    return text
 
 
 def parser() -> argparse.ArgumentParser:
@@ -191,7 +208,7 @@ def parser() -> argparse.ArgumentParser:
     one = commands.add_parser("trace", help="a filter for what `pinball play` writes")
     one.add_argument("--owner", default="", help="only what this mode does, or `machine`")
     one.add_argument("--device", default="", help="only lines that name this switch, coil, counter, shot ..")
-    one.add_argument("--event", default="", metavar="PATTERN", help="only events that a regular expression finds")
+    one.add_argument("--event", default="", metavar="PATTERN", type=pattern, help="only events that a regular expression finds")
     one.add_argument("--from", dest="start", default="0", metavar="TIME", help="as 0:05.250, 5.25s or 5250")
     one.add_argument("--to", dest="end", default="", metavar="TIME")
     one.set_defaults(run=write_trace)
@@ -208,11 +225,14 @@ def parser() -> argparse.ArgumentParser:
 
 
 def main() -> int:
+    for stream, errors_are in (sys.stdin, "surrogateescape"), (sys.stdout, "backslashreplace"):
+        if isinstance(stream, io.TextIOWrapper):
+            stream.reconfigure(errors=errors_are)
     asked = parser().parse_args()
     try:
         return asked.run(asked)
     except NoAnswer as error:
-        print(f"pinball-help: {error}", file=sys.stderr)
+        print(f"pinball-help: {clean(str(error))}", file=sys.stderr)
         return 3
     except (OSError, ValueError) as error:
         if isinstance(error, BrokenPipeError):
@@ -220,5 +240,5 @@ def main() -> int:
             return 0
         missing = isinstance(error, FileNotFoundError) and str(error.filename).endswith(MACHINE)
         words = f"there is no {error.filename}: give the folder that has `config/` in it" if missing else error
-        print(f"pinball-help: {words}", file=sys.stderr)
+        print(f"pinball-help: {clean(str(words))}", file=sys.stderr)
         return 2

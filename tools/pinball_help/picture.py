@@ -1,4 +1,6 @@
 """One page with the graph of what posts what, and with a log the timeline of its play."""
+import base64
+import hashlib
 import html
 import json
 import re
@@ -8,8 +10,9 @@ from .answers import Answer
 from .graph import CycleError, Graph, Post
 from .layout import Layout, add_lone, placed
 from .machine_graph import graph_of
+from .printed import clean
 from .scenery import Scenery
-from .trace import Coils, Step, joined, steps_of, time_of, words_of
+from .trace import Coils, Step, steps_of, time_of, words_of
 
 HERE = Path(__file__).resolve().parent
 MOST_LINES = 60_000  # of a play that is drawn
@@ -99,14 +102,15 @@ def play_data(trace: str) -> dict:
     open_at: dict[tuple[str, str], int] = {}
     levels: dict[str, list[list[int]]] = {}
     owners: dict[tuple[str, str], str] = {}
-    coils = Coils()
+    coils = Coils(keep=True)
     for it in steps:
         coils.take(it)
         follow(it, spans, open_at, levels, owners)
     for key, start in open_at.items():
         spans.setdefault(key, []).append([start, end])
+    coils.end()
     for name, coil in coils.coils.items():
-        spans["coils", name] = [list(it) for it in joined([*coil.on, *([(coil.since, end)] if coil.holder else [])])]
+        spans["coils", name] = [list(it) for it in coil.on.all or []]
     return {
         "end": end, "cut": cut,
         "rows": [
@@ -164,15 +168,22 @@ def answer_words(answer: Answer) -> str:
 
 def page(title: str, scene: Scenery, answer: Answer, trace: str | None) -> str:
     """The page: the data of this machine in the page of picture.html."""
+    title = clean(title)
     data = {"title": title, "answer": answer_words(answer), "yes": answer.accepted,
             "graph": graph_data(scene, graph_of(scene), answer), "play": play_data(trace) if trace else None}
-    # (a script ends at the first `</`, wherever it is)
-    text = json.dumps(data, separators=(",", ":"), ensure_ascii=True).replace("</", "<\\/")
-    parts = {name: (HERE / f"picture.{name}").read_text() for name in ("css", "js")}
-    whole = (HERE / "picture.html").read_text()
-    for name, part in (*parts.items(), ("title", html.escape(title)), ("data", text)):
-        whole = whole.replace(f"{{{{{name}}}}}", part)
-    return whole
+    # (what is in a script is no HTML: a `<` there may end it, so none is written)
+    text = json.dumps(data, separators=(",", ":"), ensure_ascii=True).replace("<", "\\u003c")
+    css, js = ((HERE / f"picture.{name}").read_text() for name in ("css", "js"))
+    parts = {"css": css, "js": js, "title": html.escape(title), "data": text, "policy": policy(css, js)}
+    # (in one pass: what a machine's names say is not looked at again)
+    return re.sub(r"\{\{(\w+)\}\}", lambda found: parts[found[1]], (HERE / "picture.html").read_text())
+
+
+def policy(css: str, js: str) -> str:
+    """What a browser may do in the page: run its one script, and use its one style sheet. Nothing is loaded or sent."""
+    digests = [base64.b64encode(hashlib.sha256(it.encode()).digest()).decode() for it in (js, css)]
+    script, style = (f"'sha256-{it}'" for it in digests)
+    return f"default-src 'none'; script-src {script}; style-src {style}; base-uri 'none'; form-action 'none'"
 
 
 __all__ = ["page", "time_of"]
