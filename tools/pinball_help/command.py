@@ -31,7 +31,7 @@ def write_errors(asked: argparse.Namespace) -> int:
     keep = Path(asked.keep) if asked.keep else None
     if keep and keep.exists():
         raise ValueError(f"{keep} is there already: give the name of a folder that is not")
-    report = errors.search(tool, Path(asked.dir), leave_out=keep is not None)
+    report = errors.search(tool, Path(asked.dir), leave_out=keep is not None, within=asked.within)
     found = [it for it in report.findings if not it.follows]
     if keep:
         write_texts(report.texts, keep)
@@ -130,8 +130,7 @@ def write_unused(asked: argparse.Namespace) -> int:
 def write_trace(asked: argparse.Namespace) -> int:
     start, end = trace.moment_of(asked.start), trace.moment_of(asked.end) if asked.end else None
     wanted = trace.Wanted(asked.owner, asked.device, asked.event, start, end)
-    for line in trace.shown((it.rstrip("\n") for it in sys.stdin), wanted):
-        print(line)
+    sys.stdout.writelines(f"{line}\n" for line in trace.shown((it.rstrip("\n") for it in sys.stdin), wanted))
     return 0
 
 
@@ -190,6 +189,9 @@ def parser() -> argparse.ArgumentParser:
     one.add_argument("--json", action="store_true", help="for editors")
     one.add_argument(
         "--keep", metavar="COPY", help="writes a folder in which all that is refused is left out, with comments"
+    )
+    one.add_argument(
+        "--within", type=float, default=errors.WITHIN, metavar="SECONDS", help="stops to look after so much work of its own"
     )
     with_program(one)
     one.set_defaults(run=write_errors)

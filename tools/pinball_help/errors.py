@@ -14,6 +14,7 @@ from .texts import MACHINE, Edit, Texts, edited, read_texts
 from .ways import Cure, Way
 
 ROUNDS = 500
+WITHIN = 10.0  # seconds of its own work: a text may be written to take for ever
 MOST_TRIES = 3  # to mend one place before something is taken out
 ALONE = ("Bundle", "Limit", "Cycle", "Bound")  # what has to be mended before others are said
 BEST = (0, 0)
@@ -48,7 +49,8 @@ class Progress:
 class Search:
     """Looks for all that is refused in the texts of a folder."""
 
-    def __init__(self, program: Program, folder: Path, leave_out: bool):
+    def __init__(self, program: Program, folder: Path, leave_out: bool, within: float):
+        self.until = time.process_time() + within
         self.probes, self.leave_out = Probes(program), leave_out
         self.original = read_texts(folder)
         self.scene = Scenery(self.original)
@@ -76,7 +78,7 @@ class Search:
         for _ in range(ROUNDS):
             if answer.accepted or not answer.complaints:
                 break
-            if not self.mend(self.found(answer)):
+            if time.process_time() > self.until or not self.mend(self.found(answer)):
                 self.report.unsolved = True
                 break
             answer = self.ask()
@@ -235,5 +237,5 @@ def overlap(one: Edit, other: Edit) -> bool:
     )
 
 
-def search(program: Program, folder: Path, leave_out: bool = False) -> Report:
-    return Search(program, folder, leave_out).run()
+def search(program: Program, folder: Path, leave_out: bool = False, within: float = WITHIN) -> Report:
+    return Search(program, folder, leave_out, within).run()

@@ -150,7 +150,8 @@ class Coils:
 
     def take(self, step: Step) -> str:
         """Follows a step. Of a skipped command, why it was skipped."""
-        self.last = max(self.last, step.moment)
+        if step.moment > self.last:
+            self.last = step.moment
         if step.kind not in ("coil", "skip", "off"):
             return ""
         coil = self.coils.get(step.words[0])
@@ -202,6 +203,8 @@ class Coils:
 def words_of(step: Step) -> str:
     """A step in words."""
     words = step.words
+    if step.kind == "event" or step.kind == "switch":
+        return f"{step.kind} {' '.join(words)}"
     if step.kind == "balls":
         known, counted, transit, field_ = words
         return f"balls: {known} known = {counted} in devices + {transit} on the way + {field_} on the playfield"
@@ -220,14 +223,14 @@ def words_of(step: Step) -> str:
 
 def shown(lines: Iterable[str], wanted: Wanted) -> Iterator[str]:
     """The trace as a person reads it, and then what the coils did."""
-    coils, before, was_shown = Coils(), -1, False
+    coils, before, was_shown, is_all = Coils(), -1, False, wanted.is_all
     for step in steps_of(lines):
         if isinstance(step, str):
             if step:
                 yield clean(step)
             continue
         why = coils.take(step)
-        if not wanted.has(step):
+        if not (is_all or wanted.has(step)):
             continue
         if was_shown and (step.moment != before or step.kind == "switch"):
             yield ""
