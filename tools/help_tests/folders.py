@@ -8,7 +8,7 @@ from typing import Callable
 
 from pinball_help.texts import MACHINE, TEXT_LIMIT
 
-from .common import EXAMPLES, TOP
+from help_tests.common import EXAMPLES, TOP
 
 HELP = TOP / "tools/pinball_help"
 MACHINES = [*EXAMPLES, HELP / "planted", *sorted((HELP / "machines").glob("*"))]

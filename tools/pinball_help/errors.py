@@ -7,7 +7,7 @@ from pathlib import Path
 from .answers import Answer, Complaint
 from .findings import Finding, cure_of, finding_of
 from .mending import commented, take_out
-from .probes import Probes, Verdict, is_error
+from .probes import OutOfTime, Probes, Verdict, is_error
 from .program import Program
 from .scenery import Scenery
 from .texts import MACHINE, Edit, Texts, edited, read_texts
@@ -50,8 +50,7 @@ class Search:
     """Looks for all that is refused in the texts of a folder."""
 
     def __init__(self, program: Program, folder: Path, leave_out: bool, within: float):
-        self.until = time.process_time() + within
-        self.probes, self.leave_out = Probes(program), leave_out
+        self.probes, self.leave_out = Probes(program, time.process_time() + within), leave_out
         self.original = read_texts(folder)
         self.scene = Scenery(self.original)
         self.report = Report()
@@ -63,8 +62,11 @@ class Search:
         self.progress = Progress("found")
 
     def run(self) -> Report:
+        answer = self.ask()
         try:
-            answer = self.mend_all()
+            answer = self.mend_all(answer)
+        except OutOfTime:
+            self.report.unsolved = True
         finally:
             self.progress.end()
         self.report.texts, self.report.answer = self.scene.texts, answer
@@ -72,13 +74,12 @@ class Search:
         self.report.findings.sort(key=lambda it: (it.line == 0, order.get(it.text, -1), it.line))
         return self.report
 
-    def mend_all(self) -> Answer:
+    def mend_all(self, answer: Answer) -> Answer:
         """Mends all that is found, and looks again, until all is accepted or nothing helps."""
-        answer = self.ask()
         for _ in range(ROUNDS):
             if answer.accepted or not answer.complaints:
                 break
-            if time.process_time() > self.until or not self.mend(self.found(answer)):
+            if not self.mend(self.found(answer)):
                 self.report.unsolved = True
                 break
             answer = self.ask()

@@ -1,6 +1,8 @@
 """Asks the program about parts of a machine: one section, or one entry, of one text.
 
 A part is a text in which all other lines are empty. So a mistake in one place hides none in another."""
+import hashlib
+import time
 from concurrent.futures import ThreadPoolExecutor
 from dataclasses import dataclass, replace
 
@@ -26,10 +28,16 @@ class Verdict:
     at_edit: bool
 
 
+class OutOfTime(Exception):
+    """The search has taken too long."""
+
+
 class Probes:
-    def __init__(self, program: Program):
-        self.program = program
-        self.known: dict[tuple[str, tuple[str, ...]], Complaint | None] = {}
+    """Asks until a moment of the processor time of this process: then it raises OutOfTime."""
+
+    def __init__(self, program: Program, until: float):
+        self.program, self.until = program, until
+        self.known: dict[tuple[str, bytes], Complaint | None] = {}
         self.workers = ThreadPoolExecutor(WORKERS)
 
     def answer(self, texts: Texts) -> Answer:
@@ -37,8 +45,11 @@ class Probes:
 
     def first_error(self, owner: str, text: str, lines: list[str]) -> Complaint | None:
         """The first error of a text, judged without the other texts. Its first line is taken as right."""
-        key = (text, tuple(lines[1:]))
+        words = "\n".join(lines[1:]).encode("utf-8", "surrogateescape")
+        key = (text, hashlib.blake2b(words).digest())
         if key not in self.known:
+            if time.process_time() > self.until:
+                raise OutOfTime
             texts = {text: [VERSION, *lines[1:]]}
             if text != MACHINE:
                 texts = {MACHINE: [VERSION, f"modes: {owner}"], **texts}
