@@ -6,7 +6,8 @@ The rows for values are in idioms_of_values.py. tools/test_help tries each row."
 SECTIONS = {
     "achievements": "Write a variable for each achievement, and a `variable_player` that sets it.",
     "auditor": "Take it out: nothing is audited here.",
-    "ball_holds": "Write a ball device without `mechanical_eject` for a place that holds a ball.",
+    "ball_holds": "Write a ball device with `mechanical_eject: yes` and without `eject_coil`: it holds its ball until a "
+    "`coil_player` pulses the coil.",
     "ball_routings": "Write the way of the balls as `eject_targets` of the `ball_devices`.",
     "ball_locks": "Take it out: locks are not carried out.",
     "combo_switches": "Write a mode that runs while one switch is active, and that handles the event of the other one.",
@@ -37,7 +38,8 @@ SECTIONS = {
     "plugins": "Take it out: no Python runs here.",
     "psus": "Take it out: power supplies are not planned here.",
     "queue_event_player": "Write an `event_player`: no event waits for another here.",
-    "queue_relay_player": "Write an `event_player`: no event waits for another here.",
+    "queue_relay_player": "For a wait at the end of a ball, write a mode with `use_wait_queue: yes` and "
+    "`start_events: ball_ending`. No other event waits: write an `event_player` for it.",
     "random_event_player": "Write an `event_player` with one of the events, or let them come in turn: nothing is drawn "
     "at random here.",
     "scoring": "Name the section `variable_player`: this is its name in older versions of MPF.",
@@ -178,7 +180,7 @@ SETTINGS = {
         "stop_events": ("", "Take it out: a multiball ends when one ball is left in play."),
     },
     "shots": {
-        "switches": ("switch", "A shot has one `switch`. For a second switch `s_b` write `hit_events: s_b_active`."),
+        "switches": ("hit_events", "A shot has one `switch`. Any of these events hits it."),
         "show_tokens": ("", "Take it out: shows are for other programs."),
         "delay_switch": ("", "Take it out: a hit counts at once."),
         "start_enabled": ("", "Take it out: a shot without `enable_events` is enabled at first."),
@@ -244,8 +246,8 @@ SETTINGS = {
         "player_vars": ("", "Take it out: a variable is 0 at first. For another value write a `variable_player`."),
     },
     "variable_player": {
-        "float": ("", "Take it out, and write a whole number in `int`."),
-        "string": ("", "Take it out: a variable is a whole number."),
+        "float": ("int", "A variable is a whole number."),
+        "string": ("int", "A variable is a whole number: write a number in place of each text."),
         "block": ("", "Take it out: each entry scores, whatever others do."),
         "player": ("", "Take it out: an entry changes the variables of the current player."),
         "condition": ("", "Take it out, and write the condition at the event: `e{{current_player.x == 1}}:`."),

@@ -33,12 +33,17 @@ def block_end(texts: Texts, name: str, at: int) -> int:
 
 
 def cut(line: str, start: int, end: int) -> str:
-    """A line without a part of it, and without the comma of this part."""
-    before, after = line[:start].rstrip(), line[end:].lstrip()
+    """A line without a part of it, and without the comma or the blanks between this part and another one."""
+    before, after = line[:start], line[end:].lstrip()
     if after.startswith(","):
-        gap = " " if before and before[-1] not in "[{" else ""
-        return before + gap + after[1:].lstrip()
-    return before.removesuffix(",") + (" " if after.startswith("#") else "") + after
+        return before + after[1:].lstrip()
+    if before.rstrip().endswith(","):
+        before = before.rstrip().removesuffix(",")
+    if after.startswith("#"):
+        return f"{before.rstrip()} {after}"
+    if not after or after[0] in "]}":
+        return before.rstrip() + after
+    return before + ("" if before.endswith((" ", "[", "{")) else " ") + after
 
 
 def emptied(entry: Entry) -> Entry:
@@ -103,6 +108,16 @@ def add(texts: Texts, name: str, entry: Entry, setting: str) -> Edit:
         return Edit(name, entry.line, entry.line + 1, (line[: value.start + 1] + setting + comma + rest,))
     depth = value.entries[0].start if value.entries else indentation(line) + 2
     return Edit(name, entry.line, entry.line + 1, (line, " " * depth + setting))
+
+
+def add_to_item(texts: Texts, name: str, item: Node, setting: str) -> Edit:
+    """Writes one setting more into a mapping that is an item of a list."""
+    line = line_of(texts, name, item.line)
+    if line[item.start : item.start + 1] == "{":
+        head, rest = line[: item.start + 1], line[item.start + 1 :]
+        return Edit(name, item.line, item.line + 1, (f"{head}{setting}, {rest}",))
+    column = item.entries[0].start if item.entries else item.start
+    return Edit(name, item.line, item.line + 1, (line, " " * column + setting))
 
 
 def substitute(texts: Texts, name: str, entry: Entry, found: str, new: str | Callable) -> Edit:

@@ -124,6 +124,12 @@ def of_other_tools() -> frozenset[str]:
     return frozenset(names(found.replace("\n", " ").partition("may also have")[2].partition(".")[0]))
 
 
+@cache
+def actions() -> list[str]:
+    """The actions of an item of `control_events`."""
+    return [name for row in tables().get("Action", []) for name in names(row[0])]
+
+
 def limits() -> dict[str, str]:
     """How many of each there may be in a plan, by the table that `fault 7` names."""
     return {name: row[1] for row in tables().get("Table", []) for name in names(row[0])}

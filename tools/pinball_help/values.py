@@ -22,6 +22,15 @@ def is_yes(text: str) -> bool:
     return text.lower() in ("yes", "true", "on")
 
 
+CONDITION = re.compile(r"\{ *current_player\.([\w.-]+?) *([=!<>]=|[<>]) *(-?\d+) *\}", re.ASCII)
+EVENT = re.compile(rf"[\w.-]{{1,64}}(?:{CONDITION.pattern})?", re.ASCII)
+
+
+def is_event(text: str) -> bool:
+    """Whether a text is a handled event: a name, with or without a condition."""
+    return bool(EVENT.fullmatch(text))
+
+
 def event_of(text: str) -> str:
     """The name of a handled event, without its condition."""
     return text.partition("{")[0].strip()

@@ -2,14 +2,15 @@
 import re
 from dataclasses import replace
 
-from . import drop_targets, overwrites, powers, profile
+from . import drop_targets, events, overwrites, powers, profile, values
 from .answers import Complaint
 from .idioms import OLDER_NAMES, RECIPES, RECIPES_OF_SECTIONS, SECTIONS, SECTIONS_RENAMED, SETTINGS
-from .idioms_of_values import ACTS_LATER, COUNTER, DELAY, ENTRY, IDIOMS, IN_VARIABLE, ONE_COMPARISON, ONLY_VARIABLES
-from .idioms_of_values import TWO_COMPARISONS, TWO_CONDITIONS, Idiom
+from .conditions import NO_CURE, ONLY_VARIABLES, meaning_of
+from .idioms_of_values import ACTS_LATER, DELAY, ENTRY, EVENT, IDIOMS, Idiom
 from .graph import says_yes, setting
-from .mending import add, blanks, block_end, give, line_of, rename, substitute, take_item_out, take_out
+from .mending import add, add_to_item, blanks, block_end, give, line_of, rename, substitute, take_item_out, take_out
 from .near import nearest
+from . import outline
 from .outline import Entry, Node, unquoted
 from .scenery import Scenery, raw, section_of, setting_table
 from .texts import MACHINE, VERSION, Edit
@@ -139,6 +140,10 @@ def of_setting_of_mpf(scene: Scenery, text: str, entry: Entry, cure: Cure, inste
     if instead in siblings:
         return replace(cure, ways=(Way(out, f"Take it out: `{instead}` is there. {word}".rstrip(), why),))
     edit, named, reason = as_setting(scene, text, entry, instead)
+    if key == "switches":
+        return replace(cure, ways=(events.hits_way(scene, text, entry, word, why), Way(out)))
+    if instead == "int":
+        edit, named = give(scene.texts, text, entry, "1", "int"), "int: 1"
     way = Way((edit,), f"Write `{named}`. {word}".rstrip(), f"{why} {reason}".rstrip(), instead, recipe)
     return replace(cure, ways=(way, Way(out)), stays=powers.is_power(instead))
 
@@ -184,6 +189,10 @@ def edits_of(scene: Scenery, text: str, entry: Entry, idiom: Idiom) -> tuple[Edi
         return (give(texts, text, entry, number[0] if number else "1"),)
     if kind == "placeholder":
         return (of_placeholder(scene, text, entry),)
+    if kind == "hits":
+        return events.hits_way(scene, text, entry, "", "").edits
+    if kind == "coils" and names:
+        return (give(texts, text, entry, "{" + ", ".join(f"{it}: pulse" for it in names) + "}"),)
     if kind == "first" and names:
         return (give(texts, text, entry, names[0]),)
     if kind == "states":
@@ -211,8 +220,10 @@ def idiom_of(scene: Scenery, text: str, entry: Entry) -> Idiom | None:
     section = section_of(entry) if entry.path else ""
     value = unquoted(raw(scene.texts, text, entry))
     own = len(entry.path) == 1 and section not in (*profile.PLAYERS, *profile.SINGLE)
+    event = len(entry.path) == 1 and section in profile.PLAYERS
     for idiom in IDIOMS:
-        fits = own if idiom.setting == ENTRY else re.fullmatch(idiom.setting, entry.key)
+        special = {ENTRY: own, EVENT: event}
+        fits = special.get(idiom.setting) if idiom.setting in special else re.fullmatch(idiom.setting, entry.key)
         if fits and re.fullmatch(idiom.section, section) and re.search(idiom.value, value):
             return idiom
     return None
@@ -238,8 +249,8 @@ def of_names(scene: Scenery, text: str, entry: Entry) -> Cure | None:
         return cure_at(scene, text, entry, (f"`{key}` is a name that is there already.",), way, whole=True)
     if re.fullmatch(r"[\w.-]{1,64}", key, re.ASCII) or not entry.path:
         return None
-    if section_of(entry) in profile.PLAYERS and re.match(r"[\w.-]+\s*\{.*\}$", key, re.ASCII):
-        return of_condition(scene, text, entry)
+    if section_of(entry) in profile.PLAYERS and "{" in key:
+        return None if values.is_event(key) else of_condition(scene, text, entry)
     right = as_name(key.split("|")[0])
     why = "A name has letters without accents, digits, `_`, `-` and `.` alone, at most 64 of them."
     write, recipe = f"Write `{right}`.", ""
@@ -253,18 +264,24 @@ def of_names(scene: Scenery, text: str, entry: Entry) -> Cure | None:
 
 def of_condition(scene: Scenery, text: str, entry: Entry) -> Cure:
     """A handled event with a condition that is not read."""
-    name, gap, inside = re.match(r"([^\s{]+)(\s*)\{(.*)\}$", entry.key).groups()  # type: ignore[union-attr]
-    right, why, write, recipe = name, ONLY_VARIABLES, IN_VARIABLE, COUNTER if "device.counters" in inside else ""
-    if re.search(r"\b(and|or|not)\b", inside):
-        why, write, recipe = ONE_COMPARISON, TWO_COMPARISONS, TWO_CONDITIONS
-    if gap:
-        right, why = f"{name}{{{inside}}}", "No blank may come before the brace."
-        write = f"Write `{right}`."
-    elif re.match(r"\s*(?!current_player\.)\w+\s*[=!<>]=?\s*-?\d+\s*$", inside):
-        right, why = f"{name}{{current_player.{inside.strip()}}}", "A condition names a variable of the current player."
-        write = f"Write `{right}`."
-    way = Way((rename(scene.texts, text, entry, right),), write, why, recipe=recipe if right == name else "")
-    return cure_at(scene, text, entry, (f"`{entry.key}` is not read as an event with a condition.",), way, whole=True)
+    says = (f"`{entry.key}` is not read as an event with a condition.",)
+    meaning = meaning_of(scene, entry.key)
+    if meaning is None:
+        return cure_at(scene, text, entry, says, Way((take_out(scene.texts, text, entry),), NO_CURE, ONLY_VARIABLES))
+    if not meaning.right:
+        edits = (take_out(scene.texts, text, entry),)
+    elif section_of(entry) == "event_player":
+        line = line_of(scene.texts, text, entry.line)
+        heads = tuple(line[: entry.start] + step for step in meaning.steps)
+        renamed = rename(scene.texts, text, entry, meaning.right)
+        edits = (replace(renamed, lines=(*heads, *renamed.lines), numbers=(*[0] * len(heads), *numbered(scene, renamed))),)
+    else:
+        edits = (rename(scene.texts, text, entry, meaning.right), *events.steps_of(scene, text, meaning.steps))
+    return cure_at(scene, text, entry, says, Way(edits, meaning.write, meaning.why, recipe=meaning.recipe), whole=True)
+
+
+def numbered(scene: Scenery, edit: Edit) -> tuple[int, ...]:
+    return tuple(line.number for line in scene.texts[edit.text][edit.first : edit.last])
 
 
 def of_value(scene: Scenery, complaint: Complaint) -> Cure:
@@ -288,6 +305,12 @@ def of_value(scene: Scenery, complaint: Complaint) -> Cure:
 def of_entry(scene: Scenery, text: str, entry: Entry) -> Cure:
     """Where the value of an entry is at fault."""
     says = takes(entry)
+    near = nearest(raw(scene.texts, text, entry), words_of(entry))
+    if near:
+        way = Way((give(scene.texts, text, entry, near),), f"Write `{near}`.", near=near)
+        return cure_at(scene, text, entry, says, way)
+    if way := events.way_of(scene, text, entry):
+        return cure_at(scene, text, entry, (), way)
     if idiom := idiom_of(scene, text, entry):
         value = unquoted(raw(scene.texts, text, entry))
         reason = powers.meant(entry.key, value)[1] if idiom.edit[0] == "power" else ""
@@ -297,16 +320,43 @@ def of_entry(scene: Scenery, text: str, entry: Entry) -> Cure:
     if not entry.path:
         way = Way((), "Write entries below it: `NAME:`, not `- NAME`.")
         return cure_at(scene, text, entry, ("A section is a mapping of entries.",), way)
-    if near := nearest(raw(scene.texts, text, entry), words_of(entry)):
-        return cure_at(
-            scene, text, entry, says, Way((give(scene.texts, text, entry, near),), f"Write `{near}`.", near=near)
-        )
     if bad := bad_items(entry):
         write = "Write names of letters, digits, `_`, `-` and `.`, with commas between them."
         way = Way((take_item_out(scene.texts, text, entry, bad[0]),), write)
         cure = cure_at(scene, text, entry, (f"`{bad[0].text}` is no name.", *says), way)
         return replace(cure, mark=(bad[0].start, bad[0].end)) if bad[0].line == entry.line else cure
-    return cure_at(scene, text, entry, says, Way((), "Write a value that it takes, or leave it out."))
+    return cure_at(scene, text, entry, says, of_kind(scene, text, entry))
+
+
+def of_kind(scene: Scenery, text: str, entry: Entry) -> Way:
+    """What to write for a value, by what its setting takes."""
+    found = setting_of(entry)
+    if found is None:
+        return Way((), "Write a value that it takes, or leave it out.")
+    names = words_of(entry)
+    if found.value.startswith("boolean"):
+        names = ["yes", "no"]
+    if names:
+        write = f"Write {' or '.join([', '.join(f'`{it}`' for it in names[:-1]), f'`{names[-1]}`'])}."
+    elif example := example_of(found.value):
+        return Way((give(scene.texts, text, entry, example),), f"Write {a(found.value)}. {EXAMPLE}")
+    else:
+        write = f"Write {a(found.value)}."
+    left_out = "none" if found.default == "none" else found.default
+    return Way((), write + (f" The copy goes on without it, so {left_out} holds." if left_out != "required" else ""))
+
+
+def a(kind: str) -> str:
+    article = "" if kind.startswith(("one ", "YAML")) else "an " if kind[:1] in "aeio" else "a "
+    return f"{article}{kind}"
+
+
+def example_of(kind: str) -> str:
+    """A value of a kind of numbers or times."""
+    if kind.startswith("integer"):
+        first = re.search(r"from (-?[\d,]+)", kind)
+        return str(max(10 if not first else 1, int(first[1].replace(",", "")) if first else 0))
+    return "1s" if kind.startswith(("time", "one time")) and "5,000" not in kind else ""
 
 
 def of_held_end(scene: Scenery, text: str, line: int) -> Cure | None:
@@ -318,11 +368,17 @@ def of_held_end(scene: Scenery, text: str, line: int) -> Cure | None:
     if line != (starts or mode).line or starts and bad_items(starts):
         return None
     out = (take_out(scene.texts, text, wait),)
-    right = "ball_ending"
-    edit = give(scene.texts, text, starts, right) if starts else add(scene.texts, text, mode, f"start_events: {right}")
-    says = ("With `use_wait_queue: yes` the end of the ball waits for the mode, so it starts at `ball_ending` alone.",)
-    way = Way((edit,), f"Write `start_events: {right}`; or take `use_wait_queue` out.")
     marked = starts or mode
+    says = ("With `use_wait_queue: yes` the end of the ball waits for the mode, so it starts at `ball_ending` alone.",)
+    if starts and starts.value.texts():
+        names = [values.event_of(it.text) for it in starts.value.texts()]
+        write = "Take `use_wait_queue` out: nothing but the end of the ball waits for a mode."
+        if "ball_ending" in names:
+            write = f"{write} To keep the wait at `ball_ending`, write a mode of its own for the other start events."
+        return Cure(says, True, (Way(out, write),), out, (marked.start, marked.end))
+    right = "start_events: ball_ending"
+    edit = give(scene.texts, text, starts, "ball_ending") if starts else add(scene.texts, text, mode, right)
+    way = Way((edit,), f"Write `{right}`; or take `use_wait_queue` out.")
     return Cure(says, True, (way, Way(out, way.write)), out, (marked.start, marked.end))
 
 
@@ -348,7 +404,12 @@ def takes(entry: Entry) -> tuple[str, ...]:
 
 
 def words_of(entry: Entry) -> list[str]:
+    """The words that a setting takes."""
     found = setting_of(entry)
+    if setting_table(entry) == "control_events" and entry.key == "action":
+        return profile.actions()
+    if section_of(entry) == "coil_player" and len(entry.path) == 2:
+        return profile.names(profile.settings("coil_player")["action"].value)
     return profile.names(found.value) if found else []
 
 
@@ -366,27 +427,44 @@ def of_mode_name(scene: Scenery, text: str, line: int) -> Cure:
 
 
 def of_missing(scene: Scenery, complaint: Complaint) -> Cure:
-    text, key = complaint.text, complaint.key
-    entry = scene.around(text, complaint.line - 1)
-    named = [it for it in [entry, *(entry.path[::-1] if entry else ())] if it and it.line == complaint.line - 1]
-    if not named:
+    text, key, line = complaint.text, complaint.key, complaint.line - 1
+    here = [it for it in outline.entries(scene.outlines[text]) if it.line == line]
+    items = items_without(scene.outlines[text], line, key)
+    entry = next((it for it in here if requires(it, key)), None) or (items[0][0] if items else next(iter(here), None))
+    if entry is None:
         return Cure()
-    entry = next((it for it in named if setting_misses(it, key)), named[0])
-    table = section_of(entry) if entry.path else entry.key
-    called = profile.CALLED.get("control_events" if entry.key == "control_events" else table, "It")
-    stand_in = STAND_INS.get(key, f"a_{key}") if (table, key) != ("timers", "action") else "start"
-    out = (take_out(scene.texts, text, entry),)
+    table = setting_table(entry)
+    in_item = bool(items) and not requires(entry, key)
+    if in_item and "control_events" in (entry.key, table):
+        table = "control_events"
+    called = profile.CALLED.get(table, "It")
+    stand_in = "start" if (table, key) == ("control_events", "action") else STAND_INS.get(key, f"a_{key}")
     near = nearest(key, [it.key for it in entry.value.entries or []])
-    says = (f"{called[0].upper()}{called[1:]} has to have `{key}`, and `{entry.key}` has none.",)
-    why = f"It has `{near}`." if near else ""
-    write = f"Write `{key}:` below `{entry.key}`. {EXAMPLE}"
-    way = Way((add(scene.texts, text, entry, f"{key}: {stand_in}"),), write, why)
-    return Cure(says, True, (way, Way(out, way.write, why)), out, (entry.start, entry.end))
+    where = f"an item of `{entry.key}`" if in_item else f"`{entry.key}`"
+    says = (f"{called[0].upper()}{called[1:]} has to have `{key}`, and {where} has none.",)
+    setting = f"{key}: {stand_in}"
+    edit = add_to_item(scene.texts, text, items[0][1], setting) if in_item else add(scene.texts, text, entry, setting)
+    shown = edit.lines[0].strip() if len(edit.lines) == 1 else setting
+    way = Way((edit,), f"Write `{key}:` there, as `{shown}`. {EXAMPLE}", f"It has `{near}`." if near else "")
+    out = (take_out(scene.texts, text, entry),)
+    return Cure(says, True, (way, Way(out, way.write, way.why)), out, (entry.start, entry.end))
 
 
-def setting_misses(entry: Entry, key: str) -> bool:
-    keys = [it.key for it in entry.value.entries or []]
-    return bool(entry.path) and key not in keys
+def requires(entry: Entry, key: str) -> bool:
+    """Whether an entry is one that has settings, and not this one."""
+    depth = 2 if section_of(entry) in ("coil_player", "variable_player") else 1
+    has_settings = bool(entry.value.entries) or depth == 1 and entry.value.items is None and not entry.value.text
+    return len(entry.path) == depth and has_settings and key not in [it.key for it in entry.value.entries or []]
+
+
+def items_without(root: Node, line: int, key: str) -> list[tuple[Entry, Node]]:
+    """The mappings in lists, at a line, that have no such setting; each with the entry that has the list."""
+    return [
+        (entry, item)
+        for entry in outline.entries(root)
+        for item in entry.value.items or []
+        if item.entries is not None and item.line == line and key not in [it.key for it in item.entries]
+    ]
 
 
 def of_duplicate(scene: Scenery, complaint: Complaint) -> Cure:
