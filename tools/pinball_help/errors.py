@@ -6,7 +6,7 @@ from pathlib import Path
 
 from .answers import Answer, Complaint
 from .findings import Finding, cure_of, finding_of
-from .mending import commented, take_out
+from .mending import commented, line_of, take_out
 from .probes import OutOfTime, Probes, Verdict, is_error
 from .program import Program
 from .scenery import Scenery
@@ -15,6 +15,7 @@ from .ways import Cure, Way
 
 ROUNDS = 500
 WITHIN = 10.0  # seconds of its own work: a text may be written to take for ever
+MOST_MENDS = 8  # of one complaint, each after a change of its line
 MOST_TRIES = 3  # to mend one place before something is taken out
 ALONE = ("Bundle", "Limit", "Cycle", "Bound")  # what has to be mended before others are said
 BEST = (0, 0)
@@ -58,6 +59,7 @@ class Search:
         self.counts: dict[tuple, int] = {}
         self.gone: set[str] = set()  # names that the copy defines no more
         self.touched: set[tuple[str, int, str]] = set()  # what has lost something: text, line of the file, key
+        self.moved: set[tuple[str, int]] = set()  # lines of the files that the copy has elsewhere
         self.faults_were_reported = False
         self.progress = Progress("found")
 
@@ -119,10 +121,8 @@ class Search:
         cures = [self.cure(it) for it in complaints]
         ways = self.probes.workers.map(self.choose, complaints, cures)
         for complaint, cure, way in zip(complaints, cures, ways):
-            if way and any(overlap(one, other) for one in way.edits for other in taken):
-                continue  # (it is found again)
             self.add_finding(complaint, cure, way or next(iter(cure.ways), None))
-            if way:
+            if way and not any(overlap(one, other) for one in way.edits for other in taken):
                 taken += way.edits
                 self.count(complaint)
                 self.touch(complaint)
@@ -133,7 +133,7 @@ class Search:
 
     def choose(self, complaint: Complaint, cure: Cure) -> Way | None:
         """The likeliest way that helps. What takes something out comes last, the smallest part first."""
-        tries = self.counts.get(self.identity(complaint), 0)
+        tries = self.tries(complaint)
         ways = [it for it in cure.ways if it.edits]
         if complaint.name != "Yaml":
             return next(iter([*ways, *self.last_ways(complaint)][tries:]), None)
@@ -160,8 +160,18 @@ class Search:
         return [Way((take_out(self.scene.texts, complaint.text, it),)) for it in outer]
 
     def count(self, complaint: Complaint) -> None:
-        """Counts how often a complaint has been mended."""
-        self.counts[self.identity(complaint)] = self.counts.get(self.identity(complaint), 0) + 1
+        """Counts how often a complaint has been mended, and how often at this same line."""
+        for key in self.identity(complaint), (*self.identity(complaint), self.line(complaint)):
+            self.counts[key] = self.counts.get(key, 0) + 1
+
+    def tries(self, complaint: Complaint) -> int:
+        """How often a complaint has been mended in vain. If its line has changed, it is another one, for some time."""
+        all_tries = self.counts.get(self.identity(complaint), 0)
+        here = self.counts.get((*self.identity(complaint), self.line(complaint)), 0)
+        return max(here, all_tries - MOST_MENDS)
+
+    def line(self, complaint: Complaint) -> str:
+        return line_of(self.scene.texts, complaint.text, complaint.line - 1)
 
     def identity(self, complaint: Complaint) -> tuple:
         number = self.scene.number(complaint.text, complaint.line - 1)
@@ -184,6 +194,8 @@ class Search:
             return complaint.key in self.gone or self.faults_were_reported
         if complaint.name in ("Missing", "BadValue"):
             return (complaint.text, number, complaint.key) in self.touched
+        if complaint.key == "DuplicateKey":
+            return (complaint.text, number) in self.moved
         if complaint.message in (
             "fault 2 PulseLimit", "fault 3 PowerLimit", "fault 4 HoldNotAllowed", "fault 6 BallRoute"
         ):
@@ -203,6 +215,7 @@ class Search:
 
     def change(self, edits: tuple[Edit, ...]) -> None:
         names = self.names()
+        self.moved |= {(it.text, number) for it in edits if it.first == it.last for number in it.numbers}
         if self.leave_out:
             edits = tuple(commented(edit, self.scene.texts, self.why(edit)) for edit in edits)
         self.scene = Scenery(edited(self.scene.texts, edits), self.scene)

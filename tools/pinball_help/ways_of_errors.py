@@ -15,6 +15,7 @@ from .outline import Entry, Node, unquoted
 from .scenery import Scenery, raw, section_of, setting_table
 from .texts import MACHINE, VERSION, Edit
 from .ways import Cure, Way
+from .ways_of_yaml import joined_blocks
 
 EXAMPLE = "The value below is an example."
 PLACEHOLDER = r"\(([^)]*)\)"
@@ -71,8 +72,11 @@ def of_section(scene: Scenery, complaint: Complaint) -> Cure:
     if near := nearest(key, [*here, *profile.skipped()]):
         edit = rename(scene.texts, text, entry, near)
         out = (take_out(scene.texts, text, entry),)
-        twice = any(it.key == near for it in scene.outlines[text].entries or [])
-        ways = () if twice else (Way((edit,), f"Write `{near}:`.", near=near),)
+        twin = next((it for it in scene.outlines[text].entries or [] if it.key == near), None)
+        ways = () if twin else (Way((edit,), f"Write `{near}:`.", near=near),)
+        if twin and (edits := joined_blocks(scene.texts, text, twin, entry)):
+            words = f"Move its entries to `{near}`, line {scene.number(text, twin.line)}."
+            ways = (Way(edits, words, near=near),)
         return Cure(ways=(*ways, Way(out, "Take it out.", near=near)), out=out, mark=(entry.start, entry.end))
     settings = {name for section in profile.TABLES for name in profile.settings(section)} | profile.of_other_tools()
     if key in settings:
@@ -331,6 +335,8 @@ def of_entry(scene: Scenery, text: str, entry: Entry) -> Cure:
 def of_kind(scene: Scenery, text: str, entry: Entry) -> Way:
     """What to write for a value, by what its setting takes."""
     found = setting_of(entry)
+    if section_of(entry) == "variable_player" and len(entry.path) == 2:
+        return Way((give(scene.texts, text, entry, "1"),), f"Write a whole number. {EXAMPLE}")
     if found is None:
         return Way((), "Write a value that it takes, or leave it out.")
     names = words_of(entry)
