@@ -58,7 +58,8 @@ def entry_at(lines: list[str], section: Block, at: int) -> Block:
 
 
 def begins_entry(line: str, depth: int) -> bool:
-    return bool(content(line).strip()) and indentation(line) <= depth
+    """Whether an entry begins here. A line with a tab before its content is taken as deeper."""
+    return bool(content(line).strip()) and indentation(line) <= depth and "\t" not in line[: indentation(line)]
 
 
 def depth_of(lines: list[str], inside: Block) -> int:

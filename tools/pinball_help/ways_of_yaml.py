@@ -125,7 +125,9 @@ def of_indents(scene: Scenery, text: str, at: int) -> list[Way]:
                          "The value of the line before it seems to continue here."))
     for column in columns_above(texts, text, at):
         way = f"Indent the line by {column} spaces, as the lines around it."
-        found.append(Way((reindented(texts, text, at, column),), way, "It is in no column of the blocks around it."))
+        alone = Edit(text, at, at + 1, (" " * column + line.lstrip(),))
+        for edit in (alone, reindented(texts, text, at, column)):
+            found.append(Way((edit,), way, "It is in no column of the blocks around it."))
     return found
 
 
