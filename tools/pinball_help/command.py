@@ -102,7 +102,7 @@ def write_explain(asked: argparse.Namespace) -> int:
 def longest(answer: Answer) -> str:
     """What starts the longest cascade, by the lines of switches in a certificate."""
     most = max(answer.switches.values())
-    names = [f"`{name}`" for name, cost in answer.switches.items() if cost == most]
+    names = [f"`{clean(name)}`" for name, cost in answer.switches.items() if cost == most]
     switches = f"any of {len(names)} switches" if len(names) > MOST_NAMES else " or ".join(names)
     if most == answer.bound:
         return f"A cascade has at most {answer.bound:,} lines. A change of {switches} can cause so many."
