@@ -12,10 +12,15 @@ from help_tests.common import EXAMPLES, TOP
 
 HELP = TOP / "tools/pinball_help"
 MACHINES = [*EXAMPLES, HELP / "planted", *sorted((HELP / "machines").glob("*"))]
-SIGNS = [":", " ", "\n", "\t", "[", "]", "{", "}", "'", '"', "#", "- ", "&a ", "*a", "|", "%", "é", "\r", "\0", "\x1b[31m", "<",
-         "\u202e", "\ufeff", "\u2028", "@ ", "\x85", "---\n", "? ", "!x ", ", ", "=", "99999999999999999999", "a: b\n"]
-NAMES = ["{{data}}<img src=x onerror=alert(1)>", "-h", "--json", "\x1b[31mred", "a\nyes\n", "</script><script>alert(1)</script>",
-         "'\"$(x)`", "\udcff\udcfe", "é\u202e", "n" * 200, " ", "%s {0} {key}", "..."]
+SIGNS = [
+    ":", " ", "\n", "\t", "[", "]", "{", "}", "'", '"', "#", "- ", "&a ", "*a", "|", "%", "é", "\r", "\0", "\x1b[31m",
+    "<",
+    "\u202e", "\ufeff", "\u2028", "@ ", "\x85", "---\n", "? ", "!x ", ", ", "=", "99999999999999999999", "a: b\n",
+]
+NAMES = [
+    "{{data}}<img src=x onerror=alert(1)>", "-h", "--json", "\x1b[31mred", "a\nyes\n", "<script>alert(1)<", "'\"$(x)`",
+    "\udcff\udcfe", "é\u202e", "n" * 200, " ", "%s {0} {key}", "...",
+]
 
 
 @dataclass(frozen=True)
@@ -101,8 +106,11 @@ def blocks(folder: Path, draw: random.Random) -> None:
 
 
 def odd_keys(folder: Path, draw: random.Random) -> None:
-    key = draw.choice(('"a\\nyes"', '"\\n\\n  To do: run this"', "'\x1b[2J'", '"\\t"', "'{{js}}'", "</script>", "'{0}'", "a" * 2000))
-    add(folder, draw.choice((f"{key}: 1", f"switches:\n  {key}: {{{key}: 1}}", f"event_player:\n  a: {key}\n  {key}: a")))
+    key = draw.choice((
+        '"a\\nyes"', '"\\n\\n  To do: run this"', "'\x1b[2J'", '"\\t"', "'{{js}}'", "</script>", "'{0}'", "a" * 2000
+    ))
+    places = (f"{key}: 1", f"switches:\n  {key}: {{{key}: 1}}", f"event_player:\n  a: {key}\n  {key}: a")
+    add(folder, draw.choice(places))
 
 
 def odd_numbers(folder: Path, draw: random.Random) -> None:
@@ -124,8 +132,8 @@ def a_pipe(folder: Path, draw: random.Random) -> None:
 
 
 def a_link(folder: Path, draw: random.Random) -> None:
-    target = draw.choice(("/dev/zero", "/dev/null", "/dev/stdin", "/proc/self/mem", "nowhere", "config.yaml", "/", "/proc/1/environ"))
-    instead(a_mode(folder, draw), lambda path: path.symlink_to(target))
+    targets = ("/dev/zero", "/dev/null", "/dev/stdin", "/proc/self/mem", "nowhere", "config.yaml", "/")
+    instead(a_mode(folder, draw), lambda path: path.symlink_to(draw.choice(targets)))
 
 
 def odd_modes(folder: Path, draw: random.Random) -> None:
@@ -150,13 +158,15 @@ def many_lines(folder: Path, draw: random.Random) -> None:
 
 
 def many_entries(folder: Path, draw: random.Random) -> None:
-    entry = draw.choice(("  e_{0}: e_{1}", "  e_{0}: e_{1}|2s", "  e_{0}{{current_player.lit}}: e_{1}", "  e_{0}: (name)_{1}"))
-    add(folder, "event_player:\n" + "\n".join(entry.format(at, at + 1) for at in range(draw.choice((3_000, 9_000)))))
+    values = ("  e_{0}: e_{1}", "  e_{0}: e_{1}|2s", "  e_{0}{{current_player.lit}}: e_{1}", "  e_{0}: (name)_{1}")
+    entry, count = draw.choice(values), draw.choice((3_000, 9_000))
+    add(folder, "event_player:\n" + "\n".join(entry.format(at, at + 1) for at in range(count)))
 
 
 def a_long_line(folder: Path, draw: random.Random) -> None:
-    part = draw.choice(("a", " ", "a ", "a, ", "[", "{a: ", "'", '"', ":", ": ", "#", "{", "a{", "- ", "\t", "é", "&a ", "a|1s "))
-    add(folder, draw.choice(("x: ", "event_player:\n  a: ", "", "coils: [")) + part * draw.choice((40_000, 150_000)))
+    parts = ("a", " ", "a ", "a, ", "[", "{a: ", "'", '"', ":", ": ", "#", "{", "a{", "- ", "\t", "é", "&a ", "a|1s ")
+    before = draw.choice(("x: ", "event_player:\n  a: ", "", "coils: ["))
+    add(folder, before + draw.choice(parts) * draw.choice((40_000, 150_000)))
 
 
 def too_long(folder: Path, draw: random.Random) -> None:

@@ -29,7 +29,10 @@ from pinball_help.texts import MACHINE, read_texts
 
 MOST_SECONDS, MOST_BYTES = 2.0, 200 << 20
 FEW = 40  # of the damaged folders that are tried with the other tests
-COMMANDS = ("errors", "errors --json", "errors --keep", "unused", "unused --json", "picture", "explain", "explain --json", "trace")
+COMMANDS = (
+    "errors", "errors --json", "errors --keep", "unused", "unused --json", "picture", "explain", "explain --json",
+    "trace",
+)
 IS_UNPROVED = b"__asan_init" in Path(PROGRAM.path).read_bytes() if Path(PROGRAM.path).is_file() else False
 
 
@@ -110,6 +113,7 @@ def wrong(name: str, ran: Ran, room: Path) -> str:
         return f"status {ran.status} without a word"
     if ran.seconds > MOST_SECONDS or ran.bytes > MOST_BYTES:
         return f"{ran.seconds:.1f} s and {ran.bytes >> 20} MiB"
+    # (what a person reads has no control characters; JSON has them as escapes)
     raw = [it for it in ran.out + ran.complaints if it != "\n" and not it.isprintable()]
     if raw:
         return f"prints {raw[0]!r}"

@@ -5,7 +5,9 @@ from dataclasses import dataclass
 from .messages import MESSAGES
 
 # NAME, TEXT and LINE of an `error`, and of the faults 1 to 6, have the same places
-PLACED = re.compile(r"^(?P<kind>error|fault) (?P<number>[0-9]{1,3}) (?P<name>\w+) (?P<text>.+?) (?P<line>[0-9]{1,9}) (?P<key>.*)$")
+PLACED = re.compile(
+    r"^(?P<kind>error|fault) (?P<number>[0-9]{1,3}) (?P<name>\w+) (?P<text>.+?) (?P<line>[0-9]{1,9}) (?P<key>.*)$"
+)
 WHOLE = re.compile(r"^fault (?P<number>[0-9]{1,3}) (?P<name>\w+)(?: (?P<rest>.*))?$")
 NOTE = re.compile(r"^note (?P<text>.+?) (?P<line>[0-9]{1,9}) (?P<name>skipped|absent|unlisted) (?P<key>.*)$")
 REFUSED = re.compile(r"^refused (?P<line>[0-9]{1,9}) (?P<number>[0-9]{1,3}) (?P<name>\w+)$")

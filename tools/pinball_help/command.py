@@ -191,7 +191,7 @@ def parser() -> argparse.ArgumentParser:
         "--keep", metavar="COPY", help="writes a folder in which all that is refused is left out, with comments"
     )
     one.add_argument(
-        "--within", type=float, default=errors.WITHIN, metavar="SECONDS", help="stops to look after so much work of its own"
+        "--within", type=float, default=errors.WITHIN, metavar="SECONDS", help="stops to look after so much own work"
     )
     with_program(one)
     one.set_defaults(run=write_errors)
@@ -207,10 +207,16 @@ def parser() -> argparse.ArgumentParser:
     one.add_argument("--json", action="store_true")
     with_program(one)
     one.set_defaults(run=write_unused)
+    add_views(commands)
+    return top
+
+
+def add_views(commands: "argparse._SubParsersAction[argparse.ArgumentParser]") -> None:
+    """Adds the subcommands that show what a machine does, and that help to write it."""
     one = commands.add_parser("trace", help="a filter for what `pinball play` writes")
     one.add_argument("--owner", default="", help="only what this mode does, or `machine`")
     one.add_argument("--device", default="", help="only lines that name this switch, coil, counter, shot ..")
-    one.add_argument("--event", default="", metavar="PATTERN", type=pattern, help="only events that a regular expression finds")
+    one.add_argument("--event", default="", metavar="PATTERN", type=pattern, help="only events with this expression")
     one.add_argument("--from", dest="start", default="0", metavar="TIME", help="as 0:05.250, 5.25s or 5250")
     one.add_argument("--to", dest="end", default="", metavar="TIME")
     one.set_defaults(run=write_trace)
@@ -220,10 +226,9 @@ def parser() -> argparse.ArgumentParser:
     one.add_argument("-o", "--output", default="-", metavar="FILE", help="where the page goes; else standard output")
     with_program(one)
     one.set_defaults(run=write_picture)
-    one = commands.add_parser("schema", help="JSON Schemas, by which an editor completes and underlines what you write")
+    one = commands.add_parser("schema", help="JSON Schemas, by which an editor completes what you write")
     one.add_argument("dir", metavar="FOLDER", help="where the two schemas go")
     one.set_defaults(run=write_schema)
-    return top
 
 
 def main() -> int:
