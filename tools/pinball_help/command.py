@@ -3,11 +3,12 @@ import argparse
 import io
 import json
 import re
+import shlex
 import sys
 from dataclasses import asdict, replace
 from pathlib import Path
 
-from . import errors, picture, program, schema, trace, unused
+from . import errors, hints, picture, program, schema, short, trace, unused
 from .answers import Answer, answer_of, complaint_of
 from .findings import Finding, as_json, cure_of, finding_of, shown
 from .printed import clean
@@ -22,6 +23,7 @@ NO_PROOF = "These are hints, and nothing here is proved. The answer that counts 
 LINE_NUMBERS = (
     "Line numbers are those of your files now: begin with the last one, or run this again after each change."
 )
+MOST_IN_FULL = 8  # findings; more are listed in short form
 MOST_NAMES = 3  # of switches that are named, and not counted
 MOST_OF_YES = 10_000  # lines of a certificate, which has one for each event and switch
 
@@ -36,20 +38,34 @@ def write_errors(asked: argparse.Namespace) -> int:
     if keep:
         write_texts(report.texts, keep)
     warning = kept_words(report, keep) if keep and report.findings else ""
+    more = hints.hints(report.scene, Path(asked.dir))
     if asked.json:
-        print(json.dumps([as_json(it) for it in found], indent=2))
+        print(json.dumps([*(as_json(it) for it in found), *map(hint_as_json, more)], indent=2))
         print(warning, end="", file=sys.stderr)
         return 1 if found else 0
     print(warning, end="\n" if warning else "")
-    for number, finding in enumerate(found, 1):
+    is_short = len(found) > MOST_IN_FULL and not asked.full
+    if is_short:
+        print("\n".join(short.shown(found)))
+    for number, finding in enumerate([] if is_short else found, 1):
         print(f"{number}. " + "\n".join(shown(finding)) + "\n")
-    print(counted(report, found))
+    for it in more:
+        print(clean(f"{it.text}:{it.line}: hint {it.key}: {it.says}"))
+    print(counted(report, found, f"pinball-help errors --full {shlex.quote(asked.dir)}" if is_short else ""))
     print(NO_PROOF)
     print(warning, end="")
     return 1 if found else 0
 
 
-def counted(report: errors.Report, found: list[Finding]) -> str:
+def hint_as_json(hint: hints.Hint) -> dict:
+    """A hint as editors read it, with the same fields as a finding."""
+    said = f"hint {hint.text} {hint.line} {hint.key}"
+    return {"said": said, "message": "hint", "text": hint.text, "line": hint.line, "column": 1, "width": 1,
+            "says": [hint.says], "write": "", "severity": "hint"}
+
+
+def counted(report: errors.Report, found: list[Finding], full: str) -> str:
+    """How many there are; `full` is the command that says more, if there is one."""
     follows = len(report.findings) - len(found)
     if not report.findings:
         return "Nothing to mend: the answer is yes."
@@ -58,6 +74,8 @@ def counted(report: errors.Report, found: list[Finding]) -> str:
         more += " There may be others that come after the last of these: mend it, and look again."
     if len(found) < 2:
         return f"{len(found)} to mend.{more}"
+    if full:
+        return f"{len(found)} to mend, in this order or any other.{more} For lines, reasons and changes: {full}"
     return f"{len(found)} to mend, in this order or any other.{more}\n{LINE_NUMBERS}"
 
 
@@ -187,6 +205,7 @@ def parser() -> argparse.ArgumentParser:
     one = commands.add_parser("errors", help="all errors and faults of a machine at once")
     one.add_argument("dir", metavar="DIR")
     one.add_argument("--json", action="store_true", help="for editors")
+    one.add_argument("--full", action="store_true", help="each finding with its lines, also if there are many")
     one.add_argument(
         "--keep", metavar="COPY", help="writes a folder in which all that is refused is left out, with comments"
     )

@@ -27,6 +27,7 @@ class Report:
     findings: list[Finding] = field(default_factory=list)
     texts: Texts = field(default_factory=dict)  # the copy, as it was at last
     answer: Answer | None = None  # of the copy
+    scene: Scenery = field(default_factory=lambda: Scenery({}))  # of the copy
     unsolved: bool = False  # something was refused, and no way was found to look further
 
 
@@ -71,7 +72,7 @@ class Search:
             self.report.unsolved = True
         finally:
             self.progress.end()
-        self.report.texts, self.report.answer = self.scene.texts, answer
+        self.report.texts, self.report.scene, self.report.answer = self.scene.texts, self.scene, answer
         order = {name: at for at, name in enumerate(self.scene.texts)}
         self.report.findings.sort(key=lambda it: (it.line == 0, order.get(it.text, -1), it.line))
         return self.report
@@ -127,14 +128,13 @@ class Search:
                 self.count(complaint)
                 self.touch(complaint)
         self.faults_were_reported |= not is_error(complaints[0])
-        before = self.scene.texts
         self.change(tuple(taken))
-        return self.scene.texts != before
+        return bool(taken)
 
     def choose(self, complaint: Complaint, cure: Cure) -> Way | None:
         """The likeliest way that helps. What takes something out comes last, the smallest part first."""
         tries = self.tries(complaint)
-        ways = [it for it in cure.ways if it.edits]
+        ways = [it for it in cure.ways if it.edits and edited(self.scene.texts, it.edits) != self.scene.texts]
         if complaint.name != "Yaml":
             return next(iter([*ways, *self.last_ways(complaint)][tries:]), None)
         mends, removals = [it for it in ways if not is_removal(it)], [it for it in ways if is_removal(it)]

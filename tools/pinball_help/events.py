@@ -108,5 +108,6 @@ def hits_way(scene: Scenery, text: str, entry: Entry, word: str, why: str) -> Wa
     """The switches of a shot, as the events that hit it."""
     names = ", ".join(f"{it.text}_active" for it in entry.value.texts())
     value = f"[{names}]" if entry.in_braces else names
-    return Way((give(scene.texts, text, entry, value, "hit_events"),), f"Write `hit_events: {value}`. {word}", why)
+    edit = give(scene.texts, text, entry, value, "hit_events")
+    return Way((edit,), f"Write `hit_events: {value}`. {word}", why, "hit_events")
 

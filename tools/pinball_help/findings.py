@@ -207,4 +207,4 @@ def kind_of(change: Change) -> str:
 
 def as_json(finding: Finding) -> dict:
     """The finding as editors read it."""
-    return asdict(finding)
+    return {**asdict(finding), "severity": "error"}

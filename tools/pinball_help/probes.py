@@ -22,7 +22,8 @@ def is_error(complaint: Complaint) -> bool:
 
 @dataclass(frozen=True)
 class Verdict:
-    """What is the first error of an edited entry, and whether it is at a line that the edit has changed."""
+    """What is the first error of an edited entry, and whether it is at a line that the edit has changed, or at the head
+    of the section."""
 
     error: Complaint | None
     at_edit: bool
@@ -99,7 +100,8 @@ class Probes:
         if error is None:
             return Verdict(None, False)
         line = after[error.line - 1] if 0 < error.line <= len(after) else Line(0, "")
-        return Verdict(replace(error, line=error.line - len(after) + len(before)), id(line) not in old)
+        at_edit = id(line) not in old or blocks.begins_section(line.text)
+        return Verdict(replace(error, line=error.line - len(after) + len(before)), at_edit)
 
 
 def around(lines: list[str], at: int, edits: list[Edit]) -> set[int]:

@@ -6,7 +6,7 @@ from . import drop_targets, events, overwrites, powers, profile, values
 from .answers import Complaint
 from .idioms import OLDER_NAMES, RECIPES, RECIPES_OF_SECTIONS, SECTIONS, SECTIONS_RENAMED, SETTINGS
 from .conditions import NO_CURE, ONLY_VARIABLES, meaning_of
-from .idioms_of_values import ACTS_LATER, DELAY, ENTRY, EVENT, IDIOMS, Idiom
+from .idioms_of_values import ACTS_LATER, ANY, DELAY, ENTRY, EVENT, IDIOMS, Idiom
 from .graph import says_yes, setting
 from .mending import add, add_to_item, blanks, block_end, give, line_of, rename, substitute, take_item_out, take_out
 from .near import nearest
@@ -309,13 +309,14 @@ def of_value(scene: Scenery, complaint: Complaint) -> Cure:
 def of_entry(scene: Scenery, text: str, entry: Entry) -> Cure:
     """Where the value of an entry is at fault."""
     says = takes(entry)
-    near = nearest(raw(scene.texts, text, entry), words_of(entry))
+    idiom = idiom_of(scene, text, entry)
+    near = nearest(raw(scene.texts, text, entry), words_of(entry)) if idiom is None or idiom.value == ANY else ""
     if near:
         way = Way((give(scene.texts, text, entry, near),), f"Write `{near}`.", near=near)
         return cure_at(scene, text, entry, says, way)
     if way := events.way_of(scene, text, entry):
         return cure_at(scene, text, entry, (), way)
-    if idiom := idiom_of(scene, text, entry):
+    if idiom:
         value = unquoted(raw(scene.texts, text, entry))
         reason = powers.meant(entry.key, value)[1] if idiom.edit[0] == "power" else ""
         why = f"{idiom.mpf} {reason}".rstrip()

@@ -224,6 +224,8 @@ def of_brackets(scene: Scenery, text: str, at: int) -> list[Way]:
 def of_open_flow(scene: Scenery, text: str, at: int) -> list[Way]:
     """A list that continues on the next, deeper lines: all of it on one line."""
     lines = [without_comment(line_of(scene.texts, text, at))]
+    if lines[0].count("[") <= lines[0].count("]") and lines[0].count("{") <= lines[0].count("}"):
+        return []
     for number in range(at + 1, min(at + 200, len(scene.texts[text]))):
         line = without_comment(line_of(scene.texts, text, number))
         if line.strip() and indentation(line) <= indentation(lines[0]) and line.strip()[0] not in "]}":
