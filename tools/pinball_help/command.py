@@ -75,7 +75,7 @@ def counted(report: errors.Report, found: list[Finding], full: str) -> str:
     if len(found) < 2:
         return f"{len(found)} to mend.{more}"
     if full:
-        return f"{len(found)} to mend, in this order or any other.{more} For lines, reasons and changes: {full}"
+        return f"{len(found)} to mend.{more} Each in full: {full}"
     return f"{len(found)} to mend, in this order or any other.{more}\n{LINE_NUMBERS}"
 
 

@@ -56,9 +56,9 @@ def of_pulses(scene: Scenery) -> list[Hint]:
     coils = [it.key for _, it in scene.entries_of("coils") if not it.value.at("default_pulse_ms")]
     if entry is None or not coils:
         return []
-    which = f"`{coils[0]}`" if len(coils) == 1 else f"`{coils[0]}` and {len(coils) - 1} more coils"
-    says = f"The section `mpf` is not read, so {which} without a `default_pulse_ms` get 10 ms."
-    return [hint(scene, MACHINE, entry.line, entry.key, f"{says} Write it at each coil.")]
+    which = f"`{coils[0]}` gets" if len(coils) == 1 else f"{len(coils)} coils without it get"
+    says = f"`mpf` is not read, so {which} 10 ms: write it there."
+    return [hint(scene, MACHINE, entry.line, entry.key, says)]
 
 
 def of_modes(scene: Scenery, folder: Path) -> list[Hint]:
@@ -77,7 +77,7 @@ def why_absent(folder: Path, item: Node) -> str:
         return f"A blank is missing after the dash: write `- {name[1:]}`."
     near = [it for it in names_in(folder / "modes") if it.lower() == name.lower()]
     if near and name not in near:
-        return f"The folder is called `modes/{near[0]}`: capital and small letters differ, so the mode has no text."
+        return f"The folder is `modes/{near[0]}`: capital letters count, so the mode has no text."
     inside = names_in(folder / "modes" / name / "config")
     other = [it for it in inside if it.lower() in (f"{name.lower()}.yaml", f"{name.lower()}.yml")]
     if other:
