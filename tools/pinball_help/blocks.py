@@ -1,5 +1,4 @@
 """The sections and entries of a text as blocks of lines, by indentation alone: so also those of a text with faults."""
-import re
 from dataclasses import dataclass
 
 from .outline import indentation, is_item, without_comment

@@ -6,8 +6,8 @@ The rows for values are in idioms_of_values.py. tools/test_help tries each row."
 SECTIONS = {
     "achievements": "Write a variable for each achievement, and a `variable_player` that sets it.",
     "auditor": "Take it out: nothing is audited here.",
-    "ball_holds": "Write a ball device with `mechanical_eject: yes` and without `eject_coil`: it holds its ball until a "
-    "`coil_player` pulses the coil.",
+    "ball_holds": "Write a ball device with `mechanical_eject: yes` and without `eject_coil`: it holds its ball until "
+    "a `coil_player` pulses the coil.",
     "ball_routings": "Write the way of the balls as `eject_targets` of the `ball_devices`.",
     "ball_locks": "Take it out: locks are not carried out.",
     "combo_switches": "Write a variable for each switch, and an entry with a condition on the other one.",

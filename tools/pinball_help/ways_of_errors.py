@@ -2,7 +2,7 @@
 import re
 from dataclasses import replace
 
-from . import drop_targets, events, overwrites, powers, profile, values
+from . import drop_targets, events, outline, overwrites, powers, profile, values
 from .answers import Complaint
 from .idioms import OLDER_NAMES, RECIPES, RECIPES_OF_SECTIONS, SECTIONS, SECTIONS_RENAMED, SETTINGS
 from .conditions import NO_CURE, ONLY_VARIABLES, meaning_of
@@ -10,7 +10,6 @@ from .idioms_of_values import ACTS_LATER, ANY, DELAY, ENTRY, EVENT, IDIOMS, Idio
 from .graph import says_yes, setting
 from .mending import add, add_to_item, blanks, block_end, give, line_of, rename, substitute, take_item_out, take_out
 from .near import nearest
-from . import outline
 from .outline import Entry, Node, unquoted
 from .scenery import Scenery, raw, section_of, setting_table
 from .texts import MACHINE, VERSION, Edit
@@ -278,14 +277,11 @@ def of_condition(scene: Scenery, text: str, entry: Entry) -> Cure:
         line = line_of(scene.texts, text, entry.line)
         heads = tuple(line[: entry.start] + step for step in meaning.steps)
         renamed = rename(scene.texts, text, entry, meaning.right)
-        edits = (replace(renamed, lines=(*heads, *renamed.lines), numbers=(*[0] * len(heads), *numbered(scene, renamed))),)
+        numbers = (*[0] * len(heads), *(it.number for it in scene.texts[text][renamed.first : renamed.last]))
+        edits = (replace(renamed, lines=(*heads, *renamed.lines), numbers=numbers),)
     else:
         edits = (rename(scene.texts, text, entry, meaning.right), *events.steps_of(scene, text, meaning.steps))
     return cure_at(scene, text, entry, says, Way(edits, meaning.write, meaning.why, recipe=meaning.recipe), whole=True)
-
-
-def numbered(scene: Scenery, edit: Edit) -> tuple[int, ...]:
-    return tuple(line.number for line in scene.texts[edit.text][edit.first : edit.last])
 
 
 def of_value(scene: Scenery, complaint: Complaint) -> Cure:

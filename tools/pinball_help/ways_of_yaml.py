@@ -37,8 +37,9 @@ SLIPS = (
     ),
     Slip("NotInSubset Indent", r"^(\s*)-(?=[A-Za-z_])", r"\1- ", "A blank is missing after the dash.",
          "Write a blank after the dash."),
-    Slip("NotInSubset", VALUE + r"([\w.]+): +([\w.]+)(\s+#.*)?$", r"\1\2, \3\4", "The value has a `:` and a blank after "
-         "it.", "Write a comma between two names, or put quotes around the value."),
+    Slip("NotInSubset", VALUE + r"([\w.]+): +([\w.]+)(\s+#.*)?$", r"\1\2, \3\4",
+         "The value has a `:` and a blank after it.",
+         "Write a comma between two names, or put quotes around the value."),
     Slip("NotInSubset", VALUE + r"([^\"'#\[{]*:(?:\s.*)?)$", r'\1"\2"', "The value has a `:` and a blank after it.",
          "Put quotes around the value."),
     Slip("NotInSubset Indent", r"^(\s*(?:- )?[\w.{}=<>! -]+):(?=[^\s:])", r"\1: ", "A blank is missing after the `:`.",
@@ -276,7 +277,8 @@ def cure_of(scene: Scenery, text: str, at: int, fault: str) -> Cure:
     if fault == "DuplicateKey":
         ways += of_duplicates(scene, text, at)
     if fault in ("Flow", "NotInSubset"):
-        ways += of_open_flow(scene, text, at) + of_brackets(scene, text, at) + of_aliases(scene, text, at) + of_block_scalars(scene, text, at)
+        for ways_of in of_open_flow, of_brackets, of_aliases, of_block_scalars:
+            ways += ways_of(scene, text, at)
     ways += slips(scene, text, at, fault)
     if fault == "NotUtf8":
         line = line_of(scene.texts, text, at)
