@@ -252,9 +252,3 @@ def entries(node: Node) -> Iterator[Entry]:
         yield from entries(entry.value)
     for item in node.items or []:
         yield from entries(item)
-
-
-def entry_at(root: Node, line: int, key: str) -> Entry | None:
-    """The entry of this key in a line; else the first entry of the line."""
-    found = [entry for entry in entries(root) if entry.line == line]
-    return next((entry for entry in found if entry.key == key), found[0] if found else None)
