@@ -113,6 +113,10 @@ def section_of(entry: Entry) -> str:
     return entry.path[0].key if entry.path else entry.key
 
 
+def siblings_of(entry: Entry) -> list[Entry]:
+    return entry.path[-1].value.entries or [] if entry.path else []
+
+
 def action_of(coil: Entry) -> str:
     """What a coil does in an entry of a `coil_player`."""
     return (coil.value.at("action") or coil.value).text
