@@ -6,7 +6,7 @@ from .conditions import handled_events, meaning_of
 from .mending import add, cut, give, line_of, substitute, take_out
 from .outline import Entry, Node
 from .profile import PLAYERS
-from .scenery import Scenery, raw, section_of
+from .scenery import Scenery, raw, section_of, siblings_of
 from .texts import Edit, Texts
 from .ways import Way
 
@@ -31,7 +31,7 @@ def way_of(scene: Scenery, text: str, entry: Entry) -> Way | None:
 
 
 def of_handled(scene: Scenery, text: str, entry: Entry) -> Way | None:
-    items = entry.value.texts()
+    items = [word for it in entry.value.texts() for word in it.texts()]
     found = [(it, meaning) for it in items if not values.is_event(it.text) and (meaning := meaning_of(scene, it.text))]
     if not found:
         return None
@@ -52,6 +52,8 @@ def swapped(texts: Texts, text: str, items: list[tuple[Node, str]]) -> tuple[Edi
         line = lines.get(item.line, line_of(texts, text, item.line))
         start = line.find(item.text, max(0, item.start - 1))
         end = start + len(item.text)
+        if not new and line[start - 1] in "'\"" and line[end : end + 1] == line[start - 1]:
+            start, end = start - 1, end + 1
         is_alone = not new and line[:start].strip() == "-" and not line[end:].strip()
         lines[item.line] = "" if is_alone else line[:start] + new + line[end:] if new else cut(line, start, end)
     return tuple(Edit(text, at, at + 1, (line,)) for at, line in lines.items())
@@ -66,8 +68,12 @@ def of_posted(scene: Scenery, text: str, entry: Entry) -> Way | None:
     meanings = {condition: meaning_of(scene, joined(entry.key, condition)) for _, condition in posted if condition}
     lost = next((it for it in meanings.values() if it is None or not it.right), None)
     plain = [name for name, condition in posted if not condition]
-    if lost is not None or None in meanings.values() or entry.in_braces:
-        return Way((take_out(scene.texts, text, entry),), lost.write if lost else MOVED.format("a{..}: b"), POSTED)
+    if None in meanings.values() or lost is None and entry.in_braces:
+        return Way((take_out(scene.texts, text, entry),), MOVED.format("a{..}: b"), POSTED)
+    if lost is not None:
+        out = [it for it, (_, condition) in zip(items, posted) if (found := meanings.get(condition)) and not found.right]
+        edits = swapped(scene.texts, text, [(it, "") for it in out])
+        return Way(edits if len(out) < len(items) else (take_out(scene.texts, text, entry),), lost.write, POSTED)
     heads = [f"{entry.key}: {', '.join(plain)}"] if plain else []
     for condition, meaning in meanings.items():
         assert meaning
@@ -106,8 +112,24 @@ def steps_of(scene: Scenery, text: str, steps: tuple[str, ...]) -> tuple[Edit, .
 
 def hits_way(scene: Scenery, text: str, entry: Entry, word: str, why: str) -> Way:
     """The switches of a shot, as the events that hit it."""
-    names = ", ".join(f"{it.text}_active" for it in entry.value.texts())
-    value = f"[{names}]" if entry.in_braces else names
-    edit = give(scene.texts, text, entry, value, "hit_events")
-    return Way((edit,), f"Write `hit_events: {value}`. {word}", why, "hit_events")
+    names = [f"{it.text}_active" for it in entry.value.texts()]
+    other = next((it for it in siblings_of(entry) if it.key == "hit_events"), None)
+    if other:
+        names += [f"'{it.text}'" if "{" in it.text and other.in_braces else it.text for it in other.value.texts()]
+    value = f"[{', '.join(names)}]" if entry.in_braces else ", ".join(names)
+    edits = (give(scene.texts, text, other or entry, value, "hit_events"),)
+    if other and entry.in_braces:
+        edits = (both_changed(scene.texts, text, entry, other, value),)
+    elif other:
+        edits = (*edits, take_out(scene.texts, text, entry))
+    return Way(edits, f"Write `hit_events: {value}`. {word}", why, "hit_events")
+
+
+def both_changed(texts: Texts, text: str, gone: Entry, other: Entry, value: str) -> Edit:
+    """Takes one entry of a line in braces out, and gives another one a value."""
+    line = line_of(texts, text, gone.line)
+    for entry in sorted((gone, other), key=lambda it: -it.start):
+        start, end = entry.value.start, entry.value.end
+        line = cut(line, entry.start, end) if entry is gone else line[:start] + value + line[end:]
+    return Edit(text, gone.line, gone.line + 1, (line,))
 

@@ -56,8 +56,16 @@ def emptied(entry: Entry) -> Entry:
     return emptied(outer) if lone and (of_section or of_event) else entry
 
 
+def item_around(entry: Entry) -> Node | None:
+    """The item of a list to take out with an entry, since it has to have this entry."""
+    items = entry.path[-1].value.items or [] if entry.path and entry.key == "event" else []
+    return next((it for it in items if any(entry is own for own in it.entries or [])), None)
+
+
 def take_out(texts: Texts, name: str, entry: Entry) -> Edit:
     """Takes an entry out, with all that is below it; and with what is around it, where that has nothing else."""
+    if item := item_around(entry):
+        return blanks(name, item.line, max(item.line + 1, *(it.last for it in item.entries or [])))
     entry = emptied(entry)
     line = line_of(texts, name, entry.line)
     if entry.in_braces:

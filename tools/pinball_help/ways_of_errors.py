@@ -135,11 +135,11 @@ def of_setting_of_mpf(scene: Scenery, text: str, entry: Entry, cure: Cure, inste
         move = overwrites.moved(scene, text, entry)
         way = Way((*out, *move.edits), f"{word} {move.write}".rstrip(), why, recipe=recipe)
         return replace(cure, ways=(way, Way(out)), out=(*out, *move.lowering))
+    if key == "switches":
+        return replace(cure, ways=(events.hits_way(scene, text, entry, word, why), Way(out)))
     if instead in siblings:
         return replace(cure, ways=(Way(out, f"Take it out: `{instead}` is there. {word}".rstrip(), why),))
     edit, named, reason = as_setting(scene, text, entry, instead)
-    if key == "switches":
-        return replace(cure, ways=(events.hits_way(scene, text, entry, word, why), Way(out)))
     if instead == "int":
         edit, named = give(scene.texts, text, entry, "1", "int"), "int: 1"
     way = Way((edit,), f"Write `{named}`. {word}".rstrip(), f"{why} {reason}".rstrip(), instead, recipe)

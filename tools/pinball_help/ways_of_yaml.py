@@ -63,6 +63,8 @@ SLIPS = (
          "Put all of it into the quotes, or take it out."),
     Slip("Quote", r"^([^\"]*\"[^\"]*?)(\s*)$", r'\1"', "The quote is not closed on its line.", "Close the quote."),
     Slip("Quote", r"^([^']*'[^']*?)(\s*)$", r"\1'", "The quote is not closed on its line.", "Close the quote."),
+    Slip("Flow NotInSubset", r"(?<![\w'\"])([A-Za-z_][\w.-]*\{[^{}]*\})(?=\s*[,\]}])", r"'\1'",
+         "In brackets and braces a `{` begins a mapping.", "Put quotes around the event with its condition."),
     Slip("Flow", r"(?<=: )(\d{1,3}),(\d{3})(?=\s*[,}])", r"\1\2", "A comma ends the value in braces.",
          "Write the number without a comma."),
     Slip("Flow", r",\s*(?=,)", "", "An item is missing.", "Take the comma out, or write the item."),
