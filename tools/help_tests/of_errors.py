@@ -208,11 +208,27 @@ def what_is_said_of_holds_and_waits_is_so() -> None:
     wrote = {it.said.split()[-1]: it.write for it in findings("ball_holds:\n  a: 1\nqueue_relay_player:\n  a: 1")}
     assert "`mechanical_eject: yes`" in wrote["ball_holds"] and "`coil_player`" in wrote["ball_holds"], wrote
     assert "`use_wait_queue: yes`" in wrote["queue_relay_player"], wrote
-    holds = "ball_devices:\n  hole: {ball_switches: s_hole, mechanical_eject: yes}\n"
-    texts = texts_of(f"switches:\n  s_hole:\ncoils:\n  c_hole:\n{holds}coil_player:\n  let_go: {{c_hole: pulse}}")
-    assert search(texts).findings == []
     mystery = findings("modes: m\ngame:", "mode:\n  start_events: s_hole_active\n  use_wait_queue: yes")[0]
     assert not any("ball_ending" in it.new for it in mystery.changes), mystery.changes
+
+
+HOLD = """switches:
+  s_hole:
+  s_let_go:
+coils:
+  c_hole:
+ball_devices:
+  hole: {ball_switches: s_hole, mechanical_eject: yes}
+coil_player:
+  s_let_go_active: {c_hole: pulse}"""
+
+
+@test
+def a_device_without_its_coil_holds_a_ball() -> None:
+    with folder_of(texts_of(HOLD)) as folder:
+        (folder / "log").write_text("100 s_hole 1\n30000 s_let_go 1\n31000 s_hole 0\n40000\n")
+        played = PROGRAM.output(["play", str(folder / "log"), str(folder)]).split("\n")
+    assert [it for it in played if " coil " in it] == ["30005 machine coil c_hole pulse 10 1000"], played
 
 
 @test
@@ -228,6 +244,10 @@ def each_of_these_gets_an_answer_that_says_what_to_write() -> None:
         "variable_player:\n  a: {score: 1,000}": "a: {score: 1000}",
         "coils:\n  a:\ncoil:\n  b:": "b:",
         "shots:\n  s: {switches: [s_a, s_b]}": "s: {hit_events: [s_a_active, s_b_active]}",
+        "shots:\n  s: {switch: [s_a, s_b], hit_events: x}": "s: {hit_events: [s_a_active, s_b_active, x]}",
+        "shots:\n  s: {hit_events: a{current_player.x==1}}": "s: {hit_events: 'a{current_player.x==1}'}",
+        "accruals:\n  a:\n    events:\n    - a, b{value==1}\n    - c": "- a",
+        "event_player:\n  a:\n  - b\n  - c{value==1}": "",
     }
     for text, new in answers.items():
         found = findings(text)
