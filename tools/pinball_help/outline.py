@@ -5,6 +5,7 @@ the program to say. What is deeper than the program reads is skipped too, and so
 for any machine: a text may be written to take all memory."""
 import re
 from dataclasses import dataclass, field
+from itertools import islice
 from typing import Iterator
 
 # (each way to go on begins otherwise, so that a long line takes no longer than it is long)
@@ -14,6 +15,7 @@ ITEM = re.compile(r"\s*-(\s|$)")
 ESCAPES = {"n": "\n", "t": "\t"}
 DEEPEST = 64  # blocks, and brackets: more than the program reads
 LONGEST = 20_000  # characters of a line whose brackets are read
+MOST_ITEMS = 1_025  # of a list in one text: one more than the program reads
 
 
 @dataclass(slots=True)
@@ -37,7 +39,8 @@ class Node:
         if self.entries is not None:
             return []
         found = re.finditer(r"(?:\{[^{}]*\}|[^\s,{])+", self.text)
-        return [Node(self.line, self.start + word.start(), self.start + word.end(), word[0]) for word in found]
+        words = islice(found, MOST_ITEMS)
+        return [Node(self.line, self.start + word.start(), self.start + word.end(), word[0]) for word in words]
 
 
 @dataclass(slots=True)

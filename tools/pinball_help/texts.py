@@ -15,7 +15,8 @@ MACHINE = "config/config.yaml"
 VERSION = "#config_version=6"
 MIB = 1 << 20
 TEXT_LIMIT, FOLDER_LIMIT, LOG_LIMIT = MIB, 8 * MIB, 16 * MIB  # those of the program, in bytes
-MOST_LINES = 30_000  # of all texts of a folder, where a large machine has some thousands
+# of all texts of a folder, where a large machine has some thousands of lines: more would take much memory here
+MOST_LINES, MOST_WORDS = 30_000, 200_000
 
 
 @dataclass(frozen=True, slots=True)
@@ -66,26 +67,45 @@ def read_texts(folder: Path) -> Texts:
 
     The program refuses a text above its limit, so the first byte above it is enough of such a text."""
     texts: Texts = {}
-    size = count = 0
+    room = Room()
     listed = {MACHINE}
     for path in paths_of(folder):
         name = str(path.relative_to(folder))
         try:
             data = read_bytes(path, TEXT_LIMIT + 1)
-            lines = lines_of(data)
-            size, count = size + len(data), count + len(lines)
-            if size > FOLDER_LIMIT or count > MOST_LINES:
-                limit = f"{FOLDER_LIMIT // MIB} MiB" if size > FOLDER_LIMIT else f"{MOST_LINES:,} lines"
-                raise ValueError(f"the texts of {folder} have more than {limit} in all, more than this tool reads")
+            room.take(data, folder)
         except (OSError, ValueError):
             if name in listed:
                 raise
             continue
+        lines = lines_of(data)
         texts[name] = [Line(number, line) for number, line in enumerate(lines, 1)]
         if name == MACHINE:
             modes = outline.read(lines).at("modes")
             listed |= {mode_text(it.text) for it in modes.texts()} if modes else set()
     return texts
+
+
+@dataclass
+class Room:
+    """How much there may still be in the texts of a folder."""
+
+    bytes: int = FOLDER_LIMIT
+    lines: int = MOST_LINES
+    words: int = MOST_WORDS
+
+    def take(self, data: bytes, folder: Path) -> None:
+        """Takes room for a text. Raises ValueError if there is too little."""
+        self.bytes -= len(data)
+        self.lines -= data.count(b"\n")
+        self.words -= len(data.replace(b",", b" ").split())
+        limits = {
+            f"{FOLDER_LIMIT // MIB} MiB": self.bytes, f"{MOST_LINES:,} lines": self.lines,
+            f"{MOST_WORDS:,} words": self.words,
+        }
+        for limit, left in limits.items():
+            if left < 0:
+                raise ValueError(f"the texts of {folder} have more than {limit} in all, more than this tool reads")
 
 
 def paths_of(folder: Path) -> list[Path]:
