@@ -1,7 +1,6 @@
 """What tools/pinball-help does with folders, answers and traces that are damaged, or are written to do harm.
 
 Alone, `python3 tools/help_tests/of_hostile.py PROGRAM [COUNT] [SEED]` tries so many damaged folders, else 2,000."""
-import io
 import os
 import random
 import re
@@ -11,10 +10,9 @@ import sys
 import tempfile
 import time
 import traceback
-from contextlib import redirect_stdout
 from dataclasses import dataclass
+from itertools import accumulate
 from pathlib import Path
-from unittest.mock import patch
 
 if __name__ == "__main__":
     sys.path.insert(0, str(Path(__file__).resolve().parents[1]))
@@ -22,10 +20,8 @@ if __name__ == "__main__":
 
 from help_tests.common import EXAMPLES, PROGRAM, test
 from help_tests.folders import NAMES, Damaged, damaged, text_damaged
-from pinball_help import command, messages, picture, trace
-from pinball_help.answers import answer_of
-from pinball_help.scenery import Scenery
-from pinball_help.texts import MACHINE, read_texts
+from pinball_help import command, messages, trace
+from pinball_help.texts import MACHINE
 
 MOST_SECONDS, MOST_BYTES = 2.0, 200 << 20
 FEW = 40  # of the damaged folders that are tried with the other tests
@@ -68,7 +64,8 @@ def run(words: list[str], given: bytes = b"") -> Ran:
 def of_child(words: list[str], room: Path) -> int:
     """Runs a command in this process, with files for its input and output."""
     resource.setrlimit(resource.RLIMIT_CPU, (60, 60))
-    resource.setrlimit(resource.RLIMIT_AS, (1 << 31, 1 << 31))
+    if not IS_UNPROVED:  # (an unproved build asks for terabytes that it does not use)
+        resource.setrlimit(resource.RLIMIT_AS, (1 << 31, 1 << 31))
     start = time.process_time()
     sys.stdin = open(room / "in", encoding="utf-8")
     sys.stdout, sys.stderr = (open(room / it, "w", encoding="utf-8") for it in ("out", "err"))
@@ -109,6 +106,8 @@ def wrong(name: str, ran: Ran, room: Path) -> str:
         return f"status {ran.status}: {ran.complaints[-600:]}"
     if ran.status > 1 and not re.search(r"^pinball-help[^:]*: \S", ran.complaints, re.M):
         return f"status {ran.status} without a message: {ran.complaints!r}"
+    if ran.status == 3 and "fault: " not in ran.complaints:
+        return f"the program has not answered: {ran.complaints!r}"
     if ran.status < 2 and not ran.out and not ran.complaints and name not in ("trace", "explain"):
         return f"status {ran.status} without a word"
     if ran.seconds > MOST_SECONDS or ran.bytes > MOST_BYTES:
@@ -160,6 +159,89 @@ def damaged_folders_get_a_message_and_a_status() -> None:
     for _ in range(FEW):
         found += tried(draw.randrange(2_000), tuple(draw.sample(COMMANDS, 4)))
     assert not found, "\n".join(found)
+
+
+# one by one
+
+
+@test
+def what_is_no_file_is_not_read() -> None:
+    for make, says in ((os.mkfifo, "is not a file"), (lambda it: it.symlink_to("/dev/zero"), "is not a file"),
+                       (Path.mkdir, "directory"), (lambda it: it.symlink_to("nowhere"), "there is no")):
+        with tempfile.TemporaryDirectory() as room:
+            folder = Path(room)
+            (folder / "config").mkdir()
+            make(folder / MACHINE)
+            for name in "errors", "unused", "picture":
+                ran = run([name, "--program", PROGRAM.path, room])
+                assert ran.status == 2 and says in ran.complaints, (make, name, ran)
+
+
+@test
+def deep_brackets_and_long_numbers_are_read() -> None:
+    texts = {"brackets": "lights: " + "[" * 600, "blocks": "\n".join(" " * at + "a:" for at in range(600)),
+             "number": "coils:\n  c: {default_pulse_ms: " + "9" * 5_000 + "}", "modes": "modes: [" + "{a: " * 300}
+    for name, text in texts.items():
+        ran = of_text(text, "errors")
+        assert ran.status == 1 and "To do:" in ran.out, (name, ran)
+
+
+def of_text(text: str, name: str, folder_name: str = "m") -> Ran:
+    """How a command ends about a machine with this text."""
+    with tempfile.TemporaryDirectory() as room:
+        folder = Path(room) / folder_name
+        (folder / "config").mkdir(parents=True)
+        (folder / MACHINE).write_text(f"#config_version=6\n{text}\n")
+        return run([name, "--program", PROGRAM.path, str(folder)])
+
+
+@test
+def no_name_begins_a_line_or_reaches_the_terminal() -> None:
+    for folder_name in "\x1b[31mred", "a\nyes\n":
+        ran = of_text('"a\\nyes\\x": 1\n"\\n  To do: nothing": 1\n\'\x1b[2J\': 1', "errors", folder_name)
+        assert ran.status == 1 and not wrong("errors", ran, Path("/")), ran
+        assert "\n  To do: nothing" not in ran.out, ran
+
+
+@test
+def a_bad_expression_is_a_wrong_command_line() -> None:
+    for expression in "(", "[", "*", "(?P<a", "a{99999999999}":
+        ran = run(["trace", "--event", expression], b"0 machine event a\n")
+        assert ran.status == 2 and "is no regular expression" in ran.complaints, ran
+
+
+@test
+def answers_that_are_cut_off_are_explained() -> None:
+    said = [it.replace("refused ", "refused 3 ", 1) for it in messages.MESSAGES]
+    lines = [f"{it} {MACHINE} 3 key other"[:at] for it in said for at in range(4, 90, 5)]
+    ran = run(["explain", str(EXAMPLES[0])], "\n".join(lines).encode())
+    assert ran.status == 0 and not wrong("explain", ran, Path("/")), ran.complaints[-900:]
+
+
+@test
+def the_duty_of_a_long_trace_takes_no_longer_than_it_is_long() -> None:
+    lines = [f"{at * 30} machine coil c pulse {10 + at % 7} 1000" for at in range(60_000)]
+    start = time.process_time()
+    totals = [*trace.shown(lines, trace.Wanted())][-1]
+    seconds = time.process_time() - start
+    assert totals.split()[1:4] == ["60000", "0", "12:59.994"] and totals.endswith(" 44%"), totals
+    assert seconds < 5, seconds
+
+
+@test
+def the_duty_is_that_of_the_worst_second() -> None:
+    draw = random.Random(4)
+    for _ in range(60):
+        on, moment, stretches = trace.Stretches(), 0, []
+        for _ in range(draw.randrange(1, 12)):
+            moment += draw.choice((0, 1, 30, 300, 1500))
+            stretches.append((moment, moment + draw.choice((1, 20, 400, 1200))))
+            on.add(*stretches[-1])
+        on.count()
+        lit = {at for start, end in stretches for at in range(start, end)}
+        until = [0, *accumulate(at in lit for at in range(moment + 2_500))]
+        most = max(until[at] - until[max(0, at - 1000)] for at in range(len(until)))
+        assert (on.whole, on.most) == (len(lit), most), stretches
 
 
 def main() -> int:

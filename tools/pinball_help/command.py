@@ -51,7 +51,7 @@ def write_errors(asked: argparse.Namespace) -> int:
         print(f"{number}. " + "\n".join(shown(finding)) + "\n")
     for it in more:
         print(clean(f"{it.text}:{it.line}: hint {it.key}: {it.says}"))
-    print(counted(report, found, f"pinball-help errors --full {shlex.quote(asked.dir)}" if is_short else ""))
+    print(counted(report, found, f"pinball-help errors --full {clean(shlex.quote(asked.dir))}" if is_short else ""))
     print(NO_PROOF)
     print(warning, end="")
     return 1 if found else 0
@@ -258,7 +258,7 @@ def main() -> int:
     try:
         return asked.run(asked)
     except NoAnswer as error:
-        print(f"pinball-help: {clean(str(error))}", file=sys.stderr)
+        print("pinball-help: " + "\n  ".join(map(clean, str(error).split("\n"))), file=sys.stderr)
         return 3
     except (OSError, ValueError) as error:
         if isinstance(error, BrokenPipeError):
