@@ -22,7 +22,7 @@ from plain_model import sections as plain
 from plain_model import values, yaml_text
 from plain_model.yaml_text import Entries, Items, Node
 
-from .common import EXAMPLES, PROGRAM, TOP, NotTried, test
+from .common import PROGRAM, TOP, NotTried, test
 from .drawn import Drawn, draw_texts
 
 # what the schema lets pass, since an editor reads it as a number or as nothing
@@ -250,11 +250,10 @@ def tree_of(text: str) -> Any:
 @test
 def the_examples_are_accepted() -> None:
     texts: dict[bool, list[Any]] = {False: [], True: []}
-    for example in EXAMPLES:
-        texts[False].append(tree_of((example / MACHINE).read_text()))
-        texts[True] += [tree_of(it.read_text()) for it in sorted(example.glob("modes/*/config/*.yaml"))]
+    for path in sorted((TOP / "examples").glob("**/config/*.yaml")):
+        texts["modes" in path.parts].append(tree_of(path.read_text()))
     found = judged([(schema.schema(is_mode), those) for is_mode, those in texts.items()])
-    assert all(map(all, found)) and len(texts[True]) > 8, found
+    assert all(map(all, found)) and len(texts[False]) >= 20 and len(texts[True]) > 12, found
 
 
 def is_taken(setting: plain.Setting, node: Node) -> bool:
