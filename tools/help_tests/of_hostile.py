@@ -21,7 +21,7 @@ if __name__ == "__main__":
 from help_tests.common import EXAMPLES, PROGRAM, test
 from help_tests.folders import NAMES, Damaged, damaged, text_damaged
 from pinball_help import command, messages, trace
-from pinball_help.texts import MACHINE
+from pinball_help.texts import LOG_LIMIT, MACHINE, TEXT_LIMIT, mode_text, read_texts
 
 MOST_SECONDS, MOST_BYTES = 2.0, 200 << 20
 FEW = 40  # of the damaged folders that are tried with the other tests
@@ -175,6 +175,28 @@ def what_is_no_file_is_not_read() -> None:
             for name in "errors", "unused", "picture":
                 ran = run([name, "--program", PROGRAM.path, room])
                 assert ran.status == 2 and says in ran.complaints, (make, name, ran)
+
+
+@test
+def no_more_is_read_than_the_program_reads() -> None:
+    with tempfile.TemporaryDirectory() as room:
+        folder, log = Path(room), Path(room) / "log"
+        (folder / "config").mkdir()
+        (folder / MACHINE).write_bytes(b"#" * (3 * TEXT_LIMIT))
+        assert len(read_texts(folder)[MACHINE][0].text) == TEXT_LIMIT + 1
+        modes = ", ".join(f"m{at}" for at in range(9))
+        for text in f"modes: [{modes}]\n# a\n", "a:\n" * 40_000, "a " * 300_000:
+            (folder / MACHINE).write_text(text)
+            for at in range(9):
+                mode = folder / mode_text(f"m{at}")
+                mode.parent.mkdir(parents=True, exist_ok=True)
+                mode.write_bytes(b"#" * (TEXT_LIMIT if text[0] == "m" else 0))
+            ran = run(["errors", "--program", PROGRAM.path, room])
+            assert ran.status == 2 and "more than this tool reads" in ran.complaints, (text[:9], ran)
+        (folder / MACHINE).write_text("#config_version=6\n")
+        log.write_bytes(b"#" * (LOG_LIMIT + 1))
+        ran = run(["explain", room, "--log", str(log)], b"refused 1 3 NoSuchSwitch\n")
+        assert ran.status == 2 and "the program reads no longer log" in ran.complaints, ran
 
 
 @test
