@@ -24,6 +24,7 @@ LINE_NUMBERS = (
     "Line numbers are those of your files now: begin with the last one, or run this again after each change."
 )
 MOST_IN_FULL = 8  # findings; more are listed in short form
+MOST_CURES = 200  # that `explain` looks for in the texts: each may take milliseconds
 MOST_NAMES = 3  # of switches that are named, and not counted
 MOST_OF_YES = 10_000  # lines of a certificate, which has one for each event and switch
 
@@ -96,25 +97,31 @@ def write_explain(asked: argparse.Namespace) -> int:
     scene = Scenery(texts)
     original = {**texts, asked.log: Log(Path(asked.log))} if asked.log else texts
     of_yes: list[str] = []  # the lines from `yes` on: those of a certificate
-    found: list[Finding] = []
+    count = 0
+    print("[" if asked.json else "", end="")
     for line in (it.rstrip("\n") for it in sys.stdin):
         complaint = complaint_of(line)
         if complaint and complaint.message.startswith("refused"):
             complaint = replace(complaint, text=asked.log or "")
         if complaint:
-            cure = cure_of(scene, complaint) if texts else Cure()
+            cure = cure_of(scene, complaint) if texts and count < MOST_CURES else Cure()
             finding = finding_of(scene, complaint, cure, next(iter(cure.ways), None), original)
-            found += [finding] if asked.json else []
-            print("" if asked.json else "\n".join(shown(finding)) + "\n\n", end="")
+            separator = ",\n" if asked.json and count else ""
+            print(separator + (json.dumps(as_json(finding), indent=2) if asked.json else shown_whole(finding)), end="")
+            count += 1
         elif (line == "yes" or of_yes) and len(of_yes) < MOST_OF_YES:
             of_yes.append(line)
-    if of_yes:
+    if asked.json:
+        print("]")
+    elif of_yes:
         print("yes: the machine is accepted. What that promises is in docs/promises.md.")
         answer = answer_of("\n".join(of_yes))
         print(f"{longest(answer)}\n" if answer.switches else "")
-    if asked.json:
-        print(json.dumps([as_json(it) for it in found], indent=2))
     return 0
+
+
+def shown_whole(finding: Finding) -> str:
+    return "\n".join(shown(finding)) + "\n\n"
 
 
 def longest(answer: Answer) -> str:
