@@ -2,11 +2,15 @@
 import re
 from dataclasses import dataclass
 
+from .messages import MESSAGES
+
 # NAME, TEXT and LINE of an `error`, and of the faults 1 to 6, have the same places
-PLACED = re.compile(r"^(?P<kind>error|fault) (?P<number>\d+) (?P<name>\w+) (?P<text>.+?) (?P<line>\d+) (?P<key>.*)$")
-WHOLE = re.compile(r"^fault (?P<number>\d+) (?P<name>\w+)(?: (?P<rest>.*))?$")
-NOTE = re.compile(r"^note (?P<text>.+?) (?P<line>\d+) (?P<name>skipped|absent|unlisted) (?P<key>.*)$")
-REFUSED = re.compile(r"^refused (?P<line>\d+) (?P<number>\d+) (?P<name>\w+)$")
+PLACED = re.compile(
+    r"^(?P<kind>error|fault) (?P<number>[0-9]{1,3}) (?P<name>\w+) (?P<text>.+?) (?P<line>[0-9]{1,9}) (?P<key>.*)$"
+)
+WHOLE = re.compile(r"^fault (?P<number>[0-9]{1,3}) (?P<name>\w+)(?: (?P<rest>.*))?$")
+NOTE = re.compile(r"^note (?P<text>.+?) (?P<line>[0-9]{1,9}) (?P<name>skipped|absent|unlisted) (?P<key>.*)$")
+REFUSED = re.compile(r"^refused (?P<line>[0-9]{1,9}) (?P<number>[0-9]{1,3}) (?P<name>\w+)$")
 STOPPED = re.compile(r"^fault: (?P<name>\w+)$")
 CERTIFICATE_FAULTS = ("Line", "Events", "Switches", "Short", "Bound", "Switch")
 
@@ -44,7 +48,12 @@ def unescaped(text: str) -> str:
 
 
 def complaint_of(said: str) -> Complaint | None:
-    """The complaint that a line says, or none of any other line."""
+    """The complaint that a line says, or none of any other line, such as one that is cut off."""
+    found = read_complaint(said)
+    return found if found and found.message in MESSAGES else None
+
+
+def read_complaint(said: str) -> Complaint | None:
     if found := NOTE.match(said):
         name = found["name"]
         return Complaint(said, f"note {name}", name, found["text"], int(found["line"]), unescaped(found["key"]))
@@ -72,9 +81,9 @@ def answer_of(output: str) -> Answer:
     complaints = [found for found in map(complaint_of, lines) if found]
     numbers: dict[str, dict[str, int]] = {"switch": {}, "event": {}}
     for line in lines:
-        if found := re.fullmatch(r"(switch|event) (\S+) (\d+)", line):
+        if found := re.fullmatch(r"(switch|event) (\S+) ([0-9]{1,10})", line):
             numbers[found[1]][found[2]] = int(found[3])
-    bounds = [int(line.split(" ")[1]) for line in lines if re.match(r"bound \d+$", line)]
+    bounds = [int(line.split(" ")[1]) for line in lines if re.match(r"bound [0-9]{1,10}$", line)]
     return Answer(
         tuple(it for it in complaints if not it.is_note),
         tuple(it for it in complaints if it.is_note),

@@ -1,16 +1,20 @@
 """The words of the command line, and what each subcommand writes."""
 import argparse
+import io
 import json
+import re
+import shlex
 import sys
 from dataclasses import asdict, replace
 from pathlib import Path
 
-from . import errors, picture, program, trace, unused
+from . import errors, hints, picture, program, schema, short, trace, unused
 from .answers import Answer, answer_of, complaint_of
 from .findings import Finding, as_json, cure_of, finding_of, shown
-from .program import NoAnswer, Program
+from .printed import clean
+from .program import NoAnswer, Program, path_of
 from .scenery import Scenery
-from .texts import MACHINE, read_text, read_texts, write_texts
+from .texts import MACHINE, Log, read_texts, write_texts
 from .ways import Cure
 
 ABOUT = "Helps with the answers of pinball: it calls the program and reads what it says. It proves nothing."
@@ -19,7 +23,10 @@ NO_PROOF = "These are hints, and nothing here is proved. The answer that counts 
 LINE_NUMBERS = (
     "Line numbers are those of your files now: begin with the last one, or run this again after each change."
 )
+MOST_IN_FULL = 8  # findings; more are listed in short form
+MOST_CURES = 200  # that `explain` looks for in the texts: each may take milliseconds
 MOST_NAMES = 3  # of switches that are named, and not counted
+MOST_OF_YES = 10_000  # lines of a certificate, which has one for each event and switch
 
 
 def write_errors(asked: argparse.Namespace) -> int:
@@ -27,25 +34,39 @@ def write_errors(asked: argparse.Namespace) -> int:
     keep = Path(asked.keep) if asked.keep else None
     if keep and keep.exists():
         raise ValueError(f"{keep} is there already: give the name of a folder that is not")
-    report = errors.search(tool, Path(asked.dir), leave_out=keep is not None)
+    report = errors.search(tool, Path(asked.dir), leave_out=keep is not None, within=asked.within)
     found = [it for it in report.findings if not it.follows]
     if keep:
         write_texts(report.texts, keep)
     warning = kept_words(report, keep) if keep and report.findings else ""
+    more = hints.hints(report.scene, Path(asked.dir))
     if asked.json:
-        print(json.dumps([as_json(it) for it in found], indent=2))
+        print(json.dumps([*(as_json(it) for it in found), *map(hint_as_json, more)], indent=2))
         print(warning, end="", file=sys.stderr)
         return 1 if found else 0
     print(warning, end="\n" if warning else "")
-    for number, finding in enumerate(found, 1):
+    is_short = len(found) > MOST_IN_FULL and not asked.full
+    if is_short:
+        print("\n".join(short.shown(found)))
+    for number, finding in enumerate([] if is_short else found, 1):
         print(f"{number}. " + "\n".join(shown(finding)) + "\n")
-    print(counted(report, found))
+    for it in more:
+        print(clean(f"{it.text}:{it.line}: hint {it.key}: {it.says}"))
+    print(counted(report, found, f"pinball-help errors --full {clean(shlex.quote(asked.dir))}" if is_short else ""))
     print(NO_PROOF)
     print(warning, end="")
     return 1 if found else 0
 
 
-def counted(report: errors.Report, found: list[Finding]) -> str:
+def hint_as_json(hint: hints.Hint) -> dict:
+    """A hint as editors read it, with the same fields as a finding."""
+    said = f"hint {hint.text} {hint.line} {hint.key}"
+    return {"said": said, "message": "hint", "text": hint.text, "line": hint.line, "column": 1, "width": 1,
+            "says": [hint.says], "write": "", "severity": "hint"}
+
+
+def counted(report: errors.Report, found: list[Finding], full: str) -> str:
+    """How many there are; `full` is the command that says more, if there is one."""
     follows = len(report.findings) - len(found)
     if not report.findings:
         return "Nothing to mend: the answer is yes."
@@ -54,6 +75,8 @@ def counted(report: errors.Report, found: list[Finding]) -> str:
         more += " There may be others that come after the last of these: mend it, and look again."
     if len(found) < 2:
         return f"{len(found)} to mend.{more}"
+    if full:
+        return f"{len(found)} to mend.{more} Each in full: {full}"
     return f"{len(found)} to mend, in this order or any other.{more}\n{LINE_NUMBERS}"
 
 
@@ -61,9 +84,10 @@ def kept_words(report: errors.Report, keep: Path) -> str:
     """What the answer for a copy does not cover."""
     count = len(report.findings)
     answer = "yes" if report.answer and report.answer.accepted else "no"
+    name = clean(str(keep))
     return (
-        f"!! {keep} IS NOT YOUR MACHINE: {count} places were refused, and are left out of it, each with a comment\n"
-        f"!! `# left out`. `pinball check {keep}` answers {answer}, about what is left and about nothing else.\n"
+        f"!! {name} IS NOT YOUR MACHINE: {count} places were refused, and are left out of it, each with a comment\n"
+        f"!! `# left out`. `pinball check {name}` answers {answer}, about what is left and about nothing else.\n"
     )
 
 
@@ -71,30 +95,39 @@ def write_explain(asked: argparse.Namespace) -> int:
     """Says what each line on standard input means. Without DIR it has no texts to look into."""
     texts = read_texts(Path(asked.dir)) if asked.dir else {}
     scene = Scenery(texts)
-    original = {**texts, asked.log: read_text(Path(asked.log))} if asked.log else texts
-    found, said = [], sys.stdin.read()
-    for line in said.split("\n"):
-        if complaint := complaint_of(line):
-            if complaint.message.startswith("refused"):
-                complaint = replace(complaint, text=asked.log or "")
-            cure = cure_of(scene, complaint) if texts else Cure()
-            way = next(iter(cure.ways), None)
-            found.append(finding_of(scene, complaint, cure, way, original))
-        elif line == "yes":
-            print("yes: the machine is accepted. What that promises is in docs/promises.md.")
-            answer = answer_of(said)
-            print(f"{longest(answer)}\n" if answer.switches else "")
+    original = {**texts, asked.log: Log(Path(asked.log))} if asked.log else texts
+    of_yes: list[str] = []  # the lines from `yes` on: those of a certificate
+    count = 0
+    print("[" if asked.json else "", end="")
+    for line in (it.rstrip("\n") for it in sys.stdin):
+        complaint = complaint_of(line)
+        if complaint and complaint.message.startswith("refused"):
+            complaint = replace(complaint, text=asked.log or "")
+        if complaint:
+            cure = cure_of(scene, complaint) if texts and count < MOST_CURES else Cure()
+            finding = finding_of(scene, complaint, cure, next(iter(cure.ways), None), original)
+            separator = ",\n" if asked.json and count else ""
+            print(separator + (json.dumps(as_json(finding), indent=2) if asked.json else shown_whole(finding)), end="")
+            count += 1
+        elif (line == "yes" or of_yes) and len(of_yes) < MOST_OF_YES:
+            of_yes.append(line)
     if asked.json:
-        print(json.dumps([as_json(it) for it in found], indent=2))
-    for finding in found if not asked.json else []:
-        print("\n".join(shown(finding)) + "\n")
+        print("]")
+    elif of_yes:
+        print("yes: the machine is accepted. What that promises is in docs/promises.md.")
+        answer = answer_of("\n".join(of_yes))
+        print(f"{longest(answer)}\n" if answer.switches else "")
     return 0
+
+
+def shown_whole(finding: Finding) -> str:
+    return "\n".join(shown(finding)) + "\n\n"
 
 
 def longest(answer: Answer) -> str:
     """What starts the longest cascade, by the lines of switches in a certificate."""
     most = max(answer.switches.values())
-    names = [f"`{name}`" for name, cost in answer.switches.items() if cost == most]
+    names = [f"`{clean(name)}`" for name, cost in answer.switches.items() if cost == most]
     switches = f"any of {len(names)} switches" if len(names) > MOST_NAMES else " or ".join(names)
     if most == answer.bound:
         return f"A cascade has at most {answer.bound:,} lines. A change of {switches} can cause so many."
@@ -105,12 +138,12 @@ def longest(answer: Answer) -> str:
 
 
 def write_unused(asked: argparse.Namespace) -> int:
-    tool = find(asked)
+    tool, texts = find(asked), read_texts(Path(asked.dir))
     answer = tool.check(Path(asked.dir))
     if not answer.accepted:
         print("The machine is refused, so it has no list of events: mend it first (pinball-help errors DIR).")
         return 1
-    found = unused.unused(Scenery(read_texts(Path(asked.dir))), answer)
+    found = unused.unused(Scenery(texts), answer)
     if asked.json:
         print(json.dumps([asdict(it) for it in found], indent=2))
         return 0
@@ -122,24 +155,33 @@ def write_unused(asked: argparse.Namespace) -> int:
 def write_trace(asked: argparse.Namespace) -> int:
     start, end = trace.moment_of(asked.start), trace.moment_of(asked.end) if asked.end else None
     wanted = trace.Wanted(asked.owner, asked.device, asked.event, start, end)
-    for line in trace.shown((it.rstrip("\n") for it in sys.stdin), wanted):
-        print(line)
+    sys.stdout.writelines(f"{line}\n" for line in trace.shown((it.rstrip("\n") for it in sys.stdin), wanted))
     return 0
 
 
 def write_picture(asked: argparse.Namespace) -> int:
     tool, folder = find(asked), Path(asked.dir)
-    answer = tool.check(folder)
+    texts, answer = read_texts(folder), tool.check(folder)
     if not answer.accepted and answer.complaints[0].message.startswith("error"):
-        print(f"pinball-help: the machine cannot be read: {answer.complaints[0].said}", file=sys.stderr)
+        print(f"pinball-help: the machine cannot be read: {clean(answer.complaints[0].said)}", file=sys.stderr)
         return 1
-    trace_text = tool.output(["play", asked.log, str(folder)]) if asked.log and answer.accepted else None
-    text = picture.page(folder.resolve().name, Scenery(read_texts(folder)), answer, trace_text)
+    trace_text = tool.output(["play", asked.log, path_of(folder)]) if asked.log and answer.accepted else None
+    text = picture.page(folder.resolve().name, Scenery(texts), answer, trace_text)
     if asked.output == "-":
         print(text, end="")
     else:
         Path(asked.output).write_text(text)
-        print(f"{asked.output}: {len(text) / 1e6:.1f} MB. Open it in a browser.")
+        print(f"{clean(asked.output)}: {len(text) / 1e6:.1f} MB. Open it in a browser.")
+    return 0
+
+
+def write_schema(asked: argparse.Namespace) -> int:
+    folder = Path(asked.dir)
+    folder.mkdir(parents=True, exist_ok=True)
+    for kind, is_mode in ("machine", False), ("mode", True):
+        file = folder / f"{kind}.schema.json"
+        file.write_text(json.dumps(schema.schema(is_mode), indent=1) + "\n")
+        print(f"{clean(str(file))}: for the text of {'a mode' if is_mode else 'the machine'}")
     return 0
 
 
@@ -154,6 +196,15 @@ def with_program(one: argparse.ArgumentParser) -> None:
     one.add_argument("--program", metavar="PATH", default=argparse.SUPPRESS, help=argparse.SUPPRESS)
 
 
+def pattern(text: str) -> str:
+    """A regular expression. Raises ArgumentTypeError if it is none."""
+    try:
+        re.compile(text)
+    except (re.error, RecursionError, OverflowError) as error:
+        raise argparse.ArgumentTypeError(f"`{text}` is no regular expression: {error}") from error
+    return text
+
+
 def parser() -> argparse.ArgumentParser:
     top = argparse.ArgumentParser(prog="pinball-help", description=ABOUT, epilog="docs/builders_bench.md has examples.")
     top.add_argument("--program", metavar="PATH", help="the program `pinball`, if not the proved one")
@@ -161,8 +212,12 @@ def parser() -> argparse.ArgumentParser:
     one = commands.add_parser("errors", help="all errors and faults of a machine at once")
     one.add_argument("dir", metavar="DIR")
     one.add_argument("--json", action="store_true", help="for editors")
+    one.add_argument("--full", action="store_true", help="each finding with its lines, also if there are many")
     one.add_argument(
         "--keep", metavar="COPY", help="writes a folder in which all that is refused is left out, with comments"
+    )
+    one.add_argument(
+        "--within", type=float, default=errors.WITHIN, metavar="SECONDS", help="stops to look after so much own work"
     )
     with_program(one)
     one.set_defaults(run=write_errors)
@@ -178,10 +233,16 @@ def parser() -> argparse.ArgumentParser:
     one.add_argument("--json", action="store_true")
     with_program(one)
     one.set_defaults(run=write_unused)
+    add_views(commands)
+    return top
+
+
+def add_views(commands: "argparse._SubParsersAction[argparse.ArgumentParser]") -> None:
+    """Adds the subcommands that show what a machine does, and that help to write it."""
     one = commands.add_parser("trace", help="a filter for what `pinball play` writes")
     one.add_argument("--owner", default="", help="only what this mode does, or `machine`")
     one.add_argument("--device", default="", help="only lines that name this switch, coil, counter, shot ..")
-    one.add_argument("--event", default="", metavar="PATTERN", help="only events that a regular expression finds")
+    one.add_argument("--event", default="", metavar="PATTERN", type=pattern, help="only events with this expression")
     one.add_argument("--from", dest="start", default="0", metavar="TIME", help="as 0:05.250, 5.25s or 5250")
     one.add_argument("--to", dest="end", default="", metavar="TIME")
     one.set_defaults(run=write_trace)
@@ -191,15 +252,20 @@ def parser() -> argparse.ArgumentParser:
     one.add_argument("-o", "--output", default="-", metavar="FILE", help="where the page goes; else standard output")
     with_program(one)
     one.set_defaults(run=write_picture)
-    return top
+    one = commands.add_parser("schema", help="JSON Schemas, by which an editor completes what you write")
+    one.add_argument("dir", metavar="FOLDER", help="where the two schemas go")
+    one.set_defaults(run=write_schema)
 
 
 def main() -> int:
+    for stream, errors_are in (sys.stdin, "surrogateescape"), (sys.stdout, "backslashreplace"):
+        if isinstance(stream, io.TextIOWrapper):
+            stream.reconfigure(errors=errors_are)
     asked = parser().parse_args()
     try:
         return asked.run(asked)
     except NoAnswer as error:
-        print(f"pinball-help: {error}", file=sys.stderr)
+        print("pinball-help: " + "\n  ".join(map(clean, str(error).split("\n"))), file=sys.stderr)
         return 3
     except (OSError, ValueError) as error:
         if isinstance(error, BrokenPipeError):
@@ -207,5 +273,5 @@ def main() -> int:
             return 0
         missing = isinstance(error, FileNotFoundError) and str(error.filename).endswith(MACHINE)
         words = f"there is no {error.filename}: give the folder that has `config/` in it" if missing else error
-        print(f"pinball-help: {words}", file=sys.stderr)
+        print(f"pinball-help: {clean(str(words))}", file=sys.stderr)
         return 2

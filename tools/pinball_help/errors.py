@@ -1,22 +1,24 @@
 """All errors at once: checks a copy, mends or leaves out what was refused, and checks again."""
 import sys
-import tempfile
 import time
 from dataclasses import dataclass, field, replace
 from pathlib import Path
 
 from .answers import Answer, Complaint
 from .findings import Finding, cure_of, finding_of
-from .mending import commented, take_out
+from .mending import commented, line_of, take_out
+from .probes import OutOfTime, Probes, Verdict, is_error
 from .program import Program
 from .scenery import Scenery
-from .texts import Edit, Texts, edited, read_texts, write_texts
+from .texts import MACHINE, Edit, Texts, edited, read_texts
 from .ways import Cure, Way
 
-ROUNDS = 2000
-FAR = (1_000_000, 0, 0)
-PHASES = {"Bundle": 0, "Version": 1, "Yaml": 2}
-LAST_PHASE = 3
+ROUNDS = 500
+WITHIN = 10.0  # seconds of its own work: a text may be written to take for ever
+MOST_MENDS = 8  # of one complaint, each after a change of its line
+MOST_TRIES = 3  # to mend one place before something is taken out
+ALONE = ("Bundle", "Limit", "Cycle", "Bound")  # what has to be mended before others are said
+BEST = (0, 0)
 SECTIONS_WITH_NAMES = ("switches", "coils", "ball_devices", "shots", "shot_profiles", "shot_groups")
 
 
@@ -25,6 +27,7 @@ class Report:
     findings: list[Finding] = field(default_factory=list)
     texts: Texts = field(default_factory=dict)  # the copy, as it was at last
     answer: Answer | None = None  # of the copy
+    scene: Scenery = field(default_factory=lambda: Scenery({}))  # of the copy
     unsolved: bool = False  # something was refused, and no way was found to look further
 
 
@@ -48,8 +51,8 @@ class Progress:
 class Search:
     """Looks for all that is refused in the texts of a folder."""
 
-    def __init__(self, program: Program, folder: Path, leave_out: bool):
-        self.program, self.leave_out = program, leave_out
+    def __init__(self, program: Program, folder: Path, leave_out: bool, within: float):
+        self.probes, self.leave_out = Probes(program, time.process_time() + within), leave_out
         self.original = read_texts(folder)
         self.scene = Scenery(self.original)
         self.report = Report()
@@ -57,111 +60,118 @@ class Search:
         self.counts: dict[tuple, int] = {}
         self.gone: set[str] = set()  # names that the copy defines no more
         self.touched: set[tuple[str, int, str]] = set()  # what has lost something: text, line of the file, key
+        self.moved: set[tuple[str, int]] = set()  # lines of the files that the copy has elsewhere
         self.faults_were_reported = False
         self.progress = Progress("found")
 
     def run(self) -> Report:
+        answer = self.ask()
         try:
-            answer = self.mend_all()
+            answer = self.mend_all(answer)
+        except OutOfTime:
+            self.report.unsolved = True
         finally:
             self.progress.end()
-        self.report.texts, self.report.answer = self.scene.texts, answer
+        self.report.texts, self.report.scene, self.report.answer = self.scene.texts, self.scene, answer
         order = {name: at for at, name in enumerate(self.scene.texts)}
         self.report.findings.sort(key=lambda it: (it.line == 0, order.get(it.text, -1), it.line))
         return self.report
 
-    def mend_all(self) -> Answer:
-        """Mends one after the other, until all is accepted or nothing helps."""
-        answer = self.ask(self.scene.texts)
+    def mend_all(self, answer: Answer) -> Answer:
+        """Mends all that is found, and looks again, until all is accepted or nothing helps."""
         for _ in range(ROUNDS):
             if answer.accepted or not answer.complaints:
                 break
-            following = self.one(answer.complaints[0]) if is_single(answer) else self.many(answer)
-            if following is None:
+            if not self.mend(self.found(answer)):
                 self.report.unsolved = True
                 break
-            answer = following
+            answer = self.ask()
             self.progress.at(len(self.report.findings))
         return answer
 
-    def ask(self, texts: Texts) -> Answer:
-        with tempfile.TemporaryDirectory(prefix="pinball-help-") as room:
-            write_texts(texts, Path(room))
-            return self.program.check(Path(room))
+    def ask(self) -> Answer:
+        return self.probes.answer({name: self.scene.texts[name] for name in (self.scene.read or [MACHINE])})
 
-    def place(self, complaint: Complaint) -> tuple:
-        """How far a complaint is: the text, the part of the judging, and of a fault of YAML the line."""
-        if complaint.message.startswith("fault"):
-            return FAR
-        order = self.scene.read.index(complaint.text) if complaint.text in self.scene.read else -1
-        phase = PHASES.get(complaint.name, LAST_PHASE)
-        return (order, phase, complaint.line if phase < LAST_PHASE else 0)
+    def found(self, answer: Answer) -> list[Complaint]:
+        """What can be mended at once: the first error of each entry, or all faults that are listed."""
+        first = answer.complaints[0]
+        if first.name in ALONE:
+            return [first]
+        if not is_error(first):
+            return list(answer.complaints)
+        return [it for text in self.scene.read for it in self.errors_of(text)] or [first]
+
+    def errors_of(self, text: str) -> list[Complaint]:
+        head = self.probes.head_error(self.scene, text)
+        return [head] if head else self.probes.first_errors(self.scene, text)
 
     def cure(self, complaint: Complaint) -> Cure:
         cure = cure_of(self.scene, complaint)
         if self.leave_out and cure.out and not cure.stays:
             outs = (Way(cure.out),)
             if complaint.name == "Yaml":
-                outs = tuple(
-                    it for it in cure.ways if all(not line for edit in it.edits for line in edit.lines)
-                ) or outs
+                outs = tuple(filter(is_removal, cure.ways)) or outs
             first = cure.ways[0] if cure.ways else Way(())
             outs = tuple(replace(first, edits=it.edits) for it in outs)
             return replace(cure, ways=outs)
         return cure
 
-    def one(self, complaint: Complaint) -> Answer | None:
-        """Mends one error or fault by the way after which the answer is furthest on, and gives that answer."""
-        cure, here = self.cure(complaint), self.place(complaint)
-        best: tuple[tuple, Way, Answer] | None = None
-        ways = (*cure.ways, *self.last_ways(complaint)) if self.tries(complaint) < 2 else self.last_ways(complaint)
-        for way in ways:
-            if not way.edits:
-                continue
-            answer = self.ask(edited(self.scene.texts, way.edits))
-            first = answer.complaints[0] if answer.complaints else None
-            far = (FAR[0] + 1, 0, 0) if first is None else self.place(first)
-            helps = first is None or far > here or far == here and first.said != complaint.said
-            if helps and (best is None or far > best[0]):
-                best = (far, way, answer)
-            if best and (complaint.name != "Yaml" or first is None):
-                break
-        self.add_finding(complaint, cure, best[1] if best else cure.ways[0] if cure.ways else None)
-        if best is None:
-            return None
-        self.change(best[1].edits, complaint)
-        return best[2]
-
-    def last_ways(self, complaint: Complaint) -> list[Way]:
-        """Where nothing else helps: takes the entry around a place out, and then the section."""
-        entry = self.scene.around(complaint.text, complaint.line - 1)
-        outer = [*entry.path, entry][:2][::-1] if entry else []
-        return [Way((take_out(self.scene.texts, complaint.text, it),)) for it in outer]
-
-    def many(self, answer: Answer) -> Answer | None:
-        """Mends all faults of entries that are at different lines."""
+    def mend(self, complaints: list[Complaint]) -> bool:
+        """Mends the copy at each complaint, where no other one is mended at the same lines. Says whether it has."""
         taken: list[Edit] = []
-        for complaint in answer.complaints:
-            cure = self.cure(complaint)
-            mending = [it for it in cure.ways if it.edits]
-            ways = [*mending[:1], *mending[1:][-1:], *self.last_ways(complaint)]
-            way = next(iter(ways[self.tries(complaint) :]), None)
-            self.add_finding(complaint, cure, way)
+        cures = [self.cure(it) for it in complaints]
+        ways = self.probes.workers.map(self.choose, complaints, cures)
+        for complaint, cure, way in zip(complaints, cures, ways):
+            self.add_finding(complaint, cure, way or next(iter(cure.ways), None))
             if way and not any(overlap(one, other) for one in way.edits for other in taken):
                 taken += way.edits
+                self.count(complaint)
                 self.touch(complaint)
-        if not taken:
-            return None
-        self.faults_were_reported = True
-        before = self.scene
-        self.change(tuple(taken), None)
-        return self.ask(self.scene.texts) if self.scene.texts != before.texts else None
+        self.faults_were_reported |= not is_error(complaints[0])
+        self.change(tuple(taken))
+        return bool(taken)
+
+    def choose(self, complaint: Complaint, cure: Cure) -> Way | None:
+        """The likeliest way that helps. What takes something out comes last, the smallest part first."""
+        tries = self.tries(complaint)
+        ways = [it for it in cure.ways if it.edits and edited(self.scene.texts, it.edits) != self.scene.texts]
+        if complaint.name != "Yaml":
+            return next(iter([*ways, *self.last_ways(complaint)][tries:]), None)
+        mends, removals = [it for it in ways if not is_removal(it)], [it for it in ways if is_removal(it)]
+        for some in (mends if tries < MOST_TRIES else [], [*removals, *self.last_ways(complaint)][max(0, tries - 1) :]):
+            if best := self.best(complaint, some):
+                return best
+        return None
+
+    def best(self, complaint: Complaint, ways: list[Way]) -> Way | None:
+        """The way after which the entry has no error, or the one that is furthest on."""
+        found: list[tuple[tuple[int, int], Way]] = []
+        for way in ways:
+            rank = rank_of(complaint, self.probes.verdict(self.scene, complaint.text, complaint.line - 1, way.edits))
+            if rank == BEST:
+                return way
+            found += [(rank, way)] if rank else []
+        return min(found, key=lambda it: it[0])[1] if found else None
+
+    def last_ways(self, complaint: Complaint) -> list[Way]:
+        """If nothing else helps: takes the entry around a place out, and then what is around that."""
+        entry = self.scene.around(complaint.text, complaint.line - 1)
+        outer = [*entry.path, entry][::-1] if entry else []
+        return [Way((take_out(self.scene.texts, complaint.text, it),)) for it in outer]
+
+    def count(self, complaint: Complaint) -> None:
+        """Counts how often a complaint has been mended, and how often at this same line."""
+        for key in self.identity(complaint), (*self.identity(complaint), self.line(complaint)):
+            self.counts[key] = self.counts.get(key, 0) + 1
 
     def tries(self, complaint: Complaint) -> int:
-        """How often the complaint has come before. Counts it once more."""
-        count = self.counts.get(self.identity(complaint), 0)
-        self.counts[self.identity(complaint)] = count + 1
-        return count
+        """How often a complaint has been mended in vain. If its line has changed, it is another one, for some time."""
+        all_tries = self.counts.get(self.identity(complaint), 0)
+        here = self.counts.get((*self.identity(complaint), self.line(complaint)), 0)
+        return max(here, all_tries - MOST_MENDS)
+
+    def line(self, complaint: Complaint) -> str:
+        return line_of(self.scene.texts, complaint.text, complaint.line - 1)
 
     def identity(self, complaint: Complaint) -> tuple:
         number = self.scene.number(complaint.text, complaint.line - 1)
@@ -184,6 +194,8 @@ class Search:
             return complaint.key in self.gone or self.faults_were_reported
         if complaint.name in ("Missing", "BadValue"):
             return (complaint.text, number, complaint.key) in self.touched
+        if complaint.key == "DuplicateKey":
+            return (complaint.text, number) in self.moved
         if complaint.message in (
             "fault 2 PulseLimit", "fault 3 PowerLimit", "fault 4 HoldNotAllowed", "fault 6 BallRoute"
         ):
@@ -201,15 +213,12 @@ class Search:
             number = self.scene.number(complaint.text, outer.line)
             self.touched |= {(complaint.text, number, outer.key), (complaint.text, number, entry.key)}
 
-    def change(self, edits: tuple[Edit, ...], complaint: Complaint | None) -> None:
-        if complaint:
-            self.touch(complaint)
+    def change(self, edits: tuple[Edit, ...]) -> None:
         names = self.names()
-        texts = self.scene.texts
+        self.moved |= {(it.text, number) for it in edits if it.first == it.last for number in it.numbers}
         if self.leave_out:
-            why = self.report.findings[-1].said if complaint else ""
-            edits = tuple(commented(edit, texts, why or self.why(edit)) for edit in edits)
-        self.scene = Scenery(edited(texts, edits), self.scene)
+            edits = tuple(commented(edit, self.scene.texts, self.why(edit)) for edit in edits)
+        self.scene = Scenery(edited(self.scene.texts, edits), self.scene)
         self.gone |= names - self.names()
 
     def why(self, edit: Edit) -> str:
@@ -222,10 +231,18 @@ class Search:
         return {entry.key for section in SECTIONS_WITH_NAMES for _, entry in self.scene.entries_of(section)}
 
 
-def is_single(answer: Answer) -> bool:
-    """Whether the answer has one complaint that has to be mended before others are said."""
-    first = answer.complaints[0]
-    return first.message.startswith("error") or first.name in ("Limit", "Cycle", "Bound")
+def is_removal(way: Way) -> bool:
+    return not any(line.strip() for edit in way.edits for line in edit.lines)
+
+
+def rank_of(complaint: Complaint, verdict: Verdict) -> tuple[int, int] | None:
+    """How good a change is that mends a fault of YAML, by what is wrong after it; none where it does not help."""
+    error = verdict.error
+    if error is None or error.name != "Yaml":
+        return (1, 0) if verdict.at_edit else BEST
+    if error.line > complaint.line:
+        return 2, -error.line
+    return (3, 0) if error.line == complaint.line and error.key != complaint.key else None
 
 
 def overlap(one: Edit, other: Edit) -> bool:
@@ -234,5 +251,5 @@ def overlap(one: Edit, other: Edit) -> bool:
     )
 
 
-def search(program: Program, folder: Path, leave_out: bool = False) -> Report:
-    return Search(program, folder, leave_out).run()
+def search(program: Program, folder: Path, leave_out: bool = False, within: float = WITHIN) -> Report:
+    return Search(program, folder, leave_out, within).run()

@@ -5,6 +5,7 @@ from itertools import groupby
 
 from . import messages, ways_of_errors, ways_of_faults, ways_of_wholes, ways_of_yaml
 from .answers import Complaint
+from .printed import clean
 from .scenery import Scenery
 from .texts import Edit, Line, Texts
 from .ways import Cure, Way
@@ -151,7 +152,7 @@ def shown(finding: Finding) -> list[str]:
     lines += [f"  {finding.why}"] if finding.why else []
     more = ", ".join(it for it in (finding.recipe, finding.part) if it)
     lines += [f"  To do: {finding.write}", *shown_changes(finding), f"  More: {more}"]
-    return lines
+    return [clean(it) for it in lines]
 
 
 def shown_source(finding: Finding) -> list[str]:
@@ -206,4 +207,4 @@ def kind_of(change: Change) -> str:
 
 def as_json(finding: Finding) -> dict:
     """The finding as editors read it."""
-    return asdict(finding)
+    return {**asdict(finding), "severity": "error"}

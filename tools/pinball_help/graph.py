@@ -9,7 +9,7 @@ from .outline import Entry, Node
 from .values import event_of, is_yes
 
 
-@dataclass
+@dataclass(slots=True)
 class Cost:
     """Lines that are written, events that are posted, and the dearest of several other costs."""
 
@@ -25,7 +25,7 @@ class Cost:
         return self.lines + sum(weights.get(it, 1) for it in self.posts) + dearest
 
 
-@dataclass(frozen=True)
+@dataclass(frozen=True, slots=True)
 class Post:
     """That an event, or what begins with a blank, leads to another. `entry` is none where the machine does it."""
 

@@ -7,6 +7,8 @@ A row holds for an entry of a section (or of several) whose key and raw value ma
     value B       its value becomes B
     keys          a mapping becomes the list of its keys
     first         a list becomes its first item
+    hits          switches become the events that hit a shot
+    coils         names of coils become a mapping in which each is pulsed
     number        a formula becomes the first number in it
     placeholder   an event with a placeholder becomes an event for each value, as an example
     power         an old power becomes a part of full power: see powers.py
@@ -18,20 +20,20 @@ from dataclasses import dataclass
 from .powers import NAMES
 
 TIME = r"\d[\d.]*\s*(?:ms|s|m|h|d|msec|sec|secs|min|mins)?"
+BOOLEANS = (
+    "game_mode|stop_on_ball_end|use_wait_queue|allow_enable|reset_on_complete|disable_on_complete|persist_state|"
+    "start_running|restart_on_complete|advance_on_hit|loop|mechanical_eject"
+)
 EVENTS = r"\w*_events|events_when_\w+|events"
 GAME = "game:\n"
 
 # headings of docs/from_mpf.md
-DELAY, COUNTER, TWO_CONDITIONS = "An event after a time", "A counter in a condition", "Two conditions at once"
+DELAY = "An event after a time"
 HOLD, COMPUTED = "A coil that is held for a time", "A score that is computed"
 
 ACTS_LATER = "To keep the delay, let the event start a mode with a timer, and write the event that this mode posts."
 POSTED_LATER = "it is then posted at once. To keep the delay, let a mode with a timer post it."
 FROM_ZERO = "A variable is 0 until an entry changes it, so think of 0 too."
-ONLY_VARIABLES = "A condition compares a variable of the current player with a whole number, and nothing else."
-IN_VARIABLE = "Keep what it asks for in a variable: `{current_player.x == 1}`."
-ONE_COMPARISON = "A condition has one comparison."
-TWO_COMPARISONS = "For `and`, let one event lead to another, with a condition at each; for `or`, write two entries."
 
 
 @dataclass(frozen=True)
@@ -48,6 +50,7 @@ class Idiom:
 
 ANY = ".*"
 ENTRY = "(an entry of the section)"
+EVENT = "(an event of a player)"
 IDIOMS = (
     Idiom(
         "event_player", ANY, rf"\|\s*{TIME}",
@@ -66,12 +69,6 @@ IDIOMS = (
         "MPF handles the event after a time. Delays are not carried out here.",
         f"Write the event without the time: it then acts at once. {ACTS_LATER}",
         ("sub", rf"\|\s*{TIME}", ""), "counters:\n  c:\n    count_events: a|2s", DELAY,
-    ),
-    Idiom(
-        "event_player", ANY, r"\w\s*\{[^}]*\}",
-        "A condition of an event that is posted is not read.",
-        "Move the condition to the event that is handled: `a{current_player.x==1}: b`.",
-        ("sub", r"(:.*\w)\{[^}]*\}", r"\1"), "event_player:\n  a: b{current_player.x==1}",
     ),
     Idiom(
         "event_player", ANY, r"\([^)]*\)",
@@ -100,33 +97,23 @@ IDIOMS = (
         ("keys",), "counters:\n  c:\n    count_events: a\n    reset_events: {e: 1s}", DELAY,
     ),
     Idiom(
-        ANY, EVENTS + "|control_events", r"\{[^}]*\bdevice\.counters\b[^}]*\}",
-        ONLY_VARIABLES, "Count in a variable too, and compare it: `{current_player.x == 1}`.",
-        ("sub", r"\{[^}]*\}", ""), "shots:\n  s: {hit_events: 'a{device.counters.laps.value==3}'}", COUNTER,
-    ),
-    Idiom(
-        ANY, EVENTS + "|control_events", r"\{[^}]*\b(?:device|mode|settings|machine|players?)\b[^}]*\}",
-        ONLY_VARIABLES, IN_VARIABLE,
-        ("sub", r"\{[^}]*\}", ""), "shots:\n  s: {hit_events: 'a{mode.base.active}'}",
-    ),
-    Idiom(
-        ANY, EVENTS, r"\{(?![^}]*current_player\.)[^}]*[=<>][^}]*\}",
-        "A condition without `current_player.` is not read.",
-        "Write `{current_player.x==1}`.",
-        ("sub", r"\{\s*(\w)", r"{current_player.\1"), "counters:\n  c:\n    count_events: a{x==1}",
-    ),
-    Idiom(
-        ANY, EVENTS, r"\{[^}]*\b(?:and|or|not)\b[^}]*\}",
-        ONE_COMPARISON, TWO_COMPARISONS,
-        ("sub", r"\s+(?:and|or)\b[^}]*\}", "}"),
-        "counters:\n  c:\n    count_events: a{current_player.x==1 and current_player.y==2}", TWO_CONDITIONS,
-    ),
-    Idiom(
         "variable_player", ANY, r"current_player|[*/()]|\d\s*[+-]\s*\d",
         "MPF works out a formula here. A variable changes by a whole number that is written.",
         "Write a number: the one below is an example. This drops the formula. To keep it, write an entry for each "
         f"value, under a condition: `e{{current_player.x == 2}}:`. {FROM_ZERO}",
         ("number",), "variable_player:\n  e:\n    score: current_player.x + current_player.y", COMPUTED,
+    ),
+    Idiom(
+        "variable_player", ANY, r"^-?\d{1,3}([,_]\d{3})+$",
+        "A number has digits alone.", "Write the number without `,` and `_`.",
+        ("sub", r"(?<=\d)[,_](?=\d)", ""), "variable_player:\n  e:\n    score: 10_000",
+    ),
+    Idiom(
+        "counters|timers|multiballs|ball_saves|machine", r"\w+_value|starting_count|count_interval|\w*balls\w*",
+        r"settings\.|machine\.|current_player|[*/(]",
+        "MPF may read it from its settings or work it out. Here it is a number that is written.",
+        "Write the number: the one below is an example.",
+        ("value", "3"), "counters:\n  c:\n    count_events: a\n    count_complete_value: settings.y",
     ),
     Idiom(
         "variable_player", ANY, r"\|\s*block",
@@ -187,6 +174,12 @@ IDIOMS = (
         "A power is a part of full power, from 0 to 1.",
         "Write it as a part of full power.",
         ("power",), "coils:\n  c: {default_hold_power: 25}",
+    ),
+    Idiom(
+        "coil_player", EVENT, r"^[\w.-]|^\[",
+        "Below an event are coils, each with what it does.",
+        "Write each coil with what it does, as `{c_kick: pulse}`.",
+        ("coils",), "coils:\n  c:\ncoil_player:\n  e: c",
     ),
     Idiom(
         "coil_player", ANY, r"^(?i:on|yes|true)$",
@@ -257,7 +250,7 @@ IDIOMS = (
         ("value", "3"), "game:\n  balls_per_game: settings.balls_per_game",
     ),
     Idiom(
-        "mode", "game_mode|stop_on_ball_end|use_wait_queue", r"^[01]$",
+        ANY, BOOLEANS, r"^[01]$",
         "A boolean is a word.", "Write `yes` or `no`.",
         ("boolean",), "mode:\n  game_mode: 0",
     ),
@@ -297,8 +290,8 @@ IDIOMS = (
     Idiom(
         "shots", "switch", r"[,\s\[]",
         "A shot has one switch here.",
-        "Write one switch, and for a second switch `s_b` the event `s_b_active` in `hit_events`.",
-        ("first",), "switches:\n  s_a:\n  s_b:\nshots:\n  x: {switch: 's_a, s_b'}",
+        "Write the events of the switches in `hit_events`: any of them hits the shot.",
+        ("hits",), "switches:\n  s_a:\n  s_b:\nshots:\n  x: {switch: 's_a, s_b'}",
     ),
     Idiom(
         "shot_profiles", "states", ANY,

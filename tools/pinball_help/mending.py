@@ -33,12 +33,17 @@ def block_end(texts: Texts, name: str, at: int) -> int:
 
 
 def cut(line: str, start: int, end: int) -> str:
-    """A line without a part of it, and without the comma of this part."""
-    before, after = line[:start].rstrip(), line[end:].lstrip()
+    """A line without a part of it, and without the comma or the blanks between this part and another one."""
+    before, after = line[:start], line[end:].lstrip()
     if after.startswith(","):
-        gap = " " if before and before[-1] not in "[{" else ""
-        return before + gap + after[1:].lstrip()
-    return before.removesuffix(",") + (" " if after.startswith("#") else "") + after
+        return before + after[1:].lstrip()
+    if before.rstrip().endswith(","):
+        before = before.rstrip().removesuffix(",")
+    if after.startswith("#"):
+        return f"{before.rstrip()} {after}"
+    if not after or after[0] in "]}":
+        return before.rstrip() + after
+    return before + ("" if before.endswith((" ", "[", "{")) else " ") + after
 
 
 def emptied(entry: Entry) -> Entry:
@@ -51,8 +56,16 @@ def emptied(entry: Entry) -> Entry:
     return emptied(outer) if lone and (of_section or of_event) else entry
 
 
+def item_around(entry: Entry) -> Node | None:
+    """The item of a list to take out with an entry, since it has to have this entry."""
+    items = entry.path[-1].value.items or [] if entry.path and entry.key == "event" else []
+    return next((it for it in items if any(entry is own for own in it.entries or [])), None)
+
+
 def take_out(texts: Texts, name: str, entry: Entry) -> Edit:
     """Takes an entry out, with all that is below it; and with what is around it, where that has nothing else."""
+    if item := item_around(entry):
+        return blanks(name, item.line, max(item.line + 1, *(it.last for it in item.entries or [])))
     entry = emptied(entry)
     line = line_of(texts, name, entry.line)
     if entry.in_braces:
@@ -103,6 +116,16 @@ def add(texts: Texts, name: str, entry: Entry, setting: str) -> Edit:
         return Edit(name, entry.line, entry.line + 1, (line[: value.start + 1] + setting + comma + rest,))
     depth = value.entries[0].start if value.entries else indentation(line) + 2
     return Edit(name, entry.line, entry.line + 1, (line, " " * depth + setting))
+
+
+def add_to_item(texts: Texts, name: str, item: Node, setting: str) -> Edit:
+    """Writes one setting more into a mapping that is an item of a list."""
+    line = line_of(texts, name, item.line)
+    if line[item.start : item.start + 1] == "{":
+        head, rest = line[: item.start + 1], line[item.start + 1 :]
+        return Edit(name, item.line, item.line + 1, (f"{head}{setting}, {rest}",))
+    column = item.entries[0].start if item.entries else item.start
+    return Edit(name, item.line, item.line + 1, (line, " " * column + setting))
 
 
 def substitute(texts: Texts, name: str, entry: Entry, found: str, new: str | Callable) -> Edit:

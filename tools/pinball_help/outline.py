@@ -1,16 +1,24 @@
 """Reads the outline of a text: its keys and values, each with its place.
 
 It reads what it can of any text, also of one that is refused, and skips the rest. Whether a text is accepted is for
-the program to say."""
+the program to say. What is deeper than the program reads is skipped too, and so are brackets in a line that is too long
+for any machine: a text may be written to take all memory."""
 import re
 from dataclasses import dataclass, field
+from itertools import islice
 from typing import Iterator
 
-KEY = re.compile(r"""("(?:[^"\\]|\\.)*"|'(?:[^']|'')*'|[^\s"'#\[{&*!|>%@`,\]}].*?|)\s*:(?=\s|$)""")
+# (each way to go on begins otherwise, so that a long line takes no longer than it is long)
+PLAIN_KEY = r"""(?:[^\s"'#\[{&*!|>%@`,\]}:]|:(?!\s|$))(?:[^\s:]|:(?!\s|$)|\s+(?=[^\s:]|:(?!\s|$)))*"""
+KEY = re.compile(rf"""("(?:[^"\\]|\\.)*"|'(?:[^']|'')*'|{PLAIN_KEY}|)\s*:(?=\s|$)""")
+ITEM = re.compile(r"\s*-(\s|$)")
 ESCAPES = {"n": "\n", "t": "\t"}
+DEEPEST = 64  # blocks, and brackets: more than the program reads
+LONGEST = 20_000  # characters of a line whose brackets are read
+MOST_ITEMS = 1_025  # of a list in one text: one more than the program reads
 
 
-@dataclass
+@dataclass(slots=True)
 class Node:
     """A value: a text, a list or a mapping. Lines count from 0, and so do columns."""
 
@@ -30,11 +38,12 @@ class Node:
             return [item for item in self.items if item.entries is None and item.items is None and item.text]
         if self.entries is not None:
             return []
-        found = re.finditer(r"(?:\{[^}]*\}|[^\s,{])+", self.text)
-        return [Node(self.line, self.start + word.start(), self.start + word.end(), word[0]) for word in found]
+        found = re.finditer(r"(?:\{[^{}]*\}|[^\s,{])+", self.text)
+        words = islice(found, MOST_ITEMS)
+        return [Node(self.line, self.start + word.start(), self.start + word.end(), word[0]) for word in words]
 
 
-@dataclass
+@dataclass(slots=True)
 class Entry:
     key: str
     line: int
@@ -57,6 +66,8 @@ def unquoted(text: str) -> str:
 
 def without_comment(text: str) -> str:
     """The text without a comment and the blanks before it."""
+    if "#" not in text:
+        return text.rstrip()
     quote = ""
     for at, sign in enumerate(text):
         if quote:
@@ -77,6 +88,7 @@ class Flow:
 
     def __init__(self, text: str, line: int, at: int):
         self.text, self.line, self.at = text, line, at
+        self.inside = 0  # how many brackets are open
 
     def blanks(self) -> None:
         while self.at < len(self.text) and self.text[self.at] in " \t":
@@ -99,7 +111,11 @@ class Flow:
         sign = self.next()
         if sign not in ("[", "{"):
             return self.scalar()
-        node = Node(self.line, self.at)
+        node = Node(self.line, self.at, len(self.text))
+        self.inside += 1
+        if self.inside > DEEPEST:
+            self.at = len(self.text)
+            return node
         self.at += 1
         closing = "]" if sign == "[" else "}"
         node.items, node.entries = ([], None) if sign == "[" else (None, [])
@@ -111,6 +127,7 @@ class Flow:
             if self.at == before:
                 self.at += 1
         self.at += 1 if self.next() == closing else 0
+        self.inside -= 1
         node.end = self.at
         return node
 
@@ -134,32 +151,35 @@ class Blocks:
 
     def __init__(self, lines: list[str]):
         stripped = [without_comment(line.rstrip("\r")) for line in lines]
-        self.rows = [(at, line) for at, line in enumerate(stripped) if line.strip()]
+        self.rows = [(at, indentation(line), line) for at, line in enumerate(stripped) if line and not line.isspace()]
         self.next = 0
+        self.inside = 0  # in how many blocks the next line is
 
     def row(self) -> tuple[int, int, str] | None:
         """The line that comes next, with its indentation and its content."""
-        if self.next == len(self.rows):
-            return None
-        at, line = self.rows[self.next]
-        depth = indentation(line)
-        return at, depth, line
+        return self.rows[self.next] if self.next < len(self.rows) else None
 
     def block(self, depth: int) -> Node:
         at, _, line = self.row() or (0, 0, "")
         node = Node(at, depth, depth)
         is_list = is_item(line)
         node.items, node.entries = ([], None) if is_list else (None, [])
+        self.inside += 1
+        self.lines(node, depth, is_list)
+        self.inside -= 1
+        return node
+
+    def lines(self, node: Node, depth: int, is_list: bool) -> None:
+        """Reads the lines of a block."""
         while (row := self.row()) and row[1] >= depth:
-            if row[1] > depth or is_item(row[2]) != is_list:
-                if row[1] == depth:
-                    break
+            if row[1] == depth and is_item(row[2]) != is_list:
+                break
+            if row[1] > depth or self.inside > DEEPEST:
                 self.next += 1
             elif is_list:
                 self.item(node)
             else:
                 self.entry(node)
-        return node
 
     def item(self, node: Node) -> None:
         at, depth, line = self.row() or (0, 0, "")
@@ -171,7 +191,7 @@ class Blocks:
             node.items.append(self.below(at, depth, len(line)))
         elif KEY.match(line, column) and line[column] not in "[{":
             # its first entry continues as a block in the column of the key
-            self.rows[self.next] = (at, " " * column + line[column:])
+            self.rows[self.next] = (at, column, " " * column + line[column:])
             node.items.append(self.block(column))
         else:
             self.next += 1
@@ -200,11 +220,11 @@ class Blocks:
 
 
 def is_item(line: str) -> bool:
-    return bool(re.match(r"\s*-(\s|$)", line))
+    return ITEM.match(line) is not None
 
 
 def value_of(line: str, at: int, column: int) -> Node:
-    if line[column : column + 1] in ("[", "{"):
+    if line[column : column + 1] in ("[", "{") and len(line) <= LONGEST:
         return Flow(line, at, column).value()
     return Node(at, column, len(line), unquoted(line[column:]))
 
@@ -237,9 +257,3 @@ def entries(node: Node) -> Iterator[Entry]:
         yield from entries(entry.value)
     for item in node.items or []:
         yield from entries(item)
-
-
-def entry_at(root: Node, line: int, key: str) -> Entry | None:
-    """The entry of this key in a line; else the first entry of the line."""
-    found = [entry for entry in entries(root) if entry.line == line]
-    return next((entry for entry in found if entry.key == key), found[0] if found else None)

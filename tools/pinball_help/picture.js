@@ -82,119 +82,178 @@ function movable(area, view, show, flat) {
   return { zoomIn: () => zoom(1.3, ...middle()), zoomOut: () => zoom(1 / 1.3, ...middle()), wasMoved: () => moved };
 }
 
-// The graph.
+// A graph of boxes and arrows in an area. It has one or more layouts: where each box is, if it is shown there.
 const HEIGHT = 18;
-const graph = data.graph, area = at("graph");
-const svg = draw("svg", { "aria-hidden": "true" }, area);
-const root = draw("g", {}, svg);
-const boxes = graph.boxes.map(([name, x, y, width, weight, isSwitch, linked], number) =>
-  ({ number, name, x, y, width, weight, isSwitch, linked, leads: [], comes: [] }));
-for (const arrow of graph.arrows) {
-  boxes[arrow[0]].leads.push(arrow);
-  boxes[arrow[1]].comes.push(arrow);
-}
-const path = (from, to) => {
-  const x = from.x + from.width, y = from.y + HEIGHT / 2, u = to.x, v = to.y + HEIGHT / 2;
-  const bend = u > x ? Math.max(20, (u - x) / 2) : 60;
-  return `M${x} ${y}C${x + bend} ${y} ${u - bend} ${v} ${u} ${v}`;
-};
-const paths = (arrows) => arrows.map((it) => path(boxes[it[0]], boxes[it[1]])).join("");
-for (const [name, y, height] of graph.bands) {
-  const lone = name === " " ? " lone" : "";
-  draw("rect", { class: `band${lone}`, x: 0, y, width: graph.size[0], height, rx: 8 }, root);
-  const title = name === "machine" ? "machine" : name === " " ? "posted, and that is all" : `mode ${name}`;
-  draw("text", { class: `title${lone}`, x: 12, y: y + 18 }, root, title);
-}
-const plain = draw("path", { class: "arrows", d: paths(graph.arrows.filter((it) => !it[2])) }, root);
-const chosenArrows = draw("path", { class: "arrows chosen" }, root);
-const red = graph.arrows.filter((it) => it[2]);
-draw("path", { class: "arrows red", d: paths(red) }, root);
-const inCycle = new Set(red.flatMap((it) => [it[0], it[1]]));
 const short = (name) => (name.length > 40 ? `${name.slice(0, 39)}…` : name);
-for (const it of boxes) {
-  const kinds = ["box", it.isSwitch && "switch", !it.linked && "lone", inCycle.has(it.number) && "cycle"];
-  const classes = kinds.filter(Boolean).join(" ");
-  it.shape = draw("g", { class: classes, transform: `translate(${it.x} ${it.y})` }, root);
-  draw("rect", { width: it.width, height: HEIGHT, rx: 4 }, it.shape);
-  draw("text", { x: 6, y: 13 }, it.shape, short(it.name));
-  if (it.weight) draw("text", { class: "weight", x: it.width - 5, y: 13 }, it.shape, it.weight);
-  it.shape.addEventListener("click", () => { if (!graphMoves.wasMoved()) choose(it); });
+const TITLES = { machine: "machine", " ": "posted, and that is all", "  ": "modes" };
+const titleOf = (band) => TITLES[band] || `mode ${band}`;
+function graphIn(area, graph, tell) {
+  const svg = draw("svg", { "aria-hidden": "true" }, area);
+  const root = draw("g", {}, svg), bands = draw("g", {}, root);
+  const boxes = graph.boxes.map(([name, width, weight, isSwitch, linked], number) =>
+    ({ number, name, width, weight, isSwitch, linked, leads: [], comes: [] }));
+  for (const arrow of graph.arrows) {
+    boxes[arrow[0]].leads.push(arrow);
+    boxes[arrow[1]].comes.push(arrow);
+  }
+  const red = graph.arrows.filter((it) => it[2]);
+  const inCycle = new Set(red.flatMap((it) => [it[0], it[1]]));
+  const kinds = ["arrows", "arrows chosen", "arrows red"];
+  const [plain, chosenArrows, redArrows] = kinds.map((it) => draw("path", { class: it }, root));
+  let layout = graph.layouts[0], chosen = null;
+  const path = ([one, other]) => {
+    const from = boxes[one], to = boxes[other];
+    if (!from.at || !to.at) return "";
+    const x = from.at[0] + from.width, y = from.at[1] + HEIGHT / 2, u = to.at[0], v = to.at[1] + HEIGHT / 2;
+    const bend = u > x ? Math.max(20, (u - x) / 2) : 60;
+    return `M${x} ${y}C${x + bend} ${y} ${u - bend} ${v} ${u} ${v}`;
+  };
+  const paths = (arrows) => arrows.map(path).join("");
+  for (const it of boxes) {
+    const classes = ["box", it.isSwitch && "switch", !it.linked && "lone", inCycle.has(it.number) && "cycle"];
+    it.shape = draw("g", { class: classes.filter(Boolean).join(" ") }, root);
+    draw("rect", { width: it.width, height: HEIGHT, rx: 4 }, it.shape);
+    draw("text", { x: 6, y: 13 }, it.shape, short(it.name));
+    if (it.weight) draw("text", { class: "weight", x: it.width - 5, y: 13 }, it.shape, it.weight);
+    it.shape.addEventListener("click", () => { if (!moves.wasMoved()) choose(it); });
+  }
+  const view = { x: 0, y: 0, scale: 1, least: 0.01, most: 4 };
+  const show = () => {
+    root.setAttribute("transform", `translate(${view.x} ${view.y}) scale(${view.scale})`);
+    svg.classList.toggle("far", view.scale < 0.28);
+  };
+  const lay = (which) => {
+    layout = graph.layouts[which] || graph.layouts[0];
+    bands.textContent = "";
+    for (const [name, y, height] of layout.bands) {
+      const lone = name === " " ? " lone" : "";
+      draw("rect", { class: `band${lone}`, x: 0, y, width: layout.size[0], height, rx: 8 }, bands);
+      draw("text", { class: `title${lone}`, x: 12, y: y + 18 }, bands, titleOf(name));
+    }
+    boxes.forEach((it, number) => {
+      it.at = layout.at[number];
+      it.shape.classList.toggle("out", !it.at);
+      if (it.at) it.shape.setAttribute("transform", `translate(${it.at[0]} ${it.at[1]})`);
+    });
+    plain.setAttribute("d", paths(graph.arrows.filter((it) => !it[2])));
+    redArrows.setAttribute("d", paths(red));
+  };
+  view.fit = () => {
+    view.scale = Math.min(1.2, area.clientWidth / layout.size[0], area.clientHeight / layout.size[1]);
+    view.x = Math.max(0, (area.clientWidth - layout.size[0] * view.scale) / 2);
+    view.y = 4;
+    show();
+  };
+  const begin = () => {
+    view.fit();
+    if (view.scale >= 0.75) return;
+    Object.assign(view, { x: 4, y: 4, scale: 0.85 });
+    if (inCycle.size) goTo(boxes[red[0][0]]); else show();
+  };
+  const moves = movable(area, view, show, false);
+  const goTo = (it) => {
+    view.scale = Math.max(view.scale, 0.8);
+    view.x = area.clientWidth / 2 - (it.at[0] + it.width / 2) * view.scale;
+    view.y = area.clientHeight / 2 - it.at[1] * view.scale;
+    show();
+  };
+  const goToBand = (name) => {
+    const band = layout.bands.find((it) => it[0] === name);
+    if (!band) return;
+    view.scale = Math.max(view.scale, 0.8);
+    view.x = 4;
+    view.y = 8 - band[1] * view.scale;
+    show();
+  };
+  function choose(it) {
+    chosen = it;
+    for (const box of boxes) {
+      box.shape.classList.remove("chosen", "dim");
+      if (it) box.shape.classList.add("dim");
+    }
+    plain.classList.toggle("dim", Boolean(it));
+    at("panel").textContent = "";
+    const near = it ? [...it.leads, ...it.comes] : [];
+    for (const arrow of near) for (const end of [0, 1]) boxes[arrow[end]].shape.classList.remove("dim");
+    chosenArrows.setAttribute("d", paths(near.filter((arrow) => !arrow[2])));
+    if (it) it.shape.classList.remove("dim");
+    if (it) it.shape.classList.add("chosen");
+    tell(it, { boxes, red, inCycle, places: graph.places });
+  }
+  const again = () => { if (chosen && chosen.at) choose(chosen); else choose(null); };
+  const bandNames = () => layout.bands.map((it) => it[0]).filter((name) => name.trim());
+  lay(0);
+  return { svg, boxes, view, moves, show, lay, begin, goTo, goToBand, choose, again, bandNames };
 }
-const view = { x: 0, y: 0, scale: 1, least: 0.01, most: 4 };
-const showGraph = () => {
-  root.setAttribute("transform", `translate(${view.x} ${view.y}) scale(${view.scale})`);
-  svg.classList.toggle("far", view.scale < 0.28);
-};
-view.fit = () => {
-  const scale = Math.min(area.clientWidth / graph.size[0], area.clientHeight / graph.size[1]);
-  view.scale = Math.min(1.2, scale);
-  view.x = Math.max(0, (area.clientWidth - graph.size[0] * view.scale) / 2);
-  view.y = 4;
-  showGraph();
-};
-view.begin = () => {
-  view.fit();
-  if (view.scale >= 0.75) return;
-  Object.assign(view, { x: 4, y: 4, scale: 0.85 });
-  if (inCycle.size) goTo(boxes[red[0][0]]); else showGraph();
-};
-const graphMoves = movable(area, view, showGraph, false);
-const goTo = (it) => {
-  view.scale = Math.max(view.scale, 0.8);
-  view.x = area.clientWidth / 2 - (it.x + it.width / 2) * view.scale;
-  view.y = area.clientHeight / 2 - it.y * view.scale;
-  showGraph();
-};
-function list(title, arrows, end, places = []) {
+function list(title, arrows, end, boxes, go, places = []) {
   if (!arrows.length && !places.length) return;
   element("h3", title, at("panel"));
   const items = element("ul", "", at("panel"));
   for (const place of places.slice(0, 200)) element("li", place, items);
   for (const arrow of arrows.slice(0, 200)) {
     const item = element("li", "", items), other = boxes[arrow[end]];
-    element("button", other.name + (other.weight ? ` (${other.weight})` : ""), item).onclick = () => {
-      choose(other);
-      goTo(other);
-    };
-    for (const why of arrow[3]) element("small", why, item);
+    element("button", other.name + (other.weight ? ` (${other.weight})` : ""), item).onclick = () => go(other);
+    for (const why of arrow[3].slice(0, 40)) element("small", why, item);
   }
 }
-function choose(it) {
-  for (const box of boxes) {
-    box.shape.classList.remove("chosen", "dim");
-    if (it) box.shape.classList.add("dim");
-  }
-  plain.classList.toggle("dim", Boolean(it));
-  at("panel").textContent = "";
-  if (!it) { chosenArrows.setAttribute("d", ""); hint(); return; }
-  const near = [...it.leads, ...it.comes];
-  for (const arrow of near) for (const end of [0, 1]) boxes[arrow[end]].shape.classList.remove("dim");
-  it.shape.classList.remove("dim");
-  it.shape.classList.add("chosen");
-  chosenArrows.setAttribute("d", paths(near.filter((arrow) => !arrow[2])));
-  element("h2", it.name, at("panel"));
-  if (it.weight) element("p", `Weight ${it.weight}: posting it once causes at most so many lines.`, at("panel"));
-  if (inCycle.has(it.number)) element("p", "It is part of the cycle.", at("panel"));
-  list("It leads to", it.leads, 1);
-  list("It comes from", it.comes, 0);
-  const places = graph.places[it.number] || [[], []];
-  list("It comes from outside, by", [], 0, places[1]);
-  list("It is handled in", [], 0, places[0]);
-}
+
+// What posts what.
 const HINTS = [
   "Choose an event to see what posts it, what it leads to, and where that is written. What an event leads to is to its "
-    + "right. A number is the event's weight. A blue one comes from outside: from a switch, a timer, a ball device or a "
-    + "ball save.",
+    + "right. A number is the event's weight. A blue one comes from outside: from a switch, a timer, a ball device or "
+    + "a ball save.",
   "Drag to move. The wheel, two fingers, + and − zoom. 0 fits all. The arrow keys move. / searches, Enter goes to "
     + "the next one found, Escape lets go.",
 ];
-function hint() {
-  at("panel").textContent = "";
-  if (red.length) element("h2", "The cycle, in red", at("panel"));
-  for (const arrow of red) list(`${boxes[arrow[0]].name} leads to`, [arrow], 1);
-  element("p", HINTS[0], at("panel"));
-  element("p", HINTS[1], at("panel"));
+const events = graphIn(at("graph"), data.graph, (it, { boxes, red, inCycle, places }) => {
+  if (!it) {
+    if (red.length) element("h2", "The cycle, in red", at("panel"));
+    for (const arrow of red) list(`${boxes[arrow[0]].name} leads to`, [arrow], 1, boxes, reach);
+    for (const hint of HINTS) element("p", hint, at("panel"));
+    return;
+  }
+  element("h2", it.name, at("panel"));
+  if (it.weight) element("p", `Weight ${it.weight}: posting it once causes at most so many lines.`, at("panel"));
+  if (inCycle.has(it.number)) element("p", "It is part of the cycle.", at("panel"));
+  const [handledIn, postedBy] = places[it.number] || [[], []];
+  list("It leads to", it.leads, 1, boxes, reach);
+  list("It comes from", it.comes, 0, boxes, reach);
+  list("It comes from outside, by", [], 0, boxes, reach, postedBy);
+  list("It is handled in", [], 0, boxes, reach, handledIn);
+});
+// Chooses an event and goes to it. One that is left out is shown again.
+function reach(it) {
+  if (!it.linked) at("lone").checked = true;
+  if (!it.at || !it.linked) { at("handled").checked = false; showLayout(); }
+  events.choose(it);
+  events.goTo(it);
 }
+// Goes to the events of a mode. If nothing handles any of them, all are shown.
+function reachBand(name) {
+  if (!events.bandNames().includes(name)) { at("handled").checked = false; showLayout(); }
+  events.goToBand(name);
+}
+function showLayout() {
+  const few = at("handled").checked;
+  at("lone").disabled = few;
+  events.lay(few ? 1 : 0);
+  events.svg.classList.toggle("without", few || !at("lone").checked);
+}
+
+// The modes alone.
+const modes = data.modes && graphIn(at("modes"), data.modes, (it, { boxes }) => {
+  if (!it) {
+    element("p", "An arrow leads from a mode to each mode that its events start or stop. Choose a mode to see which "
+      + "events these are. That a mode stops with the ball or the game is not drawn.", at("panel"));
+    element("p", HINTS[1], at("panel"));
+    return;
+  }
+  const go = (other) => { modes.choose(other); modes.goTo(other); };
+  element("h2", titleOf(it.name), at("panel"));
+  element("button", "Show its events", at("panel")).onclick = () => { show("graph"); reachBand(it.name); };
+  list("It comes from", it.comes, 0, boxes, go);
+  list("It leads to", it.leads, 1, boxes, go);
+});
 
 // The timeline.
 const play = data.play, lane = at("play");
@@ -314,45 +373,67 @@ if (play) {
 }
 
 // Tabs, search and buttons.
+const tabs = {
+  graph: { moves: events.moves, view: events.view, begin: () => { events.begin(); events.choose(null); } },
+  modes: modes && { moves: modes.moves, view: modes.view, begin: () => { modes.begin(); modes.choose(null); } },
+  play: play && { moves: playMoves, view: span, begin: () => { span.fit(); tell(0); } },
+};
 let shown = "graph";
 function show(which) {
   shown = which;
-  for (const name of ["graph", "play"]) {
+  for (const name of Object.keys(tabs)) {
     at(name).hidden = name !== which;
     at(`tab-${name}`).setAttribute("aria-selected", String(name === which));
   }
-  if (which === "graph") { view.begin(); choose(null); } else { span.fit(); tell(0); }
+  at("of-graph").hidden = which !== "graph";
+  tabs[which].begin();
+  search();
 }
-at("tab-graph").onclick = () => show("graph");
-at("tab-play").onclick = () => show("play");
-at("in").onclick = () => (shown === "graph" ? graphMoves : playMoves).zoomIn();
-at("out").onclick = () => (shown === "graph" ? graphMoves : playMoves).zoomOut();
-at("fit").onclick = () => (shown === "graph" ? view : span).fit();
-const showLone = () => svg.classList.toggle("without", !at("lone").checked);
-at("lone").onchange = showLone;
+for (const name of Object.keys(tabs)) {
+  at(`tab-${name}`).disabled = !tabs[name];
+  at(`tab-${name}`).onclick = () => show(name);
+}
+at("in").onclick = () => tabs[shown].moves.zoomIn();
+at("out").onclick = () => tabs[shown].moves.zoomOut();
+at("fit").onclick = () => tabs[shown].view.fit();
+at("lone").onchange = showLayout;
+at("handled").onchange = () => { showLayout(); events.begin(); events.again(); };
+for (const name of events.bandNames()) {
+  const option = element("option", titleOf(name), at("to"));
+  option.value = name;
+}
+at("to").onchange = () => { reachBand(at("to").value); at("to").value = ""; at("graph").focus(); };
 let hits = [], next = 0;
-at("words").oninput = () => {
+function search() {
   searched = at("words").value.trim().toLowerCase();
+  const boxes = shown === "play" ? [] : (shown === "modes" ? modes : events).boxes;
   hits = searched ? boxes.filter((it) => it.name.toLowerCase().includes(searched)) : [];
   next = 0;
   for (const it of boxes) it.shape.classList.toggle("hit", hits.includes(it));
-  const rows = play && shown === "play" ? play.rows.filter((it) => matches(it[1])).length : hits.length;
-  at("found").textContent = searched ? `${rows} found` : "";
+  const count = shown === "play" ? play.rows.filter((it) => matches(it[1])).length : hits.length;
+  at("found").textContent = searched ? `${count} found` : "";
   if (shown === "play") showPlay();
-};
+}
+at("words").oninput = search;
 at("search").onsubmit = (event) => {
   event.preventDefault();
-  if (shown !== "graph" || !hits.length) return;
+  if (!hits.length) return;
   const it = hits[next % hits.length];
   next += 1;
-  if (!it.linked && !at("lone").checked) { at("lone").checked = true; showLone(); }
-  choose(it);
-  goTo(it);
+  if (shown === "graph") { reach(it); return; }
+  modes.choose(it);
+  modes.goTo(it);
 };
 document.addEventListener("keydown", (event) => {
   if (event.key === "/" && document.activeElement !== at("words")) { event.preventDefault(); at("words").focus(); }
-  else if (event.key === "Escape") { at("words").value = ""; at("words").oninput(); choose(null); at(shown).focus(); }
+  else if (event.key === "Escape") {
+    at("words").value = "";
+    search();
+    if (shown !== "play") (shown === "modes" ? modes : events).choose(null);
+    at(shown).focus();
+  }
 });
-addEventListener("resize", () => (shown === "graph" ? showGraph() : showPlay()));
-showLone();
-show(location.hash === "#play" && play ? "play" : "graph");
+addEventListener("resize", () => (shown === "play" ? showPlay() : (shown === "modes" ? modes : events).show()));
+showLayout();
+const asked = location.hash.slice(1);
+show(tabs[asked] ? asked : "graph");

@@ -1,4 +1,6 @@
 """One page with the graph of what posts what, and with a log the timeline of its play."""
+import base64
+import hashlib
 import html
 import json
 import re
@@ -8,24 +10,28 @@ from .answers import Answer
 from .graph import CycleError, Graph, Post
 from .layout import Layout, add_lone, placed
 from .machine_graph import graph_of
+from .printed import clean
 from .scenery import Scenery
-from .trace import Coils, Step, joined, steps_of, time_of, words_of
+from .trace import Coils, Step, steps_of, time_of, words_of
 
 HERE = Path(__file__).resolve().parent
 MOST_LINES = 60_000  # of a play that is drawn
+MODES = "  "  # the band of the picture of modes
 BALLS = ("in devices", "on the way", "on the playfield")
 
 
 def graph_data(scene: Scenery, graph: Graph, answer: Answer) -> dict:
-    """The boxes, bands and arrows of the graph, as the page reads them."""
+    """The boxes and arrows of the graph, as the page reads them, and where they are: all, or those that are handled."""
     cycle = next((it.words for it in answer.complaints if it.name == "Cycle"), ())
     steps = set(zip(cycle, [*cycle[1:], *cycle[:1]]))
-    names, after = graph.names(), leads_to(graph)
+    names, after, bands = graph.names(), leads_to(graph), bands_of(graph)
     weights = weights_of(graph, answer)
-    linked = {it for name, following in after.items() for it in (name, *following)} | {it.event for it in graph.handled}
-    layout = placed([it for it in names if it in linked], bands_of(graph), after)
-    add_lone(layout, [it for it in names if it not in linked])
-    names = list(layout.boxes)
+    handled = {*after} | {it.event for it in graph.handled}
+    linked = handled | {it for following in after.values() for it in following}
+    whole = placed([it for it in names if it in linked], bands, after)
+    add_lone(whole, [it for it in names if it not in linked])
+    names = list(whole.boxes)
+    few = layout_of([it for it in names if it in handled], bands, after)
     number = {name: at for at, name in enumerate(names)}
     outside = {it.posts for it in graph.posts if it.event.startswith(" ")}
     arrows: dict[tuple[int, int, bool], list[str]] = {}
@@ -34,11 +40,52 @@ def graph_data(scene: Scenery, graph: Graph, answer: Answer) -> dict:
             key = (number[it.event], number[it.posts], (it.event, it.posts) in steps)
             arrows.setdefault(key, []).append(why_of(scene, it))
     return {
-        "boxes": [box(layout, name, weights.get(name, 0), name in outside, name in linked) for name in names],
-        "bands": [[it.name, it.y, it.height] for it in layout.bands],
+        "boxes": [
+            [name, round(whole.boxes[name].width), weights.get(name, 0), int(name in outside), int(name in linked)]
+            for name in names
+        ],
         "arrows": [[one, other, int(red), list(dict.fromkeys(why))] for (one, other, red), why in arrows.items()],
         "places": places(scene, graph, number),
+        "layouts": [layout_data(whole, names), layout_data(few, names)],
+    }
+
+
+def layout_of(names: list[str], bands: dict[str, str], after: dict[str, list[str]]) -> Layout:
+    """Where these names are, by what they lead to among themselves."""
+    shown = {*names}
+    return placed(names, bands, {it: [one for one in after.get(it, []) if one in shown] for it in names})
+
+
+def layout_data(layout: Layout, names: list[str]) -> dict:
+    """The place of each name, or none if it is not shown; the bands; and the size of the whole."""
+    boxes = [layout.boxes.get(name) for name in names]
+    return {
+        "at": [[round(it.x), round(it.y)] if it else None for it in boxes],
+        "bands": [[it.name, it.y, it.height] for it in layout.bands],
         "size": [layout.width + 20, layout.height],
+    }
+
+
+def modes_data(scene: Scenery, graph: Graph) -> dict | None:
+    """The modes alone: an arrow is from the mode that posts an event to each mode that has it as a start or stop."""
+    modes = [scene.owner(text) for text in scene.read]
+    if len(modes) < 2:
+        return None
+    bands, number = bands_of(graph), {name: at for at, name in enumerate(modes)}
+    arrows: dict[tuple[int, int], list[str]] = {}
+    for it in graph.posts:
+        one, other = bands.get(it.event, ""), bands.get(it.posts, "")
+        does = {f"mode_{other}_will_start": "starts", f"mode_{other}_stopping": "stops"}.get(it.posts)
+        if it.entry and does and one in number and other in number and one != other:
+            said = f"{it.event} {does} {other}: {why_of(scene, it)}"
+            arrows.setdefault((number[one], number[other]), []).append(said)
+    after = {name: [modes[other] for one, other in arrows if modes[one] == name] for name in modes}
+    layout = layout_of(modes, dict.fromkeys(modes, MODES), after)
+    return {
+        "boxes": [[name, round(layout.boxes[name].width), 0, int(name == "machine"), 1] for name in modes],
+        "arrows": [[one, other, 0, list(dict.fromkeys(why))] for (one, other), why in arrows.items()],
+        "places": {},
+        "layouts": [layout_data(layout, modes)],
     }
 
 
@@ -76,11 +123,6 @@ def weights_of(graph: Graph, answer: Answer) -> dict[str, int]:
         return {}
 
 
-def box(layout: Layout, name: str, weight: int, from_outside: bool, is_linked: bool) -> list:
-    at = layout.boxes[name]
-    return [name, round(at.x), round(at.y), round(at.width), weight, int(from_outside), int(is_linked)]
-
-
 def places(scene: Scenery, graph: Graph, number: dict[str, int]) -> dict[int, list[list[str]]]:
     """Of each event, by its number: where it is handled, and what posts it from outside."""
     found: dict[int, list[list[str]]] = {}
@@ -99,14 +141,15 @@ def play_data(trace: str) -> dict:
     open_at: dict[tuple[str, str], int] = {}
     levels: dict[str, list[list[int]]] = {}
     owners: dict[tuple[str, str], str] = {}
-    coils = Coils()
+    coils = Coils(keep=True)
     for it in steps:
         coils.take(it)
         follow(it, spans, open_at, levels, owners)
     for key, start in open_at.items():
         spans.setdefault(key, []).append([start, end])
+    coils.end()
     for name, coil in coils.coils.items():
-        spans["coils", name] = [list(it) for it in joined([*coil.on, *([(coil.since, end)] if coil.holder else [])])]
+        spans["coils", name] = [list(it) for it in coil.on.all or []]
     return {
         "end": end, "cut": cut,
         "rows": [
@@ -164,15 +207,23 @@ def answer_words(answer: Answer) -> str:
 
 def page(title: str, scene: Scenery, answer: Answer, trace: str | None) -> str:
     """The page: the data of this machine in the page of picture.html."""
+    title, graph = clean(title), graph_of(scene)
     data = {"title": title, "answer": answer_words(answer), "yes": answer.accepted,
-            "graph": graph_data(scene, graph_of(scene), answer), "play": play_data(trace) if trace else None}
-    # (a script ends at the first `</`, wherever it is)
-    text = json.dumps(data, separators=(",", ":"), ensure_ascii=True).replace("</", "<\\/")
-    parts = {name: (HERE / f"picture.{name}").read_text() for name in ("css", "js")}
-    whole = (HERE / "picture.html").read_text()
-    for name, part in (*parts.items(), ("title", html.escape(title)), ("data", text)):
-        whole = whole.replace(f"{{{{{name}}}}}", part)
-    return whole
+            "graph": graph_data(scene, graph, answer), "modes": modes_data(scene, graph),
+            "play": play_data(trace) if trace else None}
+    # (what is in a script is no HTML: a `<` there may end it, so none is written)
+    text = json.dumps(data, separators=(",", ":"), ensure_ascii=True).replace("<", "\\u003c")
+    css, js = ((HERE / f"picture.{name}").read_text() for name in ("css", "js"))
+    parts = {"css": css, "js": js, "title": html.escape(title), "data": text, "policy": policy(css, js)}
+    # (in one pass: what a machine's names say is not looked at again)
+    return re.sub(r"\{\{(\w+)\}\}", lambda found: parts[found[1]], (HERE / "picture.html").read_text())
+
+
+def policy(css: str, js: str) -> str:
+    """What a browser may do in the page: run its one script, and use its one style sheet. Nothing is loaded or sent."""
+    digests = [base64.b64encode(hashlib.sha256(it.encode()).digest()).decode() for it in (js, css)]
+    script, style = (f"'sha256-{it}'" for it in digests)
+    return f"default-src 'none'; script-src {script}; style-src {style}; base-uri 'none'; form-action 'none'"
 
 
 __all__ = ["page", "time_of"]

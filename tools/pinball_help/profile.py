@@ -22,6 +22,7 @@ TABLES = {
     "shots": ("Setting of a shot",),
     "shot_groups": ("Setting of a group",),
     "shot_profiles": ("Setting of a profile",),
+    "states": ("Setting of a state",),
     "ball_devices": ("Setting of a ball device",),
     "ball_saves": ("Setting of a ball save",),
     "multiballs": ("Setting of a multiball",),
@@ -45,6 +46,7 @@ CALLED = {
     "shots": "a shot",
     "shot_groups": "a group",
     "shot_profiles": "a profile",
+    "states": "an item of `states`",
     "ball_devices": "a ball device",
     "ball_saves": "a ball save",
     "multiballs": "a multiball",
@@ -103,6 +105,12 @@ def sections() -> dict[str, str]:
 
 
 @cache
+def entries() -> dict[str, tuple[str, str]]:
+    """What an entry of each section is, and what settings it has."""
+    return {name: (row[2], row[3]) for row in tables().get("Section", []) for name in names(row[0])}
+
+
+@cache
 def skipped() -> frozenset[str]:
     after = PAGE.read_text().partition("### Skipped sections\n")[2].partition("\n#")[0]
     return frozenset(names(after.replace("\n", " ")))
@@ -114,6 +122,12 @@ def of_other_tools() -> frozenset[str]:
     paragraphs = PAGE.read_text().split("\n\n")
     found = next((it for it in paragraphs if "`console_log`" in it), "")
     return frozenset(names(found.replace("\n", " ").partition("may also have")[2].partition(".")[0]))
+
+
+@cache
+def actions() -> list[str]:
+    """The actions of an item of `control_events`."""
+    return [name for row in tables().get("Action", []) for name in names(row[0])]
 
 
 def limits() -> dict[str, str]:

@@ -35,7 +35,17 @@ class Program:
         return ran.stdout.decode("utf-8", "surrogateescape")
 
     def check(self, folder: Path) -> Answer:
-        return answer_of(self.output(["check", str(folder)]))
+        return answer_of(self.output(["check", path_of(folder)]))
+
+    def check_texts(self, texts: dict[str, list[str]]) -> Answer:
+        """The answer for texts that are in no folder, by a bundle of them."""
+        bundle = "".join(f"@ {name}\n" + "".join(f"{line}\n" for line in lines) for name, lines in texts.items())
+        return answer_of(self.output(["check"], bundle))
+
+
+def path_of(folder: Path) -> str:
+    """The path of a folder as a word of the program's command line: never an option."""
+    return os.path.abspath(folder)
 
 
 def proved() -> str | None:

@@ -30,6 +30,7 @@ class Scenery:
         known = before.outlines if before else {}
         same = [name for name in known if before and before.texts[name] is texts.get(name)]
         others = {name: outline.read(plain(lines)) for name, lines in texts.items() if name not in same}
+        self.by_line: dict[str, dict[int, list[Entry]]] = {}
         self.outlines: dict[str, Node] = {name: others.get(name) or known[name] for name in texts}
 
     @cached_property
@@ -69,7 +70,16 @@ class Scenery:
         return found
 
     def entry_at(self, text: str, line: int, key: str) -> Entry | None:
-        return outline.entry_at(self.outlines[text], line, key) if text in self.outlines else None
+        found = self.entries_at(text, line)
+        return next((entry for entry in found if entry.key == key), found[0] if found else None)
+
+    def entries_at(self, text: str, line: int) -> list[Entry]:
+        """The entries that begin in a line."""
+        if text not in self.by_line:
+            self.by_line[text] = {}
+            for entry in outline.entries(self.outlines.get(text, Node(0))):
+                self.by_line[text].setdefault(entry.line, []).append(entry)
+        return self.by_line[text].get(line, [])
 
     def around(self, text: str, line: int) -> Entry | None:
         """The innermost entry that a line belongs to."""
@@ -101,6 +111,10 @@ def anchors_of(texts: Texts) -> dict[str, str]:
 
 def section_of(entry: Entry) -> str:
     return entry.path[0].key if entry.path else entry.key
+
+
+def siblings_of(entry: Entry) -> list[Entry]:
+    return entry.path[-1].value.entries or [] if entry.path else []
 
 
 def action_of(coil: Entry) -> str:

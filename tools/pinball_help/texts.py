@@ -1,15 +1,25 @@
-"""The texts of a machine's folder, and a copy of them that can be edited."""
+"""The texts of a machine's folder, and a copy of them that can be edited.
+
+A folder may be anybody's. So no more of it is read than the program reads, and nothing but files."""
+import os
+import stat
 import tempfile
 from contextlib import contextmanager
 from dataclasses import dataclass
 from pathlib import Path
-from typing import Iterator
+from typing import Iterator, Sequence, overload
+
+from . import outline
 
 MACHINE = "config/config.yaml"
 VERSION = "#config_version=6"
+MIB = 1 << 20
+TEXT_LIMIT, FOLDER_LIMIT, LOG_LIMIT = MIB, 8 * MIB, 16 * MIB  # those of the program, in bytes
+# of all texts of a folder, where a large machine has some thousands of lines: more would take much memory here
+MOST_LINES, MOST_WORDS = 30_000, 200_000
 
 
-@dataclass(frozen=True)
+@dataclass(frozen=True, slots=True)
 class Line:
     """A line of a copy. `number` is its number in the file, from 1, or 0 where the file has no such line."""
 
@@ -37,22 +47,96 @@ def mode_text(mode: str) -> str:
     return f"modes/{mode}/config/{mode}.yaml"
 
 
-def read_text(path: Path) -> list[Line]:
-    text = path.read_bytes().decode("utf-8", "surrogateescape")
-    lines = text.split("\n")
-    if lines[-1] == "":
-        lines.pop()
-    return [Line(number, line) for number, line in enumerate(lines, 1)]
+def read_bytes(path: Path, most: int) -> bytes:
+    """The first bytes of a file. Raises ValueError if it is none: a pipe or a device may have no end."""
+    file = os.open(path, os.O_RDONLY | os.O_NONBLOCK)
+    with open(file, "rb") as opened:
+        if not stat.S_ISREG(os.fstat(file).st_mode):
+            raise ValueError(f"{path} is not a file")
+        return opened.read(most)
+
+
+def lines_of(data: bytes) -> list[str]:
+    lines = data.decode("utf-8", "surrogateescape").split("\n")
+    return lines[:-1] if lines[-1] == "" else lines
 
 
 def read_texts(folder: Path) -> Texts:
-    """The machine's text, and that of each folder in `modes/`. Raises OSError where there is none."""
-    texts = {MACHINE: read_text(folder / MACHINE)}
-    for found in sorted((folder / "modes").glob("*/config/*.yaml")):
-        name = str(found.relative_to(folder))
-        if found.is_file() and name == mode_text(found.stem):
-            texts[name] = read_text(found)
+    """The machine's text, and that of each folder in `modes/`. Raises OSError or ValueError where one that the program
+    reads cannot be read; one of a mode that is not listed is then left out.
+
+    The program refuses a text above its limit, so the first byte above it is enough of such a text."""
+    texts: Texts = {}
+    room = Room()
+    listed = {MACHINE}
+    for path in paths_of(folder):
+        name = str(path.relative_to(folder))
+        try:
+            data = read_bytes(path, TEXT_LIMIT + 1)
+            room.take(data, folder)
+        except (OSError, ValueError):
+            if name in listed:
+                raise
+            continue
+        lines = lines_of(data)
+        texts[name] = [Line(number, line) for number, line in enumerate(lines, 1)]
+        if name == MACHINE:
+            modes = outline.read(lines).at("modes")
+            listed |= {mode_text(it.text) for it in modes.texts()} if modes else set()
     return texts
+
+
+@dataclass
+class Room:
+    """How much there may still be in the texts of a folder."""
+
+    bytes: int = FOLDER_LIMIT
+    lines: int = MOST_LINES
+    words: int = MOST_WORDS
+
+    def take(self, data: bytes, folder: Path) -> None:
+        """Takes room for a text. Raises ValueError if there is too little."""
+        self.bytes -= len(data)
+        self.lines -= data.count(b"\n")
+        self.words -= len(data.replace(b",", b" ").split())
+        limits = {
+            f"{FOLDER_LIMIT // MIB} MiB": self.bytes, f"{MOST_LINES:,} lines": self.lines,
+            f"{MOST_WORDS:,} words": self.words,
+        }
+        for limit, left in limits.items():
+            if left < 0:
+                raise ValueError(f"the texts of {folder} have more than {limit} in all, more than this tool reads")
+
+
+def paths_of(folder: Path) -> list[Path]:
+    """The machine's text, and that of each mode that has one."""
+    found = sorted((folder / "modes").glob("*/config/*.yaml"))
+    return [folder / MACHINE, *(it for it in found if str(it.relative_to(folder)) == mode_text(it.stem))]
+
+
+class Log(Sequence[Line]):
+    """The lines of a log, which may have a million of them."""
+
+    def __init__(self, path: Path):
+        with open(path, "rb") as opened:  # (it may be a pipe that a shell has made)
+            data = opened.read(LOG_LIMIT + 1)
+        if len(data) > LOG_LIMIT:
+            raise ValueError(f"{path} has more than {LOG_LIMIT // MIB} MiB: the program reads no longer log")
+        self.data = data.split(b"\n")
+
+    def __len__(self) -> int:
+        return len(self.data)
+
+    @overload
+    def __getitem__(self, at: int) -> Line: ...
+
+    @overload
+    def __getitem__(self, at: slice) -> list[Line]: ...
+
+    def __getitem__(self, at: int | slice) -> Line | list[Line]:
+        if isinstance(at, slice):
+            return [self[it] for it in range(len(self))[at]]
+        return Line(at + 1, self.data[at].decode("utf-8", "surrogateescape"))
 
 
 def plain(lines: list[Line]) -> list[str]:

@@ -1,21 +1,72 @@
 """Reads what `pinball play` writes: times, cascades, why a command was skipped, and what the coils did."""
 import re
+from collections import deque
 from dataclasses import dataclass, field
-from typing import Iterable, Iterator
+from typing import Iterable, Iterator, NamedTuple
+
+from .printed import clean
 
 SECOND = 1000
-LINE = re.compile(r"(\d+) (\S+) (switch|event|coil|skip|player|balls|final|off) ?(.*)$")
+# the words of each kind of line, as docs/formats.md has them
+SHAPES = (
+    r"switch \S+ (?:active|inactive)", r"event \S+", r"coil \S+ (?:pulse \d{1,9} \d{1,9}|enable \d{1,9}|disable)",
+    r"skip \S+ (?:pulse|enable|disable)", r"player \d{1,9} \S+ -?\d{1,18}", r"balls(?: \d{1,9}){4}",
+    r"final \d{1,9} -?\d{1,18}", r"off \S+",
+)
+LINE = re.compile(rf"(\d{{1,15}}) (\S+) ({'|'.join(SHAPES)})")
 
 
-@dataclass(frozen=True)
-class Step:
+class Step(NamedTuple):
     """A line of a trace."""
 
     moment: int
     owner: str
     kind: str
     words: tuple[str, ...]
-    said: str
+
+
+@dataclass
+class Stretches:
+    """For how long a coil was on, and the most of it in any second.
+
+    A trace may have a million pulses, so a stretch is counted and let go when the next one begins. The most is reached
+    in a second that ends with a stretch: one that ends elsewhere can be moved, and does not get less."""
+
+    whole: int = 0
+    most: int = 0
+    start: int = 0  # of the last stretch
+    end: int = 0
+    all: list[tuple[int, int]] | None = None  # those that are counted, where they are wanted
+    recent: deque[tuple[int, int]] = field(default_factory=deque)  # those of the last second
+    in_recent: int = 0  # for how long it was on in these
+
+    def add(self, start: int, end: int) -> None:
+        """Adds a stretch that does not begin before the last one."""
+        start, end = max(start, self.start), max(end, self.start)
+        if start > self.end:
+            self.count()
+            self.start = start
+        self.end = max(self.end, end)
+
+    def cut(self, moment: int) -> None:
+        """Lets the last stretch end at a moment, if it would go on."""
+        self.end = max(self.start, min(self.end, moment))
+
+    def count(self) -> None:
+        """Counts the last stretch."""
+        length, first = self.end - self.start, self.end - SECOND
+        if not length:
+            return
+        self.whole += length
+        self.recent.append((self.start, self.end))
+        self.in_recent += length
+        while self.recent[0][1] <= first:
+            start, end = self.recent.popleft()
+            self.in_recent -= end - start
+        self.most = max(self.most, self.in_recent - max(0, first - self.recent[0][0]))
+        if self.all is not None:
+            self.all.append((self.start, self.end))
+        self.start = self.end
 
 
 @dataclass
@@ -28,13 +79,13 @@ class Coil:
     pulse_end: int = 0
     holder: str = ""  # the owner that holds it
     since: int = 0
-    on: list[tuple[int, int]] = field(default_factory=list)  # the stretches for which it was on
+    on: Stretches = field(default_factory=Stretches)
 
     def put_off(self, moment: int) -> None:
         if self.holder:
-            self.on.append((self.since, moment))
-        elif self.on and self.on[-1][1] > moment:
-            self.on[-1] = (self.on[-1][0], moment)
+            self.on.add(self.since, moment)
+        else:
+            self.on.cut(moment)
         self.holder, self.pulse_end = "", min(self.pulse_end, moment)
 
 
@@ -82,23 +133,30 @@ def moment_of(text: str) -> int:
 def steps_of(lines: Iterable[str]) -> Iterator[Step | str]:
     """The steps of a trace; any other line as it is."""
     for line in lines:
-        found = LINE.match(line)
-        yield Step(int(found[1]), found[2], found[3], tuple(found[4].split(" ")), line) if found else line
+        if found := LINE.fullmatch(line):
+            kind, *words = found[3].split(" ")
+            yield Step(int(found[1]), found[2], kind, tuple(words))
+        else:
+            yield line
 
 
 class Coils:
     """Follows the coils of a trace."""
 
-    def __init__(self) -> None:
+    def __init__(self, keep: bool = False) -> None:
         self.coils: dict[str, Coil] = {}
         self.last = 0
+        self.keep = keep  # the stretches of each coil
 
     def take(self, step: Step) -> str:
         """Follows a step. Of a skipped command, why it was skipped."""
-        self.last = max(self.last, step.moment)
+        if step.moment > self.last:
+            self.last = step.moment
         if step.kind not in ("coil", "skip", "off"):
             return ""
-        coil = self.coils.setdefault(step.words[0], Coil())
+        coil = self.coils.get(step.words[0])
+        if coil is None:
+            coil = self.coils[step.words[0]] = Coil(on=Stretches(all=[] if self.keep else None))
         if step.kind == "skip":
             coil.skipped += 1
             return self.why(coil, step)
@@ -107,7 +165,7 @@ class Coils:
             length = int(step.words[2])
             coil.pulses += 1
             coil.pulse_end, coil.ready = step.moment + length, step.moment + 2 * length
-            coil.on.append((step.moment, coil.pulse_end))
+            coil.on.add(step.moment, coil.pulse_end)
         elif action == "enable":
             coil.holder, coil.since = step.owner, step.moment
         else:
@@ -121,42 +179,32 @@ class Coils:
             return "it is off"
         return f"not ready: pulsed, and ready at {time_of(coil.ready)}" if step.moment < coil.ready else ""
 
+    def end(self) -> None:
+        """Counts what is still on when the trace ends."""
+        for coil in self.coils.values():
+            if coil.holder:
+                coil.on.add(coil.since, self.last)
+            coil.on.count()
+
     def totals(self) -> list[str]:
         """A line for each coil: its pulses, how long it was on, and its greatest duty."""
         if not self.coils:
             return []
+        self.end()
         width = max(len(name) for name in self.coils)
         lines = [f"{'coil':<{width}}  pulses  skipped   time on  greatest duty in one second"]
         for name, coil in self.coils.items():
-            stretches = joined([*coil.on, *([(coil.since, self.last)] if coil.holder else [])])
-            whole = sum(end - start for start, end in stretches)
-            counts = f"{coil.pulses:>6}  {coil.skipped:>7}  {time_of(whole):>8}  {duty(stretches):>4.0%}"
+            on = coil.on
+            counts = f"{coil.pulses:>6}  {coil.skipped:>7}  {time_of(on.whole):>8}  {on.most / SECOND:>4.0%}"
             lines.append(f"{name:<{width}}  {counts}" + ("  (still held)" if coil.holder else ""))
         return lines
-
-
-def joined(stretches: list[tuple[int, int]]) -> list[tuple[int, int]]:
-    found: list[tuple[int, int]] = []
-    for start, end in sorted(stretches):
-        if found and start <= found[-1][1]:
-            found[-1] = (found[-1][0], max(end, found[-1][1]))
-        else:
-            found.append((start, end))
-    return found
-
-
-def duty(stretches: list[tuple[int, int]]) -> float:
-    """The greatest part of any second for which a coil was on."""
-    starts = [it for start, end in stretches for it in (start, end - SECOND)]
-    return max(
-        (sum(max(0, min(end, at + SECOND) - max(start, at)) for start, end in stretches) / SECOND for at in starts),
-        default=0.0,
-    )
 
 
 def words_of(step: Step) -> str:
     """A step in words."""
     words = step.words
+    if step.kind == "event" or step.kind == "switch":
+        return f"{step.kind} {' '.join(words)}"
     if step.kind == "balls":
         known, counted, transit, field_ = words
         return f"balls: {known} known = {counted} in devices + {transit} on the way + {field_} on the playfield"
@@ -175,22 +223,22 @@ def words_of(step: Step) -> str:
 
 def shown(lines: Iterable[str], wanted: Wanted) -> Iterator[str]:
     """The trace as a person reads it, and then what the coils did."""
-    coils, before, was_shown = Coils(), -1, False
+    coils, before, was_shown, is_all = Coils(), -1, False, wanted.is_all
     for step in steps_of(lines):
         if isinstance(step, str):
             if step:
-                yield step
+                yield clean(step)
             continue
         why = coils.take(step)
-        if not wanted.has(step):
+        if not (is_all or wanted.has(step)):
             continue
         if was_shown and (step.moment != before or step.kind == "switch"):
             yield ""
         time = time_of(step.moment) if step.moment != before or step.kind == "switch" else ""
         owner = "" if step.owner == "machine" else f"[{step.owner}] "
-        yield f"{time:>10}  {owner}{words_of(step)}" + (f" ({why})" if why else "")
+        yield clean(f"{time:>10}  {owner}{words_of(step)}" + (f" ({why})" if why else ""))
         before, was_shown = step.moment, True
     totals = coils.totals()
     if totals:
         yield ""
-        yield from totals
+        yield from map(clean, totals)

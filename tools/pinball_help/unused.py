@@ -1,6 +1,7 @@
 """What a machine has and nothing uses: events, switches, coils, shots, modes and variables."""
 import re
 from dataclasses import dataclass
+from functools import cached_property
 from typing import Iterator
 
 from . import outline, profile
@@ -15,6 +16,7 @@ from .values import event_of
 
 LISTS_OF_POSTS = ("events_when_activated", "events_when_deactivated", "events_when_hit", "events_when_complete")
 ALIKE = 0.88  # of events, whose names have much in common anyway
+MOST_COMPARED = 60_000  # pairs of names: a machine may have thousands of events that nothing handles
 OWN_TAGS = ("start", "playfield_active")
 # what comes while a ball is in play, of the events of the game
 WITH_A_BALL = ("sw_start", "player_added", "ball_started", "ball_drain")
@@ -36,6 +38,7 @@ class Looker:
         self.graph: Graph = graph_of(scene)
         self.posted = {it.posts for it in self.graph.posts}
         self.handled = {it.event for it in self.graph.handled}
+        self.may_compare = MOST_COMPARED
 
     def at(self, kind: str, name: str, text: str, entry: Entry, line: int = -1, hint: str = "") -> Unused:
         return Unused(kind, name, text, self.scene.number(text, entry.line if line < 0 else line), hint)
@@ -67,7 +70,12 @@ class Looker:
             return f"the mode `{found[1]}` has no text here"
         if found := re.match(r"(.+)\.\d+$", event):
             return f"in MPF this is `{found[1]}` with a priority: write `{found[1]}`"
-        near = nearest(event, self.posted, ALIKE)
+        return self.near(event, self.posted)
+
+    def near(self, name: str, names: set[str]) -> str:
+        """A hint at the name that is near another one, as long as not too many have been compared."""
+        self.may_compare -= len(names)
+        near = nearest(name, names, ALIKE) if self.may_compare >= 0 else ""
         return f"near it: `{near}`" if near else ""
 
     def never_handled(self) -> Iterator[Unused]:
@@ -77,8 +85,8 @@ class Looker:
                 if entry.key in LISTS_OF_POSTS or section_of(entry) == "event_player" and len(entry.path) == 1:
                     for item in entry.value.texts():
                         if item.text not in self.handled and item.text in self.answer.weights:
-                            near = nearest(item.text, self.handled, ALIKE)
-                            yield self.at(kind, item.text, text, entry, item.line, f"near it: `{near}`" if near else "")
+                            near = self.near(item.text, self.handled)
+                            yield self.at(kind, item.text, text, entry, item.line, near)
 
     def switches(self) -> Iterator[Unused]:
         for text, entry in self.scene.entries_of("switches"):
@@ -90,11 +98,16 @@ class Looker:
                 yield self.at("switch that nothing uses", entry.key, text, entry)
 
     def used_names(self, *settings: str) -> set[str]:
-        found = set()
+        return {name for setting in settings for name in self.values_of.get(setting, ())}
+
+    @cached_property
+    def values_of(self) -> dict[str, set[str]]:
+        """The names that are written at each setting."""
+        found: dict[str, set[str]] = {}
         for name in self.scene.read:
             for entry in outline.entries(self.scene.outlines[name]):
-                if entry.key in settings and entry.path:
-                    found |= {it.text for it in entry.value.texts()}
+                if entry.path:
+                    found.setdefault(entry.key, set()).update(it.text for it in entry.value.texts())
         return found
 
     def coils(self) -> Iterator[Unused]:
@@ -185,19 +198,16 @@ class Looker:
 
     def variables(self) -> Iterator[Unused]:
         changed = {it.key for _, entry in self.scene.entries_of("variable_player") for it in entry.value.entries or []}
+        near: dict[str, str] = {}
         for text in self.scene.read:
             for entry in outline.entries(self.scene.outlines[text]):
                 for written in (entry.key, *(it.text for it in entry.value.texts())):
                     for name in re.findall(r"current_player\.([\w.-]+?)\s*[=!<>]", written):
                         if name not in changed and name not in ("ball", "number"):
-                            near = nearest(name, changed)
-                            yield self.at(
-                                "variable that nothing changes",
-                                name,
-                                text,
-                                entry,
-                                hint=f"near it: `{near}`" if near else "it is always 0",
-                            )
+                            if name not in near:
+                                near[name] = nearest(name, changed)
+                            hint = f"near it: `{near[name]}`" if near[name] else "it is always 0"
+                            yield self.at("variable that nothing changes", name, text, entry, hint=hint)
 
 
 def setting_of_root(scene: Scenery, key: str) -> Entry | None:

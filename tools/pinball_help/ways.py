@@ -3,6 +3,8 @@ from dataclasses import dataclass
 
 from .texts import Edit
 
+EXAMPLE = "The value below is an example."
+
 
 @dataclass(frozen=True)
 class Way:

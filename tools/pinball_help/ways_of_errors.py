@@ -1,22 +1,18 @@
-"""The ways to mend what an `error` line says: all but those of YAML."""
+"""The ways to mend what an `error` line says: all but those of YAML and of values."""
 import re
 from dataclasses import replace
 
-from . import drop_targets, overwrites, powers, profile
+from . import drop_targets, events, outline, overwrites, powers, profile
 from .answers import Complaint
 from .idioms import OLDER_NAMES, RECIPES, RECIPES_OF_SECTIONS, SECTIONS, SECTIONS_RENAMED, SETTINGS
-from .idioms_of_values import ACTS_LATER, COUNTER, DELAY, ENTRY, IDIOMS, IN_VARIABLE, ONE_COMPARISON, ONLY_VARIABLES
-from .idioms_of_values import TWO_COMPARISONS, TWO_CONDITIONS, Idiom
-from .graph import says_yes, setting
-from .mending import add, blanks, block_end, give, line_of, rename, substitute, take_item_out, take_out
+from .mending import add, add_to_item, blanks, give, line_of, rename, take_item_out, take_out
 from .near import nearest
 from .outline import Entry, Node, unquoted
-from .scenery import Scenery, raw, section_of, setting_table
+from .scenery import Scenery, raw, section_of, setting_table, siblings_of
 from .texts import MACHINE, VERSION, Edit
-from .ways import Cure, Way
-
-EXAMPLE = "The value below is an example."
-PLACEHOLDER = r"\(([^)]*)\)"
+from .ways import EXAMPLE, Cure, Way
+from .ways_of_values import of_value
+from .ways_of_yaml import joined_blocks
 
 # what a copy gets for a setting that is required, so that what comes after it is checked too
 STAND_INS = {
@@ -70,8 +66,11 @@ def of_section(scene: Scenery, complaint: Complaint) -> Cure:
     if near := nearest(key, [*here, *profile.skipped()]):
         edit = rename(scene.texts, text, entry, near)
         out = (take_out(scene.texts, text, entry),)
-        twice = any(it.key == near for it in scene.outlines[text].entries or [])
-        ways = () if twice else (Way((edit,), f"Write `{near}:`.", near=near),)
+        twin = next((it for it in scene.outlines[text].entries or [] if it.key == near), None)
+        ways = () if twin else (Way((edit,), f"Write `{near}:`.", near=near),)
+        if twin and (edits := joined_blocks(scene.texts, text, twin, entry)):
+            words = f"Move its entries to `{near}`, line {scene.number(text, twin.line)}."
+            ways = (Way(edits, words, near=near),)
         return Cure(ways=(*ways, Way(out, "Take it out.", near=near)), out=out, mark=(entry.start, entry.end))
     settings = {name for section in profile.TABLES for name in profile.settings(section)} | profile.of_other_tools()
     if key in settings:
@@ -136,9 +135,13 @@ def of_setting_of_mpf(scene: Scenery, text: str, entry: Entry, cure: Cure, inste
         move = overwrites.moved(scene, text, entry)
         way = Way((*out, *move.edits), f"{word} {move.write}".rstrip(), why, recipe=recipe)
         return replace(cure, ways=(way, Way(out)), out=(*out, *move.lowering))
+    if key == "switches":
+        return replace(cure, ways=(events.hits_way(scene, text, entry, word, why), Way(out)))
     if instead in siblings:
         return replace(cure, ways=(Way(out, f"Take it out: `{instead}` is there. {word}".rstrip(), why),))
     edit, named, reason = as_setting(scene, text, entry, instead)
+    if instead == "int":
+        edit, named = give(scene.texts, text, entry, "1", "int"), "int: 1"
     way = Way((edit,), f"Write `{named}`. {word}".rstrip(), f"{why} {reason}".rstrip(), instead, recipe)
     return replace(cure, ways=(way, Way(out)), stays=powers.is_power(instead))
 
@@ -152,241 +155,45 @@ def as_setting(scene: Scenery, text: str, entry: Entry, new: str) -> tuple[Edit,
     return rename(scene.texts, text, entry, new), new, ""
 
 
-def siblings_of(entry: Entry) -> list[Entry]:
-    return entry.path[-1].value.entries or [] if entry.path else []
-
-
-def states_of(value: str) -> str:
-    names = [it for it in re.split(r"[\s,\[\]{}-]+", re.sub(r"name:", " ", value)) if it][:16]
-    return "[" + ", ".join(f"{{name: {it}}}" for it in dict.fromkeys(names)) + "]" if names else "[{name: a_state}]"
-
-
-def edits_of(scene: Scenery, text: str, entry: Entry, idiom: Idiom) -> tuple[Edit, ...]:
-    """What a copy gets for an idiom."""
-    texts, value = scene.texts, raw(scene.texts, text, entry)
-    names = [it.text for it in entry.value.texts()]
-    kind, *words = idiom.edit
-    if kind == "sub":
-        return (substitute(texts, text, entry, words[0], words[1]),)
-    if kind == "value":
-        return (give(texts, text, entry, words[0]),)
-    if kind == "power":
-        return (give(texts, text, entry, powers.meant(entry.key, unquoted(value))[0]),)
-    if kind == "upper":
-        return (give(texts, text, entry, unquoted(value).upper()),)
-    if kind == "boolean":
-        return (give(texts, text, entry, "yes" if value == "1" else "no"),)
-    if kind == "keys":
-        keys = [it.key for it in entry.value.entries or []] or names
-        return (give(texts, text, entry, f"[{', '.join(keys)}]"),)
-    if kind == "number":
-        number = re.search(r"(?<![\w.])-?\d+(?![\w.])", value)
-        return (give(texts, text, entry, number[0] if number else "1"),)
-    if kind == "placeholder":
-        return (of_placeholder(scene, text, entry),)
-    if kind == "first" and names:
-        return (give(texts, text, entry, names[0]),)
-    if kind == "states":
-        return (give(texts, text, entry, states_of(value)),)
-    if kind == "steps" and names:
-        return (give(texts, text, entry, f"[{', '.join(names)}]"),)
-    return (take_out(texts, text, entry),)
-
-
-def of_placeholder(scene: Scenery, text: str, entry: Entry) -> Edit:
-    """Events without placeholders, as an example: a line for 0 and for 1 of a variable, each with its condition."""
-    value = raw(scene.texts, text, entry)
-    found = {*re.findall(PLACEHOLDER, value)}
-    variable = next(iter(found), "").strip()
-    by_value = len(found) == 1 and re.fullmatch(r"current_player\.\w+", variable) and "{" not in entry.key
-    if not by_value or entry.in_braces or entry.last > entry.line + 1:
-        return substitute(scene.texts, text, entry, PLACEHOLDER, lambda it: it[1] if it[1].isidentifier() else "1")
-    start = line_of(scene.texts, text, entry.line)[: entry.start] + entry.key
-    one, other = (f"{{{variable}=={it}}}: {re.sub(PLACEHOLDER, it, value)}" for it in ("0", "1"))
-    first = give(scene.texts, text, entry, one.partition(": ")[2], entry.key + one.partition(": ")[0])
-    return Edit(text, entry.line, entry.line + 1, (*first.lines, start + other))
-
-
-def idiom_of(scene: Scenery, text: str, entry: Entry) -> Idiom | None:
-    section = section_of(entry) if entry.path else ""
-    value = unquoted(raw(scene.texts, text, entry))
-    own = len(entry.path) == 1 and section not in (*profile.PLAYERS, *profile.SINGLE)
-    for idiom in IDIOMS:
-        fits = own if idiom.setting == ENTRY else re.fullmatch(idiom.setting, entry.key)
-        if fits and re.fullmatch(idiom.section, section) and re.search(idiom.value, value):
-            return idiom
-    return None
-
-
-def as_name(text: str) -> str:
-    """A name that is like a text that is no name."""
-    plain = text.translate(str.maketrans("äöüàáâèéêìíòóùúçñÄÖÜ", "aouaaaeeeiioouucnAOU"))
-    return re.sub(r"[^\w.-]+", "_", plain, flags=re.ASCII).strip("_")[:64] or "a_name"
-
-
-def cure_at(scene: Scenery, text: str, entry: Entry, says: tuple[str, ...], *ways: Way, whole: bool = False) -> Cure:
-    """The cure of an entry: some ways, and at last to take it out."""
-    out = (take_out(scene.texts, text, entry),)
-    return Cure(says, whole, (*ways, Way(out, ways[0].write if ways else "")), out, (entry.start, entry.end))
-
-
-def of_names(scene: Scenery, text: str, entry: Entry) -> Cure | None:
-    """Where the key itself is at fault: it is no name, or is reserved."""
-    key = entry.key
-    if key in ("playfield", "default") and len(entry.path) == 1:
-        way = Way((rename(scene.texts, text, entry, f"{key}_1"),), "Give it another name.")
-        return cure_at(scene, text, entry, (f"`{key}` is a name that is there already.",), way, whole=True)
-    if re.fullmatch(r"[\w.-]{1,64}", key, re.ASCII) or not entry.path:
-        return None
-    if section_of(entry) in profile.PLAYERS and re.match(r"[\w.-]+\s*\{.*\}$", key, re.ASCII):
-        return of_condition(scene, text, entry)
-    right = as_name(key.split("|")[0])
-    why = "A name has letters without accents, digits, `_`, `-` and `.` alone, at most 64 of them."
-    write, recipe = f"Write `{right}`.", ""
-    if "|" in key:
-        why = "MPF handles the event after a time. Delays are not carried out here."
-        write, recipe = f"Write `{right}`: it then acts at once. {ACTS_LATER}", DELAY
-    taken = any(it.key == right for it in siblings_of(entry))
-    ways = () if taken else (Way((rename(scene.texts, text, entry, right),), write, why, recipe=recipe),)
-    return cure_at(scene, text, entry, (f"`{key}` is no name.",), *ways, whole=True)
-
-
-def of_condition(scene: Scenery, text: str, entry: Entry) -> Cure:
-    """A handled event with a condition that is not read."""
-    name, gap, inside = re.match(r"([^\s{]+)(\s*)\{(.*)\}$", entry.key).groups()  # type: ignore[union-attr]
-    right, why, write, recipe = name, ONLY_VARIABLES, IN_VARIABLE, COUNTER if "device.counters" in inside else ""
-    if re.search(r"\b(and|or|not)\b", inside):
-        why, write, recipe = ONE_COMPARISON, TWO_COMPARISONS, TWO_CONDITIONS
-    if gap:
-        right, why = f"{name}{{{inside}}}", "No blank may come before the brace."
-        write = f"Write `{right}`."
-    elif re.match(r"\s*(?!current_player\.)\w+\s*[=!<>]=?\s*-?\d+\s*$", inside):
-        right, why = f"{name}{{current_player.{inside.strip()}}}", "A condition names a variable of the current player."
-        write = f"Write `{right}`."
-    way = Way((rename(scene.texts, text, entry, right),), write, why, recipe=recipe if right == name else "")
-    return cure_at(scene, text, entry, (f"`{entry.key}` is not read as an event with a condition.",), way, whole=True)
-
-
-def of_value(scene: Scenery, complaint: Complaint) -> Cure:
-    text, line = complaint.text, complaint.line - 1
-    entry = scene.entry_at(text, line, complaint.key)
-    if complaint.key == "modes" and (entry is None or entry.key != "modes"):
-        return of_mode_name(scene, text, line)
-    if complaint.key == "start_events" and (held := of_held_end(scene, text, line)):
-        return held
-    if entry is None:
-        return of_no_mapping(scene, text, line)
-    if named := of_names(scene, text, entry):
-        return named
-    cure = of_entry(scene, text, entry)
-    end = entry.value.end if entry.value.line == entry.line else 0
-    return replace(
-        cure, mark=cure.mark if cure.mark != (entry.start, entry.end) else (entry.start, max(entry.end, end))
-    )
-
-
-def of_entry(scene: Scenery, text: str, entry: Entry) -> Cure:
-    """Where the value of an entry is at fault."""
-    says = takes(entry)
-    if idiom := idiom_of(scene, text, entry):
-        value = unquoted(raw(scene.texts, text, entry))
-        reason = powers.meant(entry.key, value)[1] if idiom.edit[0] == "power" else ""
-        why = f"{idiom.mpf} {reason}".rstrip()
-        way = Way(edits_of(scene, text, entry, idiom), idiom.write, why, recipe=idiom.recipe)
-        return replace(cure_at(scene, text, entry, says, way), stays=idiom.edit[0] == "power")
-    if not entry.path:
-        way = Way((), "Write entries below it: `NAME:`, not `- NAME`.")
-        return cure_at(scene, text, entry, ("A section is a mapping of entries.",), way)
-    if near := nearest(raw(scene.texts, text, entry), words_of(entry)):
-        return cure_at(
-            scene, text, entry, says, Way((give(scene.texts, text, entry, near),), f"Write `{near}`.", near=near)
-        )
-    if bad := bad_items(entry):
-        write = "Write names of letters, digits, `_`, `-` and `.`, with commas between them."
-        way = Way((take_item_out(scene.texts, text, entry, bad[0]),), write)
-        cure = cure_at(scene, text, entry, (f"`{bad[0].text}` is no name.", *says), way)
-        return replace(cure, mark=(bad[0].start, bad[0].end)) if bad[0].line == entry.line else cure
-    return cure_at(scene, text, entry, says, Way((), "Write a value that it takes, or leave it out."))
-
-
-def of_held_end(scene: Scenery, text: str, line: int) -> Cure | None:
-    """A mode that holds the end of the ball, and starts at something else or at nothing."""
-    mode = next((it for it in scene.outlines[text].entries or [] if it.key == "mode"), None)
-    wait, starts = (setting(mode, key) if mode else None for key in ("use_wait_queue", "start_events"))
-    if mode is None or wait is None or not says_yes(mode, "use_wait_queue", False):
-        return None
-    if line != (starts or mode).line or starts and bad_items(starts):
-        return None
-    out = (take_out(scene.texts, text, wait),)
-    right = "ball_ending"
-    edit = give(scene.texts, text, starts, right) if starts else add(scene.texts, text, mode, f"start_events: {right}")
-    says = ("With `use_wait_queue: yes` the end of the ball waits for the mode, so it starts at `ball_ending` alone.",)
-    way = Way((edit,), f"Write `start_events: {right}`; or take `use_wait_queue` out.")
-    marked = starts or mode
-    return Cure(says, True, (way, Way(out, way.write)), out, (marked.start, marked.end))
-
-
-def of_no_mapping(scene: Scenery, text: str, line: int) -> Cure:
-    out = (blanks(text, line, block_end(scene.texts, text, line)),) if line < len(scene.texts[text]) else ()
-    says = ("A text is a mapping of sections, as `switches:`.",)
-    return Cure(says, False, (Way(out, "Write sections with entries below them."),), out)
-
-
-def bad_items(entry: Entry) -> list[Node]:
-    """The items of a list that are no names, nor names with a condition."""
-    return [it for it in entry.value.texts() if not re.fullmatch(r"[\w.-]{1,64}(\{.*\})?", it.text, re.ASCII)]
-
-
-def setting_of(entry: Entry) -> profile.Setting | None:
-    return profile.settings(setting_table(entry)).get(entry.key) if entry.path else None
-
-
-def takes(entry: Entry) -> tuple[str, ...]:
-    """The words of docs/profile.md on the value of a setting."""
-    found = setting_of(entry)
-    return (f"`{entry.key}` takes: {found.value.replace('required', '').strip()}.",) if found else ()
-
-
-def words_of(entry: Entry) -> list[str]:
-    found = setting_of(entry)
-    return profile.names(found.value) if found else []
-
-
-def of_mode_name(scene: Scenery, text: str, line: int) -> Cure:
-    """A mode that is listed under what is no name."""
-    listed = scene.outlines[text].entries or []
-    entry = next((it for it in listed if it.key == "modes"), None)
-    items = [it for it in entry.value.texts() if it.line == line] if entry else []
-    item = next((it for it in items if it.text == "machine" or not re.fullmatch(r"[\w.-]+", it.text, re.ASCII)), None)
-    if entry is None or item is None:
-        return Cure()
-    out = (take_item_out(scene.texts, text, entry, item),)
-    way = Way(out, "Write the name of the mode's folder: letters, digits, `_`, `-` and `.`; and not `machine`.")
-    return Cure((f"`{item.text}` is no name of a mode.",), True, (way,), out, (item.start, item.end))
-
-
 def of_missing(scene: Scenery, complaint: Complaint) -> Cure:
-    text, key = complaint.text, complaint.key
-    entry = scene.around(text, complaint.line - 1)
-    named = [it for it in [entry, *(entry.path[::-1] if entry else ())] if it and it.line == complaint.line - 1]
-    if not named:
+    text, key, line = complaint.text, complaint.key, complaint.line - 1
+    here = [it for it in outline.entries(scene.outlines[text]) if it.line == line]
+    items = items_without(scene.outlines[text], line, key)
+    entry = next((it for it in here if requires(it, key)), None) or (items[0][0] if items else next(iter(here), None))
+    if entry is None:
         return Cure()
-    entry = next((it for it in named if setting_misses(it, key)), named[0])
-    table = section_of(entry) if entry.path else entry.key
-    called = profile.CALLED.get("control_events" if entry.key == "control_events" else table, "It")
-    stand_in = STAND_INS.get(key, f"a_{key}") if (table, key) != ("timers", "action") else "start"
-    out = (take_out(scene.texts, text, entry),)
+    table = setting_table(entry)
+    in_item = bool(items) and not requires(entry, key)
+    if in_item and "control_events" in (entry.key, table):
+        table = "control_events"
+    called = profile.CALLED.get(table, "It")
+    stand_in = "start" if (table, key) == ("control_events", "action") else STAND_INS.get(key, f"a_{key}")
     near = nearest(key, [it.key for it in entry.value.entries or []])
-    says = (f"{called[0].upper()}{called[1:]} has to have `{key}`, and `{entry.key}` has none.",)
-    why = f"It has `{near}`." if near else ""
-    write = f"Write `{key}:` below `{entry.key}`. {EXAMPLE}"
-    way = Way((add(scene.texts, text, entry, f"{key}: {stand_in}"),), write, why)
-    return Cure(says, True, (way, Way(out, way.write, why)), out, (entry.start, entry.end))
+    where = f"an item of `{entry.key}`" if in_item else f"`{entry.key}`"
+    says = (f"{called[0].upper()}{called[1:]} has to have `{key}`, and {where} has none.",)
+    setting = f"{key}: {stand_in}"
+    edit = add_to_item(scene.texts, text, items[0][1], setting) if in_item else add(scene.texts, text, entry, setting)
+    shown = edit.lines[0].strip() if len(edit.lines) == 1 else setting
+    way = Way((edit,), f"Write `{key}:` there, as `{shown}`. {EXAMPLE}", f"It has `{near}`." if near else "")
+    out = (take_out(scene.texts, text, entry),)
+    return Cure(says, True, (way, Way(out, way.write, way.why)), out, (entry.start, entry.end))
 
 
-def setting_misses(entry: Entry, key: str) -> bool:
-    keys = [it.key for it in entry.value.entries or []]
-    return bool(entry.path) and key not in keys
+def requires(entry: Entry, key: str) -> bool:
+    """Whether an entry is one that has settings, and not this one."""
+    depth = 2 if section_of(entry) in ("coil_player", "variable_player") else 1
+    has_settings = bool(entry.value.entries) or depth == 1 and entry.value.items is None and not entry.value.text
+    return len(entry.path) == depth and has_settings and key not in [it.key for it in entry.value.entries or []]
+
+
+def items_without(root: Node, line: int, key: str) -> list[tuple[Entry, Node]]:
+    """The mappings in lists, at a line, that have no such setting; each with the entry that has the list."""
+    return [
+        (entry, item)
+        for entry in outline.entries(root)
+        for item in entry.value.items or []
+        if item.entries is not None and item.line == line and key not in [it.key for it in item.entries]
+    ]
 
 
 def of_duplicate(scene: Scenery, complaint: Complaint) -> Cure:

@@ -294,7 +294,7 @@ def of_timer(scene: Scenery, complaint: Complaint) -> Cure:
 def of_route(scene: Scenery, complaint: Complaint) -> Cure:
     """All that is wrong with the way of the balls through a device."""
     entry = scene.entry_at(complaint.text, complaint.line - 1, complaint.key)
-    if entry is None:
+    if entry is None or entry.key not in scene.defined("ball_devices"):
         return Cure()
     out = (take_out(scene.texts, complaint.text, entry),)
     found = [

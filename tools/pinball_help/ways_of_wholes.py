@@ -91,7 +91,9 @@ def counted(scene: Scenery, graph: Graph, table: str) -> int:
 
 
 def of_limit(scene: Scenery, complaint: Complaint) -> Cure:
-    table = complaint.words[0]
+    table = next(iter(complaint.words), "")
+    if not table:
+        return Cure()
     count, most = counted(scene, graph_of(scene), table), limits().get(table, "?")
     says = f"There are {count:,} {table}, at most {most}." if count else f"At most {most} {table} may be there."
     return Cure((says,))

@@ -2,8 +2,8 @@
 import re
 from dataclasses import dataclass
 
-from .mending import block_end, blanks, line_of, take_out
-from .outline import entries, indentation, without_comment
+from .mending import block_end, blanks, give, line_of, take_out
+from .outline import Entry, entries, indentation, without_comment
 from .scenery import Scenery
 from .texts import Edit, Texts, plain
 from .ways import Cure, Way
@@ -20,10 +20,11 @@ class Slip:
     write: str
 
 
+CLOSES = {"[": "]", "{": "}"}
 VALUE = r"^(\s*(?:- )?[^\s:#][^:#]*:\s+)"
 SLIPS = (
     Slip("NotInSubset", r"^(---|\.\.\.)(\s.*)?$", "", "A text is one document.", "Take the line out."),
-    Slip("NotInSubset Flow", r"(?<=[\w}\"'])\s*&\w+\s*|&[\w-]+\s+", "", "An anchor is not read.",
+    Slip("NotInSubset Flow", r"(?<=[\w}\"'])\s*&\w+\s*|(?<![\w}\"'])&[\w-]+(?:\s+|$)", "", "An anchor is not read.",
          "Take the anchor out, and write the value where it is used."),
     Slip("NotInSubset", r"!!?\w+\s+", "", "A tag is not read: every value is a text here.", "Take the tag out."),
     Slip("NotInSubset", r"^(\s*)\? +(\S.*)$", r"\1\2:", "A key is written without `?` here.", "Write `KEY:`."),
@@ -34,6 +35,11 @@ SLIPS = (
         "No plain value begins so.",
         "Put quotes around it.",
     ),
+    Slip("NotInSubset Indent", r"^(\s*)-(?=[A-Za-z_])", r"\1- ", "A blank is missing after the dash.",
+         "Write a blank after the dash."),
+    Slip("NotInSubset", VALUE + r"([\w.]+): +([\w.]+)(\s+#.*)?$", r"\1\2, \3\4",
+         "The value has a `:` and a blank after it.",
+         "Write a comma between two names, or put quotes around the value."),
     Slip("NotInSubset", VALUE + r"([^\"'#\[{]*:(?:\s.*)?)$", r'\1"\2"', "The value has a `:` and a blank after it.",
          "Put quotes around the value."),
     Slip("NotInSubset Indent", r"^(\s*(?:- )?[\w.{}=<>! -]+):(?=[^\s:])", r"\1: ", "A blank is missing after the `:`.",
@@ -57,6 +63,10 @@ SLIPS = (
          "Put all of it into the quotes, or take it out."),
     Slip("Quote", r"^([^\"]*\"[^\"]*?)(\s*)$", r'\1"', "The quote is not closed on its line.", "Close the quote."),
     Slip("Quote", r"^([^']*'[^']*?)(\s*)$", r"\1'", "The quote is not closed on its line.", "Close the quote."),
+    Slip("Flow NotInSubset", r"(?<![\w'\"])([A-Za-z_][\w.-]*\{[^{}]*\})(?=\s*[,\]}])", r"'\1'",
+         "In brackets and braces a `{` begins a mapping.", "Put quotes around the event with its condition."),
+    Slip("Flow", r"(?<=: )(\d{1,3}),(\d{3})(?=\s*[,}])", r"\1\2", "A comma ends the value in braces.",
+         "Write the number without a comma."),
     Slip("Flow", r",\s*(?=,)", "", "An item is missing.", "Take the comma out, or write the item."),
     Slip("Flow", r"(?<=[\[{])\s*,", "", "An item is missing.", "Take the comma out, or write the item."),
     Slip("Flow", r",?\s*[\w.]+:\s*(?=[}\]])", "", "A value is missing.", "Write the value, or take the key out."),
@@ -118,7 +128,9 @@ def of_indents(scene: Scenery, text: str, at: int) -> list[Way]:
                          "The value of the line before it seems to continue here."))
     for column in columns_above(texts, text, at):
         way = f"Indent the line by {column} spaces, as the lines around it."
-        found.append(Way((reindented(texts, text, at, column),), way, "It is in no column of the blocks around it."))
+        alone = Edit(text, at, at + 1, (" " * column + line.lstrip(),))
+        for edit in (alone, reindented(texts, text, at, column)):
+            found.append(Way((edit,), way, "It is in no column of the blocks around it."))
     return found
 
 
@@ -138,42 +150,90 @@ def columns_above(texts: Texts, text: str, at: int) -> list[int]:
     return sorted({*columns} - {here}, key=lambda it: (abs(it - here), it))
 
 
+def twins(scene: Scenery, text: str, at: int) -> tuple[Entry, Entry] | None:
+    """The entry of a line whose key is there before in the same block, and that earlier entry."""
+    seen: dict[tuple[int, str], Entry] = {}
+    for entry in entries(scene.outlines[text]):
+        outer = id(entry.path[-1].value) if entry.path else 0
+        first = seen.setdefault((outer, entry.key), entry)
+        if entry.line == at and first is not entry:
+            return first, entry
+    return None
+
+
 def of_duplicates(scene: Scenery, text: str, at: int) -> list[Way]:
     """Joins a key with the same key above it: two lists, or two blocks."""
-    here = next((it for it in entries(scene.outlines[text]) if it.line == at), None)
-    if here is None:
+    found = twins(scene, text, at)
+    if found is None:
         return []
-    same = [
-        it for it in entries(scene.outlines[text]) if it.key == here.key and it.path == here.path and it is not here
-    ]
-    first = same[0] if same else None
-    if first is None or first.line >= here.line or here.in_braces:
-        return [Way((take_out(scene.texts, text, here),), "Take one of the two out.")] if not here.in_braces else []
-    words = f"Join it with line {scene.number(text, first.line)}."
-    if first.value.entries and here.value.entries and first.value.line != first.line and here.value.line != here.line:
-        change = first.value.entries[0].start - here.value.entries[0].start
-        moved = [scene.texts[text][number] for number in range(here.line + 1, here.last)]
-        lines = [
-            " " * max(0, indentation(it.text) + change) + it.text.lstrip() if it.text.strip() else "" for it in moved
-        ]
-        there = Edit(text, first.last, first.last, tuple(lines), tuple(it.number for it in moved))
-        return [Way((there, blanks(text, here.line, here.last)), words)]
+    first, here = found
+    line = scene.number(text, first.line)
+    words = f"Join it with line {line}."
+    if edits := joined_blocks(scene.texts, text, first, here):
+        return [Way(edits, words)]
     if here.path and here.path[0].key == "event_player" and first.value.texts() and here.value.texts():
         names = ", ".join(it.text for it in [*first.value.texts(), *here.value.texts()])
-        line = line_of(scene.texts, text, first.line)
-        joined = Edit(
-            text, first.line, first.last, (f"{line[:first.end]}: {names}",) + ("",) * (first.last - first.line - 1)
-        )
-        return [Way((joined, take_out(scene.texts, text, here)), f"{words} Write `{here.key}: {names}` there.")]
-    return [Way((take_out(scene.texts, text, here),), f"Line {scene.number(text, first.line)} has it: take one out.")]
+        edits = (give(scene.texts, text, first, names), take_out(scene.texts, text, here))
+        return [Way(edits, f"{words} Write `{here.key}: {names}` there.")]
+    if edits := joined_braces(scene.texts, text, first, here):
+        return [Way(edits, words)]
+    write = f"Line {line} has it: take one out." if len(here.path) != 1 else f"Line {line} has it: rename one of them."
+    return [Way((take_out(scene.texts, text, here),), write)]
+
+
+def joined_blocks(texts: Texts, text: str, first: Entry, here: Entry) -> tuple[Edit, ...]:
+    """Moves the lines below one entry to those below another one."""
+    for it in (first, here):
+        if not it.value.entries or it.value.line == it.line or it.in_braces:
+            return ()
+    assert first.value.entries and here.value.entries
+    change = first.value.entries[0].start - here.value.entries[0].start
+    moved = [texts[text][number] for number in range(here.line + 1, here.last)]
+    lines = [" " * max(0, indentation(it.text) + change) + it.text.lstrip() if it.text.strip() else "" for it in moved]
+    there = Edit(text, first.last, first.last, tuple(lines), tuple(it.number for it in moved))
+    return there, blanks(text, here.line, here.last)
+
+
+def joined_braces(texts: Texts, text: str, first: Entry, here: Entry) -> tuple[Edit, ...]:
+    """Moves what is in the braces of one entry into those of another one, if no key is in both."""
+    one, other = first.value.entries, here.value.entries
+    on_lines = first.value.line == first.line and here.value.line == here.line and first.line != here.line
+    if not one or not other or not on_lines or {it.key for it in one} & {it.key for it in other}:
+        return ()
+    inside = line_of(texts, text, here.line)[here.value.start + 1 : here.value.end - 1].strip()
+    line, end = line_of(texts, text, first.line), first.value.end - 1
+    return (Edit(text, first.line, first.line + 1, (f"{line[:end].rstrip()}, {inside}{line[end:]}",)),
+            take_out(texts, text, here))
+
+
+def of_brackets(scene: Scenery, text: str, at: int) -> list[Way]:
+    """A line whose brackets and braces do not match: each is closed by one of its own kind."""
+    line = line_of(scene.texts, text, at)
+    body = without_comment(line)
+    new, waiting = "", ""
+    for sign in body:
+        if sign in "[{":
+            waiting += CLOSES[sign]
+        elif sign in "]}":
+            sign, waiting = waiting[-1:], waiting[:-1]
+        new += sign
+    new += waiting[::-1]
+    if new == body or "'" in body or '"' in body:
+        return []
+    words = "Close each `[` with `]`, and each `{` with `}`, on its line."
+    return [Way((Edit(text, at, at + 1, (new + line[len(body) :],)),), words, "The brackets do not match.")]
 
 
 def of_open_flow(scene: Scenery, text: str, at: int) -> list[Way]:
-    """A list that continues on the next lines: all of it on one line."""
-    lines = [
-        without_comment(line_of(scene.texts, text, number))
-        for number in range(at, min(at + 200, len(scene.texts[text])))
-    ]
+    """A list that continues on the next, deeper lines: all of it on one line."""
+    lines = [without_comment(line_of(scene.texts, text, at))]
+    if lines[0].count("[") <= lines[0].count("]") and lines[0].count("{") <= lines[0].count("}"):
+        return []
+    for number in range(at + 1, min(at + 200, len(scene.texts[text]))):
+        line = without_comment(line_of(scene.texts, text, number))
+        if line.strip() and indentation(line) <= indentation(lines[0]) and line.strip()[0] not in "]}":
+            break
+        lines.append(line)
     joined = lines[0]
     for count, line in enumerate(lines[1:], 2):
         joined = f"{joined} {line.strip()}".rstrip()
@@ -219,7 +279,8 @@ def cure_of(scene: Scenery, text: str, at: int, fault: str) -> Cure:
     if fault == "DuplicateKey":
         ways += of_duplicates(scene, text, at)
     if fault in ("Flow", "NotInSubset"):
-        ways += of_open_flow(scene, text, at) + of_aliases(scene, text, at) + of_block_scalars(scene, text, at)
+        for ways_of in of_open_flow, of_brackets, of_aliases, of_block_scalars:
+            ways += ways_of(scene, text, at)
     ways += slips(scene, text, at, fault)
     if fault == "NotUtf8":
         line = line_of(scene.texts, text, at)

@@ -1,0 +1,114 @@
+"""Asks the program about parts of a machine: one section, or one entry, of one text.
+
+A part is a text in which all other lines are empty. So a mistake in one place hides none in another."""
+import hashlib
+import time
+from concurrent.futures import ThreadPoolExecutor
+from dataclasses import dataclass, replace
+
+from . import blocks
+from .answers import Answer, Complaint
+from .blocks import Block
+from .program import Program
+from .scenery import Scenery
+from .texts import MACHINE, VERSION, Edit, Line, Texts, edited, plain
+
+WORKERS = 4
+
+
+def is_error(complaint: Complaint) -> bool:
+    return complaint.message.startswith("error")
+
+
+@dataclass(frozen=True)
+class Verdict:
+    """What is the first error of an edited entry, and whether it is at a line that the edit has changed, or at the head
+    of the section."""
+
+    error: Complaint | None
+    at_edit: bool
+
+
+class OutOfTime(Exception):
+    """The search has taken too long."""
+
+
+class Probes:
+    """Asks until a moment of the processor time of this process: then it raises OutOfTime."""
+
+    def __init__(self, program: Program, until: float):
+        self.program, self.until = program, until
+        self.known: dict[tuple[str, bytes], Complaint | None] = {}
+        self.workers = ThreadPoolExecutor(WORKERS)
+
+    def answer(self, texts: Texts) -> Answer:
+        return self.program.check_texts({name: plain(lines) for name, lines in texts.items()})
+
+    def first_error(self, owner: str, text: str, lines: list[str]) -> Complaint | None:
+        """The first error of a text, judged without the other texts. Its first line is taken as right."""
+        words = "\n".join(lines[1:]).encode("utf-8", "surrogateescape")
+        key = (text, hashlib.blake2b(words).digest())
+        if key not in self.known:
+            if time.process_time() > self.until:
+                raise OutOfTime
+            texts = {text: [VERSION, *lines[1:]]}
+            if text != MACHINE:
+                texts = {MACHINE: [VERSION, f"modes: {owner}"], **texts}
+            first = next(iter(self.program.check_texts(texts).complaints), None)
+            self.known[key] = first if first and is_error(first) and first.text == text else None
+        return self.known[key]
+
+    def head_error(self, scene: Scenery, text: str) -> Complaint | None:
+        """The error of the first line of a text, if that is no version."""
+        lines = plain(scene.texts[text])
+        if lines and lines[0].rstrip(" \t\r") == VERSION:
+            return None
+        stub = {} if text == MACHINE else {MACHINE: [VERSION, f"modes: {scene.owner(text)}"]}
+        first = next(iter(self.program.check_texts({**stub, text: lines[:1]}).complaints), None)
+        return first if first and first.name == "Version" else None
+
+    def first_errors(self, scene: Scenery, text: str) -> list[Complaint]:
+        """The first error of each entry of a text."""
+        lines = plain(scene.texts[text])
+        if self.first_error(scene.owner(text), text, lines) is None:
+            return []
+        sections = blocks.sections_of(lines)
+        found = self.workers.map(lambda it: self.errors_of_section(scene.owner(text), text, lines, it), sections)
+        return [complaint for complaints in found for complaint in complaints]
+
+    def errors_of_section(self, owner: str, text: str, lines: list[str], section: Block) -> list[Complaint]:
+        """The first error of each entry: each that is found is left out, and the rest is asked about again."""
+        kept = {*range(section.first, section.last)}
+        found = []
+        while kept and (complaint := self.first_error(owner, text, blocks.only(lines, kept))):
+            at = complaint.line - 1
+            entry = blocks.entry_at(lines, section, at) if section.first <= at < section.last else section
+            out = kept & {*range(entry.first, entry.last)}
+            if not out:
+                break
+            kept -= out
+            found.append(complaint)
+        return found
+
+    def verdict(self, scene: Scenery, text: str, at: int, edits: tuple[Edit, ...]) -> Verdict:
+        before = scene.texts[text]
+        kept = {id(before[it]) for it in around(plain(before), at, [it for it in edits if it.text == text])}
+        after = edited(scene.texts, edits)[text]
+        old = {id(line) for line in before}
+        lines = [line.text if id(line) in kept or id(line) not in old else "" for line in after]
+        error = self.first_error(scene.owner(text), text, lines)
+        if error is None:
+            return Verdict(None, False)
+        line = after[error.line - 1] if 0 < error.line <= len(after) else Line(0, "")
+        at_edit = id(line) not in old or blocks.begins_section(line.text)
+        return Verdict(replace(error, line=error.line - len(after) + len(before)), at_edit)
+
+
+def around(lines: list[str], at: int, edits: list[Edit]) -> set[int]:
+    """The lines of the entries that are at a line, or that edits change, with the heads of their sections."""
+    kept: set[int] = set()
+    for place in (at, *(it.first for it in edits), *(max(it.first, it.last - 1) for it in edits)):
+        section = blocks.section_at(lines, place)
+        entry = blocks.entry_at(lines, section, min(place, len(lines) - 1))
+        kept |= {blocks.head_of(lines, section), *range(entry.first, entry.last)}
+    return kept
