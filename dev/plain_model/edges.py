@@ -22,12 +22,14 @@ GROUP = {"rotate": "rotate_events", "left": "rotate_left_events", "right": "rota
 class Part:
     """What a device adds to a machine: entries by section, of the machine and of its mode, and switches.
 
-    The switches are those that a log presses, each with the milliseconds after which something may happen."""
+    The switches are those that a log presses, each with the milliseconds after which something may happen. It presses
+    the first `often` of them most."""
 
     machine: dict[str, str] = field(default_factory=dict)
     mode: dict[str, str] = field(default_factory=dict)
     switches: dict[str, list[int]] = field(default_factory=dict)
     held: dict[str, int] = field(default_factory=dict)  # for how long some of the switches are pressed
+    often: int = 0
 
 
 class Edges:
@@ -37,9 +39,9 @@ class Edges:
         self.draw, self.now, self.lines = draw, 0, []
         self.coming: list[int] = []
         kinds = [self.counter, self.steps, self.timer, self.shots, self.flipper, self.coil]
-        kinds += [self.slow, self.save, self.lock]
+        kinds += [self.slow, self.save, self.lock, self.counter, self.timer, self.counter]  # some come up more often
         base = Part(switches={"start": [], "drain": [1], "go": [], "end": []}, held={"drain": 1})
-        self.parts = [base, *(kind() for kind in draw.sample(kinds, draw.choice([1, 1, 2])))]
+        self.parts = [base, *(kind() for kind in dict.fromkeys(draw.sample(kinds, draw.choice([1, 1, 2]))))]
         self.spans = {name: spans for part in self.parts for name, spans in part.switches.items()}
         self.held = {name: held for part in self.parts for name, held in part.held.items()}
         self.levels = dict.fromkeys(self.spans, 0)
@@ -52,7 +54,8 @@ class Edges:
 
     def acts(self, name: str, settings: dict[str, str]) -> list[str]:
         """The settings of these acts, each with a switch of its own. Some are left out."""
-        return [f"{setting}: s_{name}_{act}_active" for act, setting in settings.items() if self.chance(0.8)]
+        written = [act for act in settings if self.chance(0.4 if act == "enable" else 0.8)]
+        return [f"{settings[act]}: s_{name}_{act}_active" for act in written]
 
     # Parts
 
@@ -65,18 +68,17 @@ class Edges:
         entry = ["count_events: s_c_count_active", f"multiple_hit_window: {self.draw.choice([0, window, window])}"]
         entry += [f"count_complete_value: {end if up else -end}", f"direction: {'up' if up else 'down'}"]
         entry += [f"count_interval: {self.draw.choice([1, 1, 3])}", *self.block("c")]
-        switches = {f"c_{act}": [] for act in BLOCK} | {"c_count": [window]}
-        return self.of("counters", "c", entry, switches)
+        return self.of("counters", "c", entry, {"c_count": [window]} | {f"c_{act}": [] for act in BLOCK}, 1)
 
     def steps(self) -> Part:
         entry = ["events: [s_b_0_active, s_b_1_active, s_b_2_active]", *self.block("b")]
-        switches = {f"b_{act}": [] for act in (*BLOCK, 0, 1, 2)}
-        return self.of(self.draw.choice(["accruals", "sequences"]), "b", entry, switches)
+        switches = {f"b_{act}": [] for act in (0, 1, 2, *BLOCK)}
+        return self.of(self.draw.choice(["accruals", "sequences"]), "b", entry, switches, 3)
 
-    def of(self, section: str, name: str, entry: list[str], switches: dict[str, list[int]]) -> Part:
+    def of(self, section: str, name: str, entry: list[str], switches: dict[str, list[int]], often: int) -> Part:
         """An entry of the machine or of its mode."""
         sections = {section: f"  {name}: {{{', '.join(entry)}}}"}
-        return Part(switches=switches, **{self.draw.choice(["machine", "mode"]): sections})
+        return Part(switches=switches, often=often, **{self.draw.choice(["machine", "mode"]): sections})
 
     def timer(self) -> Part:
         tick, up, count = self.draw.randint(2, 20), self.chance(0.5), self.draw.randint(2, 5)
@@ -91,7 +93,8 @@ class Edges:
 
     def shots(self) -> Part:
         """A group of three shots, and a profile of three states."""
-        switches: dict[str, list[int]] = {f"g_{it}": [] for it in GROUP}
+        switches: dict[str, list[int]] = {f"{name}_hit": [] for name in ("x0", "x1", "x2")}
+        switches |= {f"g_{it}": [] for it in GROUP}
         sections = {"shots": "", "shot_groups": f"  g: {{shots: [x0, x1, x2], {', '.join(self.acts('g', GROUP))}}}"}
         profile = self.draw.choice(["default", "p"])
         for name in ("x0", "x1", "x2"):
@@ -100,7 +103,7 @@ class Edges:
             switches |= {f"{name}_{act}": [] for act in SHOT}
         more = f"{self.yes('advance_on_hit')}, {self.yes('loop')}"
         sections["shot_profiles"] = f"  p: {{states: [{{name: a}}, {{name: b}}, {{name: c}}], {more}}}"
-        return Part(machine=sections, switches=switches)
+        return Part(machine=sections, switches=switches, often=3)
 
     def flipper(self) -> Part:
         enabled = ["enable_events: s_f_enable_active", "disable_events: s_f_disable_active"]
@@ -123,7 +126,7 @@ class Edges:
         coil = f"{{default_pulse_ms: {pulse}, max_pulse_ms: 20, allow_enable: yes{hold}}}"
         switches = {"k_pulse": [pulse, 2 * pulse], "k_long": [long, 2 * long], "k_on": [], "k_off": []}
         mode = {"coil_player": drives} if self.chance(0.5) else {}
-        return Part({"coils": f"  k: {coil}", "coil_player": drives}, mode, switches)
+        return Part({"coils": f"  k: {coil}", "coil_player": drives}, mode, switches, often=2)
 
     def slow(self) -> Part:
         return Part(switches={"slow": [DELAY]}, held={"slow": DELAY})
@@ -196,6 +199,7 @@ class Edges:
             self.press(switch)
         base, *devices = ([*part.switches] for part in self.parts)
         chosen = sum((self.draw.sample(own, min(len(own), self.draw.choice([2, 4, 8]))) for own in devices), [])
+        chosen += 2 * sum(([*part.switches][: part.often] for part in self.parts), [])
         for _ in range(self.draw.choice([30, 50, 70])):
             self.later()
             self.press(self.draw.choice(chosen if self.chance(0.85) else self.draw.choice([base, [*self.spans]])))
