@@ -53,7 +53,7 @@ def a_board_says_first_which_switches_are_active() -> None:
     try:
         with Table(FLIPPERS, "--board", board.path, "--board-patience", str(PATIENCE), live=True) as table:
             table.until(lambda it: "gate" in it["modes"])
-            board.until(lambda: "9" in board.on, SLOW)
+            board.until(lambda: board.has_heard("hold 9 250"), SLOW)
     finally:
         board.close()
 

@@ -3,6 +3,7 @@ import json
 import socket
 import tempfile
 import threading
+import time
 from pathlib import Path
 from typing import Any, Callable
 
@@ -69,6 +70,11 @@ def a_log_is_opened_and_gone_through() -> None:
         equal(table.do("open", log=log + "30000 s_nope 1\n"), ["30000 s_nope 1"])
         state = table.until(lambda it: it["last"] == 27000)
         equal((state["paused"], state["steps"], state["now"]), (True, 0, 0))
+        for count in 1, 2, 1, 0:  # (two steps of the same moment)
+            table.do("step" if count > table.state()["steps"] else "back")
+            table.until(lambda it: it["steps"] == count)
+            time.sleep(0.1)
+            equal(table.state()["steps"], count)
         table.do("go_to", moment=8500)
         state = table.until(lambda it: it["now"] == 8500)
         equal((state["players"]["1"]["score"], "two" in state["running"]), (3820, True))

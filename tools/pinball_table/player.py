@@ -115,7 +115,9 @@ class Player:
             os.read(self.wakes, 4096)
 
     def carry_out(self) -> None:
-        """Does what is due by now, each as if it were in time."""
+        """Does what is due by now, each as if it were in time. Where somebody went back to, it waits for them."""
+        if self.clock.is_paused and self.session.future:
+            return
         while not self.session.ended and (coming := self.session.next()) is not None and coming <= self.clock.now():
             self.watch.check()
             self.session.step()
