@@ -178,7 +178,7 @@ class Search:
         return (complaint.message, complaint.text, number, complaint.key, complaint.words)
 
     def add_finding(self, complaint: Complaint, cure: Cure, way: Way | None) -> None:
-        identity = self.identity(complaint)
+        identity = (*self.identity(complaint), cure.says)
         if identity in self.reported:
             return
         self.reported.add(identity)

@@ -109,7 +109,7 @@ IDIOMS = (
         ("sub", r"(?<=\d)[,_](?=\d)", ""), "variable_player:\n  e:\n    score: 10_000",
     ),
     Idiom(
-        "counters|timers|multiballs|ball_saves|machine", r"\w+_value|starting_count|count_interval|\w*balls\w*",
+        "counters|multiballs|ball_saves|machine", r"\w+_value|starting_count|count_interval|\w*balls\w*",
         r"settings\.|machine\.|current_player|[*/(]",
         "MPF may read it from its settings or work it out. Here it is a number that is written.",
         "Write the number: the one below is an example.",
