@@ -66,6 +66,8 @@ def unquoted(text: str) -> str:
 
 def without_comment(text: str) -> str:
     """The text without a comment and the blanks before it."""
+    if "#" not in text:
+        return text.rstrip()
     quote = ""
     for at, sign in enumerate(text):
         if quote:
