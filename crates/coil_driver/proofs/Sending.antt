@@ -12,7 +12,7 @@ use Rattle.ball_devices.specs.Bookings.{LedgerCall, after_call, booked, can_book
 use Rattle.cascade_rank.specs.Cost.{Cost}
 use Rattle.written_machine.specs.declared.line.{Line.Line, Happening.Happening}
 use Rattle.written_machine.specs.declared.line.Happening.TheVariants as lines
-use Rattle.written_machine.specs.Machine.{Machine, write, set_ledger, told, ask_coil, book, counts_of}
+use Rattle.written_machine.specs.Machine.{Machine, write, set_ledger, told, ask_coil, leave_out, book, counts_of}
 use Rattle.written_machine.specs.{EventStep.{taken, EventStep, EventSteps}, Run.{Stimulus, begin}}
 use Rattle.written_machine.specs.Moves.{Move, Wrote, Began, Ended, Asked, Booked, do_move, Licence, MayDo, Does, IsNoCommand, TakesPart, Begins, ordinary, working}
 use Rattle.written_machine.proofs.{Does.{start-by, stop-by, does-keeps}, Parts.{does-before, does-after, does-begin}}
@@ -126,11 +126,11 @@ module _ (plan : PlanView) (start : List CoilState) where
   booked-agrees : (owner : Owner) (call : LedgerCall) (s : Machine) → Agrees start s → Agrees start (book owner call s)
   booked-agrees owner call s h = by (can_book call s.ledger)
     where
-      by : (b : Bool) → Agrees start (if b then write owner (lines.Balls (booked call s.ledger) (counts_of (after_call call s.ledger))) (set_ledger (after_call call s.ledger) s) else s)
+      by : (b : Bool) → Agrees start (if b then write owner (lines.Balls (booked call s.ledger) (counts_of (after_call call s.ledger))) (set_ledger (after_call call s.ledger) s) else leave_out s)
       by true =
           wrote-agrees owner (lines.Balls (booked call s.ledger) (counts_of (after_call call s.ledger))) (set_ledger (after_call call s.ledger) s) tt
           (record { coils = h.coils; sent = h.sent })
-      by false = h
+      by false = record { coils = h.coils; sent = h.sent }
 
   agrees-move : (licence : Licence) (x : Move) (s : Machine) → MayDo plan licence x → Agrees start s → Agrees start (do_move plan x s)
   agrees-move licence (Wrote owner what) s may h = wrote-agrees owner what s may.2 h

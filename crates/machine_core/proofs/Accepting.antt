@@ -7,11 +7,11 @@ use Rattle.device_objects.specs.declared.device.Call.TheVariants as calls
 use Rattle.switch_core.specs.declared.change.Change.{Change}
 use Rattle.written_machine.specs.declared.line.Happening.TheVariants as lines
 use Rattle.written_machine.specs.Machine.{Machine, write, post, all_do, tell_listener, tell_listeners, confirm_on_playfield, do_accepted}
-use Rattle.machine_core.specs.{Core.{CoreView, CanCall, HasRoom, after}, Goes.Goes}
+use Rattle.machine_core.specs.{Core.{CoreView, CanCall, IsSound, after}, Goes.Goes}
 use Rattle.machine_core.proofs.Going.{goes-then, goes-can, goes-all, goes-post, goes-write, goes-call, goes-playfield}
-use Rattle.machine_core.proofs.{Listing.grown, Room.room-before}
+use Rattle.machine_core.proofs.Room.{room-before}
 
-module _ (a : Change) (now : CoreView) (room : HasRoom now.room (do_accepted now.plan a now.machine)) where
+module _ (a : Change) (now : CoreView) (room : IsSound now.room (do_accepted now.plan a now.machine)) where
   abbrev plan : PlanView
   plan = now.plan
 
@@ -30,11 +30,11 @@ module _ (a : Change) (now : CoreView) (room : HasRoom now.room (do_accepted now
   goes-last : Goes plan arrived (do_accepted plan a now.machine)
   goes-last = goes-all plan (post owners.Machine) (goes-post plan owners.Machine) (posts_of plan a.switch a.active) arrived
 
-  arrived-room : HasRoom now.room arrived
-  arrived-room = room-before now.room arrived (do_accepted plan a now.machine) (grown plan arrived (do_accepted plan a now.machine) goes-last) room
+  arrived-room : IsSound now.room arrived
+  arrived-room = room-before now.room arrived (do_accepted plan a now.machine) goes-last.grows room
 
-  told-fits : HasRoom now.room told
-  told-fits = room-before now.room told arrived (grown plan told arrived (goes-playfield plan a told)) arrived-room
+  told-fits : IsSound now.room told
+  told-fits = room-before now.room told arrived (goes-playfield plan a told).grows arrived-room
 
   -- there is room for its line
   pub line-room : length now.machine.lines < now.room
@@ -46,7 +46,7 @@ module _ (a : Change) (now : CoreView) (room : HasRoom now.room (do_accepted now
 
   module _ (written : CoreView) (written_is : written ≡ after (write owners.Machine (lines.Switch a.switch a.active)) now) (listeners : List Listener) (listeners_are : listeners ≡ listeners_of plan a.switch) where
     -- and for what the devices that listen to it are told
-    pub told-room : HasRoom written.room (all_do (tell_listener written.plan a.active) listeners written.machine)
+    pub told-room : IsSound written.room (all_do (tell_listener written.plan a.active) listeners written.machine)
     told-room = search (rules, told-fits)
 
     module _ (core : CoreView) (core_is : core ≡ after (all_do (tell_listener written.plan a.active) listeners) written) where
@@ -54,8 +54,8 @@ module _ (a : Change) (now : CoreView) (room : HasRoom now.room (do_accepted now
       core-is = core_is ∙ (λ i. after (all_do (tell_listener (written_is i).plan a.active) (listeners_are i)) (written_is i))
 
       -- for what a ball leads to that has arrived on the playfield
-      pub playfield-room : HasRoom core.room (confirm_on_playfield core.plan a core.machine)
-      playfield-room = subst (λ (v : CoreView). HasRoom v.room (confirm_on_playfield v.plan a v.machine)) (sym core-is) arrived-room
+      pub playfield-room : IsSound core.room (confirm_on_playfield core.plan a core.machine)
+      playfield-room = subst (λ (v : CoreView). IsSound v.room (confirm_on_playfield v.plan a v.machine)) (sym core-is) arrived-room
 
       pub playfield-switch : a.switch.0 < length plan.switches → a.switch.0 < length core.plan.switches
       playfield-switch there = subst (λ (v : CoreView). a.switch.0 < length v.plan.switches) (sym core-is) there
@@ -70,7 +70,7 @@ module _ (a : Change) (now : CoreView) (room : HasRoom now.room (do_accepted now
         arrived-is : arrived_core ≡ after (λ s. arrived) now
         arrived-is = arrived_core_is ∙ ap (λ (v : CoreView). after (confirm_on_playfield v.plan a) v) core-is
 
-        pub posts-room : HasRoom arrived_core.room (all_do (post owners.Machine) events arrived_core.machine)
+        pub posts-room : IsSound arrived_core.room (all_do (post owners.Machine) events arrived_core.machine)
         posts-room = search (rules, arrived-is)
 
         pub accepted-done : (last : CoreView) → last ≡ after (all_do (post owners.Machine) events) arrived_core → last ≡ after (do_accepted plan a) now

@@ -1,5 +1,5 @@
 -- What is kept while actions are done, devices are called, and other devices are told.
-use Rattle.std.proofs.Common.{rules, ℕ, ℤ, Bool, if◌then◌else◌, Option, None, Some, List, [], ◌∷◌, length-append, refl, arith}
+use Rattle.std.proofs.Common.{rules, ℕ, ℤ, Bool, if◌then◌else◌, Option, None, Some, List, [], ◌∷◌, length-append, refl, ◌∙◌}
 use Rattle.plan_tables.specs.PlanView.{PlanView, act_told, actions_at, list_of_row, row_at, target_of}
 use Rattle.plan_tables.specs.declared.entries.{Action.Action, EventId.EventId, Owner.Owner, VariableId.VariableId}
 use Rattle.plan_tables.specs.declared.entries.Action.TheVariants.{Post, Pulse, Enable, Disable, Change as ChangeVariable, Enter, Leave, Lose, Arrive, Request, AddBalls}
@@ -14,9 +14,9 @@ use Rattle.device_objects.specs.declared.device.Call.{Call}
 use Rattle.device_objects.specs.declared.device.Call.TheVariants as calls
 use Rattle.player_game.specs.Players.{PlayersState}
 use Rattle.switch_core.specs.declared.change.Change.{Change}
-use Rattle.written_machine.specs.{declared.line.Happening.Happening, Moves.{Turned, Does, moved}}
+use Rattle.written_machine.specs.{declared.line.Happening.Happening, Moves.{Booked, Turned, Unheard, Does, moved, Grows}}
 use Rattle.written_machine.specs.Machine.{Machine, write, post, set_device, set_players, all_do, ask_coil, tell_change, book, drain_if, after_entry, enter_ball, add_balls, do_action_by, do_list_by, do_answer_by, called, call_device_by, tell_nobody, told_device, tell_device, tell_first, call_device, ask_ball, end_multiballs, confirm_on_playfield}
-use Rattle.written_machine.proofs.{Does.has_devices-does, Held.asked-count}
+use Rattle.written_machine.proofs.{Does.{book-by, grows-does, has_devices-does, none-grows, then-grows}, Held.asked-count}
 use Rattle.written_machine.proofs.Growth.{post-grows, asked-grows, told-grows}
 use Rattle.machine_core.specs.{Core.{CoreView, CanCall, after}, Goes.Goes}
 
@@ -26,15 +26,21 @@ goes-can old does g h = search rules
 
 module _ (plan : PlanView) where
   pub goes-none : (s : Machine) → Goes plan s s
-  goes-none s = record { lines = omega arith; waiting = omega arith; modes = refl; moment = refl; coils = refl; devices = λ h. h }
+  goes-none s = record { grows = none-grows s; modes = refl; moment = refl; coils = refl; devices = λ h. h }
 
   pub goes-then : (s t u : Machine) → Goes plan s t → Goes plan t u → Goes plan s u
-  goes-then s t u g h = search rules
+  goes-then s t u g h = record {
+    grows = then-grows g.grows h.grows;
+    modes = h.modes ∙ g.modes;
+    moment = h.moment ∙ g.moment;
+    coils = h.coils ∙ g.coils;
+    devices = λ has. h.devices (g.devices has);
+  }
 
   -- ---- one change each
 
   pub goes-post : (owner : Owner) (e : EventId) (s : Machine) → Goes plan s (post owner e s)
-  goes-post owner e s = let g = post-grows owner e s in record { lines = g.0; waiting = g.1; modes = refl; moment = refl; coils = refl; devices = λ h. h }
+  goes-post owner e s = record { grows = post-grows owner e s; modes = refl; moment = refl; coils = refl; devices = λ h. h }
 
   pub goes-write : (owner : Owner) (what : Happening) (s : Machine) → Goes plan s (write owner what s)
   goes-write owner what s = search (rules, length-append)
@@ -44,20 +50,25 @@ module _ (plan : PlanView) where
 
   goes-told : (owner : Owner) (player : ℕ) (v : VariableId) (e : EventId) (value : Option ℤ) (players : PlayersState) (s : Machine)
       → Goes plan s (tell_change owner player v e value (set_players players s))
-  goes-told owner player v e None players s = record { lines = omega arith; waiting = omega arith; modes = refl; moment = refl; coils = refl; devices = λ h. h }
+  goes-told owner player v e None players s = record { grows = none-grows s; modes = refl; moment = refl; coils = refl; devices = λ h. h }
   goes-told owner player v e (Some value) players s = search (rules, told-grows)
 
   -- a device is called, and goes on to its next state
   pub goes-turn : (call : Call) (r : RowId) (s : Machine) → Goes plan s (set_device r (called plan call r s).0 s)
   goes-turn call r s =
       let turned : Does plan (λ x. Unit {0}) _ s (set_device r (called plan call r s).0 s) = moved (Turned call r) s tt in
-      record { lines = omega arith; waiting = omega arith; modes = refl; moment = refl; coils = refl; devices = has_devices-does plan turned }
+      record { grows = grows-does plan turned; modes = refl; moment = refl; coils = refl; devices = has_devices-does plan turned }
 
   goes-if : (b : Bool) (s t : Machine) → Goes plan s t → Goes plan s (if b then t else s)
   goes-if x1 s t g = search rules
 
   pub goes-book : (owner : Owner) (call : LedgerCall) (s : Machine) → Goes plan s (book owner call s)
-  goes-book owner call s = search (rules, goes-write, goes-if)
+  goes-book owner call s =
+      let books : Does plan (λ x. Unit {0}) _ s (book owner call s) = moved (Booked owner call) s tt in
+      book-by owner call s (λ t. Grows s t → Goes plan s t)
+      (λ can grows. record { grows = grows; modes = refl; moment = refl; coils = refl; devices = λ h. h })
+      (λ grows. record { grows = grows; modes = refl; moment = refl; coils = refl; devices = λ h. h })
+      (grows-does plan books)
 
   goes-drain : (owner : Owner) (drain : Bool) (s : Machine) → Goes plan s (drain_if plan owner drain s)
   goes-drain owner x2 s = search (rules, goes-if, goes-post, goes-none)
@@ -112,7 +123,9 @@ module _ (plan : PlanView) where
   -- ---- where nobody is told
 
   pub goes-tell_nobody : (telling : Telling) (s : Machine) → Goes plan s (tell_nobody telling s)
-  goes-tell_nobody telling s = goes-none s
+  goes-tell_nobody telling s =
+      let lost : Does plan (λ x. Unit {0}) _ s (tell_nobody telling s) = moved (Unheard telling) s tt in
+      record { grows = grows-does plan lost; modes = refl; moment = refl; coils = refl; devices = λ h. h }
 
   goes-device : (telling : Telling) (found : Option RowId) (s : Machine) → Goes plan s (tell_device plan telling found s)
   goes-device telling None s = goes-none s

@@ -10,11 +10,7 @@ use Rattle.device_objects.proofs.{Answered.answers_are_outcomes, Lists.outcomes_
 use Rattle.cascade_rank.proofs.Rows.{length-rows, row_of}
 use Rattle.written_machine.specs.{Devices.HasDevices, Machine.{Machine, world_of, device_at, called, call_device}}
 use Rattle.machine_core.specs.{Core.{CoreView, CanCall, after}, Goes.Goes}
-use Rattle.machine_core.proofs.{Room.Grows, Going.{goes-can, goes-call}}
-
--- as much as before, and more
-pub grown : (plan : PlanView) (s t : Machine) → Goes plan s t → Grows s t
-grown plan s t g = (g.lines, g.waiting)
+use Rattle.machine_core.proofs.Going.{goes-can, goes-call}
 
 module _ (plan : PlanView) where
   -- the rows of a mode, from a number on

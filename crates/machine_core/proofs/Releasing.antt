@@ -13,9 +13,9 @@ use Rattle.coil_guard.proofs.Lowest.{lowest-is}
 use Rattle.coil_guard.specs.Coils.{coil_at, set_coil, put_off, next_held, after_release, answer_release}
 use Rattle.written_machine.specs.declared.line.Happening.TheVariants as lines
 use Rattle.written_machine.specs.Machine.{Machine, write, set_coils, all_do, ask_coil, call_devices, release_coil, release_coils}
-use Rattle.written_machine.specs.EventStep.{do_after}
-use Rattle.written_machine.proofs.{Parts.does-calls, Growth.{asked-grows, all_do-grows}, Held.held-on}
-use Rattle.machine_core.{specs.Core.{CoreView, CanCall, HasRoom, after}, proofs.{Callable.can-does, Room.Grows}}
+use Rattle.written_machine.specs.{EventStep.do_after, Moves.Grows}
+use Rattle.written_machine.proofs.{Does.none-grows, Parts.does-calls, Growth.{asked-grows, all_do-grows}, Held.held-on}
+use Rattle.machine_core.{specs.Core.{CoreView, CanCall, IsSound, after}, proofs.Callable.can-does}
 
 all_do-append : {X : Type 0} (f : X → Machine → Machine) (xs ys : List X) (s : Machine) → all_do f (xs ++ ys) s ≡ all_do f ys (all_do f xs s)
 all_do-append f [] ys s = refl
@@ -99,7 +99,7 @@ module _ (plan : PlanView) (owner : Owner) where
     where
       by : (c : CoilId) (t : Machine) (b : Bool) → Grows t (if b then ask_coil owner (Disable c) t else t)
       by c t true = asked-grows owner (Disable c) t
-      by c t false = (omega arith, omega arith)
+      by c t false = none-grows t
 
   -- ---- the code's loop
 
@@ -159,12 +159,12 @@ module _ (plan : PlanView) (owner : Owner) where
           all = ap (λ (v : CoreView). length v.machine.coils) gone-is ∙ length-set now.machine.coils next.coil.0 (disabled (coil_at now.machine.coils next.coil)) ∙ h.all;
         }
 
-        module _ (room : HasRoom start.room (release_coils plan owner start.machine)) where
+        module _ (room : IsSound start.room (release_coils plan owner start.machine)) where
           room-next : length now.machine.lines < now.room
           room-next =
-              let same : HasRoom now.room (release_coils plan owner now.machine) = subst (λ (v : CoreView). HasRoom v.room v.machine) (sym h.left) room in
+              let same : IsSound now.room (release_coils plan owner now.machine) = subst (λ (v : CoreView). IsSound v.room v.machine) (sym h.left) room in
               let fits = same.lines in
-              let grown = (release-grows gone).0 in
+              let grown = (release-grows gone).lines in
               let one = ap (λ (t : Machine). length t.lines) (released-first now.machine h.all next.coil next.first) in
               let last = length-append now.machine.lines (record { moment = now.machine.moment; owner = owner; happening = lines.Coil (Disable next.coil) } ∷ []) in
               omega (arith, fits, grown, one, last)
@@ -181,7 +181,7 @@ module _ (plan : PlanView) (owner : Owner) where
 -- ---- a mode stops
 
 -- where all that is done leaves room, the stop of its devices does
-pub stopped-room : (plan : PlanView) (kept : Bool) (m : ModeId) (work : Work) (room : ℕ) (s : Machine) → work ≡ Mode m Stopping → HasRoom room (do_after plan kept work s) → HasRoom room (call_devices plan calls.ModeStop m s)
+pub stopped-room : (plan : PlanView) (kept : Bool) (m : ModeId) (work : Work) (room : ℕ) (s : Machine) → work ≡ Mode m Stopping → IsSound room (do_after plan kept work s) → IsSound room (call_devices plan calls.ModeStop m s)
 stopped-room plan kept m work room s is h = search (rules, is, release-grows, length-append)
 
 -- and there are all coils after it

@@ -1,13 +1,12 @@
 -- What is kept while another device is told of an action, or not.
-use Rattle.std.specs.Prelude.{◌≡◌, ◌≤◌, length}
+use Rattle.std.specs.Prelude.{◌≡◌, length}
 use Rattle.plan_tables.specs.{PlanView.PlanView, declared.devices.Telling.Telling}
-use Rattle.written_machine.specs.{Devices.HasDevices, Machine.Machine}
+use Rattle.written_machine.specs.{Devices.HasDevices, Machine.Machine, Moves.Grows}
 
--- The second machine has as many lines and waiting events at least. Its modes and its moment are the same, and its
--- devices can be called and its coils asked as before.
+-- The second machine has grown from the first. Its modes and its moment are the same, and its devices can be called and
+-- its coils asked as before.
 pub record Goes (plan : PlanView) (s t : Machine) : Type 0 where
-  pub lines : length s.lines ≤ length t.lines
-  pub waiting : length s.waiting ≤ length t.waiting
+  pub grows : Grows s t
   pub modes : t.modes ≡ s.modes
   pub moment : t.moment ≡ s.moment
   pub coils : length t.coils ≡ length s.coils

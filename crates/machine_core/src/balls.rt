@@ -5,14 +5,11 @@ ghost use Rattle.plan_tables.specs.PlanView.{home_rows};
 ghost use Rattle.ball_devices.specs.Ledger.{counted_in, total};
 ghost use Rattle.ball_devices.specs.Bookings.{after_call, booked, can_book};
 ghost use Rattle.written_machine.specs.Machine.{counts_of};
-ghost use Rattle.machine_core.specs.Balls.{IsThere, ledger_call};
+ghost use Rattle.machine_core.specs.Balls.{ledger_call};
 
 use ball_devices::{BallLedger, Booking};
 use plan_tables::{BallTarget, Plan, RowId};
 use written_machine::line::BallCounts;
-
-/// No more balls become known.
-const MOST_BALLS: u64 = (1 << 32) - 1;
 
 /// What the ledger is told.
 #[derive(Clone, Copy)]
@@ -25,18 +22,6 @@ pub(crate) enum BallCall {
     Lose(RowId),
     /// A ball that was on its way to the target is on the playfield.
     Arrive(BallTarget),
-}
-
-/// Whether the ledger may book this.
-pub(crate) fn can_book(ledger: &BallLedger, call: BallCall) -> bool
-    requires { IsThere (length ledger.now.counted) (ledger_call call) }
-    ensures { result ≡ can_book (ledger_call call) ledger.now }
-{
-    match call {
-        BallCall::Enter(_) => ledger.known() < MOST_BALLS,
-        BallCall::Leave(device, _) | BallCall::Lose(device) => ledger.counted(device) > 0,
-        BallCall::Arrive(target) => ledger.transit(target) > 0,
-    }
 }
 
 /// Books this, which the ledger may. Reports what is booked.

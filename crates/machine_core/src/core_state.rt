@@ -25,11 +25,11 @@ ghost use Rattle.machine_core.specs.Balls.{IsThere, ledger_call};
 ghost use Rattle.machine_core.specs.Core.{played, IsWorkOfGame};
 ghost use Rattle.written_machine.specs.NextAlarm.{next_alarm, is_due_by, first_of};
 ghost use Rattle.written_machine.specs.Run.{switch as of_switch, device as of_device};
-ghost use Rattle.machine_core.specs.Core.{HasRoom, IsWhole, TakesFirst, after};
+ghost use Rattle.machine_core.specs.Core.{IsSound, IsWhole, TakesFirst, after};
 ghost use Rattle.machine_core.specs.Stimuli.{alarm_view};
 ghost use Rattle.machine_core.specs.Stopping.{stopped_state};
 
-use crate::balls::{BallCall, book, can_book, counts_of, home};
+use crate::balls::{BallCall, book, counts_of, home};
 use crate::exchange::put_in_place;
 use crate::fault::CoreFault;
 use crate::fit::first_wrong;
@@ -86,7 +86,7 @@ impl<'p, D: Device> Model for Core<'p, D> {
     ghost view = { λ c. record {
       plan = c.plan.now;
       running = c.handlers.running;
-      machine = record { moment = c.moment; switches = c.switches; modes = c.modes.modes; devices = map D.state_of c.devices.items; coils = c.coils; ledger = c.ledger; players = c.players.state; game = c.game.state; waiting = c.queue.waiting; lines = c.lines.items };
+      machine = record { moment = c.moment; switches = c.switches; modes = c.modes.modes; devices = map D.state_of c.devices.items; coils = c.coils; ledger = c.ledger; players = c.players.state; game = c.game.state; waiting = c.queue.waiting; lines = c.lines.items; bookings_left_out = 0; tellings_lost = 0 };
       room = c.queue.size;
     } };
 
@@ -351,22 +351,13 @@ impl<'p, D: Device> Core<'p, D> {
         self.game.in_play()
     }
 
-    /// How many balls are missing, while a ball is on, for so many to be in play.
-    pub(crate) fn missing(&self, balls: u8) -> usize
-        ensures { result ≡ missing balls self.now.machine.game }
+    /// At least so many balls are in play from now on, while a ball is on. Reports how many were
+    /// missing for that.
+    pub(crate) fn add_balls(&mut self, balls: u8) -> usize
+        ensures added { self.new ≡ after (λ s. set_game (more_balls balls s.game) s) self.old }
+        ensures missing { result ≡ missing balls self.old.machine.game }
     {
-        if self.is_ball_on() {
-            usize::from(balls).saturating_sub(self.in_play() as usize)
-        } else {
-            0
-        }
-    }
-
-    /// At least so many balls are in play from now on, while a ball is on.
-    pub(crate) fn add_balls(&mut self, balls: u8)
-        ensures { self.new ≡ after (λ s. set_game (more_balls balls s.game) s) self.old }
-    {
-        let _ = self.game.add_balls(balls);
+        usize::from(self.game.add_balls(balls))
     }
 
     /// Whether a game goes on.
@@ -466,7 +457,7 @@ impl<'p, D: Device> Core<'p, D> {
         event: EventId,
     )
         requires variable { variable.0 < length self.old.plan.variables }
-        requires room { HasRoom self.old.room (change_variable self.old.plan owner variable action number event self.old.machine) }
+        requires room { IsSound self.old.room (change_variable self.old.plan owner variable action number event self.old.machine) }
         ensures { self.new ≡ after (change_variable self.old.plan owner variable action number event) self.old }
     {
         let player = self.players.current();
@@ -476,15 +467,12 @@ impl<'p, D: Device> Core<'p, D> {
         }
     }
 
-    /// The ledger is told this. Where it books it, its line is written.
+    /// The ledger books this, which it may, and the line of it is written.
     pub(crate) fn book(&mut self, owner: Owner, call: BallCall)
         requires there { IsThere (length self.old.plan.rows) (ledger_call call) }
-        requires room { HasRoom self.old.room (book owner (ledger_call call) self.old.machine) }
+        requires room { IsSound self.old.room (book owner (ledger_call call) self.old.machine) }
         ensures { self.new ≡ after (book owner (ledger_call call)) self.old }
     {
-        if !can_book(&self.ledger, call) {
-            return;
-        }
         let booking = book(&mut self.ledger, call);
         let counts = counts_of(&self.ledger);
         self.write(owner, Happening::Balls(booking, counts));

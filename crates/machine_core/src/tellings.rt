@@ -5,7 +5,7 @@ ghost use Rattle.plan_tables.specs.Valid.{IsTargetThere};
 ghost use Rattle.written_machine.specs.Machine.{device_at, first_away, is_device_away, tell_first, told_device};
 ghost use Rattle.written_machine.specs.Devices.{HasDevices};
 ghost use Rattle.machine_core.specs.Balls.{IsTellingThere};
-ghost use Rattle.machine_core.specs.Core.{CanCall, HasRoom, after};
+ghost use Rattle.machine_core.specs.Core.{CanCall, IsSound, after};
 
 use crate::actions::Tells;
 use crate::core_state::Core;
@@ -17,7 +17,7 @@ use plan_tables::{BallTarget, RowId, Telling};
 pub(crate) fn tell<D: Device>(core: &mut Core<'_, D>, telling: Telling)
     requires there { IsTellingThere (length core.old.plan.rows) telling }
     requires calls { CanCall core.old }
-    requires room { HasRoom core.old.room (tell_first core.old.plan telling core.old.machine) }
+    requires room { IsSound core.old.room (tell_first core.old.plan telling core.old.machine) }
     ensures { core.new ≡ after (tell_first core.old.plan telling) core.old }
 {
     if let Some(row) = told_device(core, telling) {
@@ -82,7 +82,7 @@ fn is_away(state: &DeviceState) -> bool
     }
 }
 
-/// A device that was told something tells nobody.
+/// A device that was told something tells nobody: no list that it answers has such an action.
 struct TellsNobody;
 
 impl Tells for TellsNobody {
@@ -90,5 +90,7 @@ impl Tells for TellsNobody {
 
     ghost tell = { λ plan. tell_nobody };
 
-    fn tell<D: Device>(_core: &mut Core<'_, D>, _telling: Telling) {}
+    fn tell<D: Device>(_core: &mut Core<'_, D>, _telling: Telling) {
+        unreachable!()
+    }
 }

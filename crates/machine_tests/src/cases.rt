@@ -6,9 +6,11 @@
 //! is `no memory`.
 
 use crate::asserts::assert_text;
+use crate::attempts::attempted;
 use crate::boards::boarded;
 use crate::boxes::boxed;
 use crate::checks::checked;
+use crate::ends::ended;
 use crate::exchanged_runs::exchanged_run;
 use crate::exchanges::{exchanged, swapped};
 use crate::plans::planned;
@@ -71,7 +73,9 @@ pub(crate) fn add_fault<F: Display + Drop>(pen: &mut Pen, number: u32, fault: F)
 /// Adds the answer to a question about a configuration that is accepted.
 fn ask_accepted(pen: &mut Pen, checked: &Checked, word: &str, rest: &str) {
     match word {
+        "attempts" => attempted(pen, checked, rest),
         "boxes" => boxed(pen, checked, rest),
+        "ends" => ended(pen, checked, rest),
         "exchange" => exchanged(pen, checked, rest),
         "swap" => swapped(pen, checked, rest),
         "runs" => exchanged_run(pen, checked, rest),

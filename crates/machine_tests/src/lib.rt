@@ -6,6 +6,8 @@
 #[cfg(test)]
 mod asserts;
 #[cfg(test)]
+mod attempts;
+#[cfg(test)]
 mod boards;
 #[cfg(test)]
 mod boxes;
@@ -17,6 +19,10 @@ mod checks;
 mod courses;
 #[cfg(test)]
 mod devices;
+#[cfg(test)]
+mod ends;
+#[cfg(test)]
+mod errors;
 #[cfg(test)]
 mod exchanged_runs;
 #[cfg(test)]

@@ -8,11 +8,11 @@ use Rattle.written_machine.specs.{declared.line.Line.Line, CheckedView.CheckedVi
 use Rattle.written_machine.specs.{Machine.Machine, Devices.HasDevices, EventStep.EventSteps, PlanOrder.plan_steps}
 use Rattle.written_machine.specs.Run.{Stimulus, SwitchChange, Alarm, Wait, moment_of, IsAllowed, begin, IsReached}
 use Rattle.written_machine.proofs.{PlanSteps.plan_steps-event_steps, Silence.begin-still}
-use Rattle.written_machine.proofs.Reached.{reached-next, reached-within, reached-same, reached-has_states, reached-devices, reached-kinds, reached-complete, reached-modes}
+use Rattle.written_machine.proofs.Reached.{reached-next, reached-within, reached-kept, reached-heard, reached-few, reached-same, reached-has_states, reached-devices, reached-kinds, reached-complete, reached-modes}
 use Rattle.written_machine.proofs.Alarms.{has_states-begin, moment-begin, moment-after}
 use Rattle.coil_driver.specs.{Board.after_lines, Driver.{DriverView, IsSendable, HasSent, HasStopped}, Agrees.Agrees}
 use Rattle.coil_driver.proofs.Sending.{cascade-agrees, sent-sendable}
-use Rattle.machine_core.specs.Core.{CoreView, IsWhole, CanCall, HasHandlers, IsPlayable, HasRoom, StaysWithin, HasSettled, after}
+use Rattle.machine_core.specs.Core.{CoreView, IsWhole, CanCall, HasHandlers, IsPlayable, IsSound, StaysWithin, HasSettled, after}
 use Rattle.machine_core.proofs.{Settling.follows-handles, Room.drop-found}
 use Rattle.pin_rig.specs.{declared.input.Input.Input, Inside.IsHeld}
 use Rattle.pin_rig.specs.Rig.{RigView, stimulus_at, RigCascade, RigStep, RigHalt}
@@ -55,14 +55,20 @@ module _ (c : CheckedView) (core : CoreView) (driver : DriverView) (shown : ℕ)
   abbrev begun_core : CoreView
   begun_core = after (begin c.plan stimulus) core
 
-  begun-room : (n : ℕ) → HasRoom core.room (plan_steps c.plan n begun)
+  begun-room : (n : ℕ) → IsSound core.room (plan_steps c.plan n begun)
   begun-room n =
       let within = reached-within c held.accepted held.reached.0 core.machine held.reached.1 stimulus allowed n in
       let room = held.room in
-      record { waiting = omega (arith, within, room); lines = omega (arith, within, room) }
+      record {
+        waiting = omega (arith, within, room);
+        lines = omega (arith, within, room);
+        kept = reached-kept c held.accepted held.reached.0 core.machine held.reached.1 stimulus allowed n;
+        heard = reached-heard c held.accepted held.reached.0 core.machine held.reached.1 stimulus allowed n;
+        few = reached-few c held.accepted held.reached.0 core.machine held.reached.1 stimulus allowed n;
+      }
 
   begun-stays : StaysWithin begun_core
-  begun-stays n = subst (λ (p : PlanView). HasRoom core.room (plan_steps p n begun)) (sym held.plan_is) (begun-room n)
+  begun-stays n = subst (λ (p : PlanView). IsSound core.room (plan_steps p n begun)) (sym held.plan_is) (begun-room n)
 
   -- the same modes run as before
   begun-handles : HasHandlers begun_core
@@ -177,8 +183,8 @@ module _ (c : CheckedView) (core : CoreView) (driver : DriverView) (shown : ℕ)
             held-on (omega (arith, within)) (λ none. absurd (none-some (coil_of part.fault.command) (sym none ∙ part.fault.fault.faulted)))
 
   -- the same, of the core that there is then
-  pub begin-room : HasRoom core.room (begin core.plan stimulus core.machine)
-  begin-room = subst (λ (p : PlanView). HasRoom core.room (begin p stimulus core.machine)) (sym held.plan_is) (begun-room 0)
+  pub begin-room : IsSound core.room (begin core.plan stimulus core.machine)
+  begin-room = subst (λ (p : PlanView). IsSound core.room (begin p stimulus core.machine)) (sym held.plan_is) (begun-room 0)
 
   module _ (now : CoreView) (now_is : now ≡ after (begin core.plan stimulus) core) where
     now-is : now ≡ begun_core

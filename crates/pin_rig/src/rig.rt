@@ -225,11 +225,11 @@ impl<'c, D: Device, B: Board> Rig<'c, D, B> {
         Ok(())
     }
 
-    /// Ends the machine, and gives the board back. The devices stop. Then a disable is sent, in the
-    /// order of their numbers, to each coil that is on at the moment of the latest stimulus by the
-    /// commands that the board has taken, and to the coil whose command it has not taken. A fault
-    /// does not stop this. The report has the coils whose disable the board has taken, and the number
-    /// of the others. The devices are dropped at the end.
+    /// Ends the machine, and gives the board back. First a disable is sent, in the order of their
+    /// numbers, to each coil that is on at the moment of the latest stimulus by the commands that the
+    /// board has taken, and to the coil whose command it has not taken. A fault does not stop this.
+    /// Then the devices stop, and they are dropped at the end. The report has the coils whose disable
+    /// the board has taken, and the number of the others.
     pub fn shut_down(self) -> (B, ShutReport)
         ensures off { ArePutOff (coils_to_put_off self.entry) self.entry.board result.1.off.items result.1.faults (board_view B.told B.fault_count B.answers result.0) }
     {
@@ -249,8 +249,9 @@ impl<'c, D: Device, B: Board> Rig<'c, D, B> {
             shown: _,
         } = self;
         let now = core.moment();
-        let devices = core.stop_devices();
+        // The coils first: what a device does when it stops must not keep them on.
         let report = driver.put_off(checked.plan(), now);
+        let devices = core.stop_devices();
         (devices, driver.into_board(), report)
     }
 

@@ -145,5 +145,10 @@ fn check_rows(wrong: &mut Pen, subject: &Subject, table: &str) {
 pub(crate) fn assert_rows<R: Abort + AllocGlobal>(rt: &R, subject: &Subject, table: &str) {
     let mut wrong = Pen::new(rt.alloc());
     check_rows(&mut wrong, subject, table);
-    assert_eq!(rt; wrong.end(), "");
+    assert_text(rt, &wrong, "");
+}
+
+/// This is written in the end.
+pub(crate) fn assert_text<R: Abort>(rt: &R, found: &Pen, wanted: &str) {
+    assert_eq!(rt; found.end(), wanted);
 }

@@ -12,6 +12,8 @@ mod coils;
 #[cfg(test)]
 mod devices;
 #[cfg(test)]
+mod errors;
+#[cfg(test)]
 mod game;
 #[cfg(test)]
 mod pen;

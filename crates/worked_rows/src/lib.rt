@@ -5,19 +5,45 @@
 #![tactic(auto)]
 
 mod ball_plays;
+mod block_plays;
 mod coil_plays;
+mod game_plays;
+mod mode_plays;
 mod pen;
 mod row;
+mod shot_plays;
 mod sink;
 mod source;
+mod switch_plays;
 mod texts;
 mod walks;
 
-pub use ball_plays::{BALL_PLAYS, SAVE_PLAYS, THREE_MACHINES_PLAY};
-pub use coil_plays::{COIL_PLAYS, FAULT_PLAYS, FLIPPER_PLAYS};
+use ball_plays::{BALL_PLAYS, SAVE_PLAYS, THREE_MACHINES_PLAY};
+use block_plays::{BLOCK_PLAYS, TIMER_PLAYS};
+use coil_plays::{COIL_PLAYS, FAULT_PLAYS, FLIPPER_PLAYS};
+use game_plays::GAME_PLAYS;
+use mode_plays::MODE_PLAYS;
 pub use pen::Pen;
 pub use row::{Answers, Row, answered, written, wrong_rows};
+use shot_plays::SHOT_PLAYS;
 pub use sink::Sink;
 pub use source::Source;
+use switch_plays::SWITCH_PLAYS;
 pub use texts::named;
 pub use walks::wrong_walks;
+
+/// All tables of logs that are played. A test of every row goes over this list, so that it also tries a new row.
+pub const PLAYS: [&str; 12] = [
+    SWITCH_PLAYS,
+    MODE_PLAYS,
+    BLOCK_PLAYS,
+    TIMER_PLAYS,
+    COIL_PLAYS,
+    FLIPPER_PLAYS,
+    FAULT_PLAYS,
+    GAME_PLAYS,
+    SHOT_PLAYS,
+    BALL_PLAYS,
+    SAVE_PLAYS,
+    THREE_MACHINES_PLAY,
+];

@@ -90,7 +90,7 @@ module _ (plan : PlanView) (valid : IsValid plan) (right : BookingsAreRight plan
       booked-calm t shape c may fits balls about later moves owner =
           let tells = call-told s.ledger h.ledger.rows c may in
           surely_booked (IsCalm plan later) owner c (set_device r (states.BallDevice t) s) may
-          (turned-calm plan s r d within is b t was shape _ refl h tells.rows (call-is c s.ledger h.ledger may)
+          (turned-calm plan s r d within is b t was shape _ refl refl refl h tells.rows (call-is c s.ledger h.ledger may)
           (let known = tells.known in omega (arith, known, fits))
           (let here = tells.counted r row_counted in omega (arith, here, balls, held_here))
           (λ e inside other.
@@ -114,7 +114,7 @@ module _ (plan : PlanView) (valid : IsValid plan) (right : BookingsAreRight plan
       nothing-calm : (t : BallState) → HasBallShape d t → balls_in t ≡ balls_in b → is_away t.eject ≡ is_away b.eject
           → IsCalm plan no_lag (set_device r (states.BallDevice t) s)
       nothing-calm t shape balls away =
-          turned-calm plan s r d within is b t was shape (set_device r (states.BallDevice t) s) refl h refl h.ledger h.most
+          turned-calm plan s r d within is b t was shape (set_device r (states.BallDevice t) s) refl refl refl h refl h.ledger h.most
           (held_here ∙ sym balls) (λ e inside other. refl)
           (λ target there. ap (λ (x : Bool). transit_to s.ledger target + 0 + one (is_target target d.target && x)) (sym away))
 
@@ -228,7 +228,7 @@ module _ (plan : PlanView) (valid : IsValid plan) (right : BookingsAreRight plan
           subst (λ (x : DeviceState × List ℕ). IsCalm plan no_lag (do_answer_by plan tell_nobody r x.1 (set_device r x.0 s)))
           (sym (ap₂ (λ (x : Settings) (y : DeviceState). device_step x (calls.Act acts.Confirm) s.moment (world_of s) y) is was))
           (other-calm plan (quiet-other tell_nobody a.1 u done.quiet)
-          (turned-calm plan s r d within is b a.0 was (ball_step-shape d (calls.Act acts.Confirm) s.moment b shape) u refl h refl h.ledger h.most
+          (turned-calm plan s r d within is b a.0 was (ball_step-shape d (calls.Act acts.Confirm) s.moment b shape) u refl refl refl h refl h.ledger h.most
           (h.held r d within is ∙ (ap balls_at was ∙ sym balls)) (λ e inside other. refl)
           (λ x there.
           let same : one (is_target x d.target) ≡ one (is_target x (Device to)) = ap (λ (y : BallTarget). one (is_target x y)) target in

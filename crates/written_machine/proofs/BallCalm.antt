@@ -45,8 +45,10 @@ abbrev pub limit : ℕ
 limit = 2 ^ 31
 
 -- Each ball device has a state, and the ledger a number for each row. So many balls lie in a device as count in it, and so
--- many are on their way to a target as devices are Away to it, up to the lag.
+-- many are on their way to a target as devices are Away to it, up to the lag. Nothing was left out.
 pub record IsCalm (plan : PlanView) (lag : BallTarget → ℕ) (s : Machine) : Type 0 where
+  pub kept : s.bookings_left_out ≡ 0
+  pub heard : s.tellings_lost ≡ 0
   pub count : length s.devices ≡ length plan.rows
   pub shapes : (r : RowId) (d : BallSettings) → r.0 < length plan.rows → (row_at plan r).settings ≡ kinds.BallDevice d
       → IsBallState d (device_at s r)
@@ -84,10 +86,12 @@ surely_booked P owner c s may h = search rules
 module _ (plan : PlanView) where
   -- ---- what is calm stays calm
 
-  pub calm-other : {lag : BallTarget → ℕ} (s t : Machine) → t.ledger ≡ s.ledger → length t.devices ≡ length s.devices
+  pub calm-other : {lag : BallTarget → ℕ} (s t : Machine) → t.ledger ≡ s.ledger → t.bookings_left_out ≡ s.bookings_left_out → t.tellings_lost ≡ s.tellings_lost → length t.devices ≡ length s.devices
       → ((r : RowId) (d : BallSettings) → (row_at plan r).settings ≡ kinds.BallDevice d → device_at t r ≡ device_at s r)
       → IsCalm plan lag s → IsCalm plan lag t
-  calm-other {lag} s t ledger count same h = record {
+  calm-other {lag} s t ledger kept heard count same h = record {
+    kept = kept ∙ h.kept;
+    heard = heard ∙ h.heard;
     count = count ∙ h.count;
     shapes = λ r d within is. subst (IsBallState d) (sym (same r d is)) (h.shapes r d within is);
     rows = ap (λ (l : Ledger). length l.counted) ledger ∙ h.rows;
@@ -107,7 +111,7 @@ module _ (plan : PlanView) where
   }
 
   pub other-calm : {lag : BallTarget → ℕ} {s t : Machine} → IsOther plan s t → IsCalm plan lag s → IsCalm plan lag t
-  other-calm {lag} {s} {t} other h = calm-other s t other.ledger other.count other.balls h
+  other-calm {lag} {s} {t} other h = calm-other s t other.ledger other.kept other.heard other.count other.balls h
 
   -- ---- bounds
 
@@ -154,7 +158,7 @@ module _ (plan : PlanView) where
     same_row : (q : RowId) → q.0 ≡ r.0 → r ≡ q
     same_row q same = ap (λ (k : ℕ). record { 0 = k }) (sym same)
 
-    pub turned-calm : {lag later : BallTarget → ℕ} (u : Machine) → u.devices ≡ next_devices → IsCalm plan lag s
+    pub turned-calm : {lag later : BallTarget → ℕ} (u : Machine) → u.devices ≡ next_devices → u.bookings_left_out ≡ s.bookings_left_out → u.tellings_lost ≡ s.tellings_lost → IsCalm plan lag s
         → length u.ledger.counted ≡ length s.ledger.counted → IsLedger u.ledger → u.ledger.known ≤ limit
         → counted_in u.ledger r ≡ balls_in t
         → ((e : RowId) → e.0 < length plan.rows → (e.0 ≡ r.0 → ⊥) → counted_in u.ledger e ≡ counted_in s.ledger e)
@@ -162,7 +166,9 @@ module _ (plan : PlanView) where
         → transit_to u.ledger target + later target + one (is_target target d.target && is_away b.eject)
         ≡ transit_to s.ledger target + lag target + one (is_target target d.target && is_away t.eject))
         → IsCalm plan later u
-    turned-calm {lag} {later} u devices h rows ledger most here others transit = record {
+    turned-calm {lag} {later} u devices kept heard h rows ledger most here others transit = record {
+      kept = kept ∙ h.kept;
+      heard = heard ∙ h.heard;
       count = ap (λ (ds : List DeviceState). length ds) devices ∙ (length-set s.devices r.0 (states.BallDevice t) ∙ h.count);
       shapes = λ q e inside of. subst (λ (ds : List DeviceState). IsBallState e (device_state ds q)) (sym devices) (shapes q e inside of);
       rows = rows ∙ h.rows;

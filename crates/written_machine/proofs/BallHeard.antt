@@ -229,7 +229,7 @@ module _ (plan : PlanView) where
       written = write owners.Machine (lines.Switch n active) (set_switches v (arrived at s))
 
       written-calm : IsCalm plan no_lag (write owners.Machine (lines.Switch n active) (set_switches v (arrived at s)))
-      written-calm = calm-other plan s (write owners.Machine (lines.Switch n active) (set_switches v (arrived at s))) refl refl (λ r d is. refl) calm
+      written-calm = calm-other plan s (write owners.Machine (lines.Switch n active) (set_switches v (arrived at s))) refl refl refl refl (λ r d is. refl) calm
 
       told : IsNotedBy plan valid own right active (listeners_of plan n) (write owners.Machine (lines.Switch n active) (set_switches v (arrived at s)))
           (tell_listeners plan acceptance (write owners.Machine (lines.Switch n active) (set_switches v (arrived at s))))

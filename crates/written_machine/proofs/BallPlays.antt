@@ -42,13 +42,15 @@ use Rattle.written_machine.proofs.Feeding.{multiballs-within, first_active_save-
 
 -- ---- what does not concern balls
 
--- The ledger, the moment and each ball device are the same, and no line of a switch is written.
+-- The ledger, the moment and each ball device are the same, no line of a switch is written, and nothing is left out.
 pub record IsOther (plan : PlanView) (s t : Machine) : Type 0 where
   pub ledger : t.ledger ≡ s.ledger
   pub moment : t.moment ≡ s.moment
   pub count : length t.devices ≡ length s.devices
   pub balls : (r : RowId) (d : BallSettings) → (row_at plan r).settings ≡ kinds.BallDevice d → device_at t r ≡ device_at s r
   pub changes : (n : SwitchId) → changes_of n t.lines ≡ changes_of n s.lines
+  pub kept : t.bookings_left_out ≡ s.bookings_left_out
+  pub heard : t.tellings_lost ≡ s.tellings_lost
 
 -- The machine goes on by what does not concern balls, by such calls of ball devices, by arrivals on the playfield, and by
 -- requests for balls.
@@ -94,20 +96,20 @@ module _ (plan : PlanView) where
   one_row q r is = ap (λ (k : ℕ). (row_at plan (record { 0 = k })).settings) is
 
   pub nothing-other : (s : Machine) → IsOther plan s s
-  nothing-other s = record { ledger = refl; moment = refl; count = refl; balls = λ r d is. refl; changes = λ n. refl }
+  nothing-other s = record { ledger = refl; moment = refl; count = refl; balls = λ r d is. refl; changes = λ n. refl; kept = refl; heard = refl }
 
   pub then-other : {s m t : Machine} → IsOther plan s m → IsOther plan m t → IsOther plan s t
   then-other a b = search rules
 
   pub same-other : (s t : Machine) → t.ledger ≡ s.ledger → t.moment ≡ s.moment → t.devices ≡ s.devices → t.lines ≡ s.lines
-      → IsOther plan s t
-  same-other s t ledger moment devices lines_are = search rules
+      → t.bookings_left_out ≡ s.bookings_left_out → t.tellings_lost ≡ s.tellings_lost → IsOther plan s t
+  same-other s t ledger moment devices lines_are kept heard = search rules
 
   pub write-other : (owner : Owner) (what : Happening) (s : Machine) → IsNoChange what → IsOther plan s (write owner what s)
   write-other owner what s none = search (rules, flat_map-append, no_change, append-nil)
 
   pub post-other : (owner : Owner) (e : EventId) (s : Machine) → IsOther plan s (post owner e s)
-  post-other owner e s = same-other s (post owner e s) refl refl refl refl
+  post-other owner e s = same-other s (post owner e s) refl refl refl refl refl refl
 
   -- one after another
   pub all-other : {X : Type 0} (f : X → Machine → Machine) (Q : X → Type 0) → ((x : X) (s : Machine) → Q x → IsOther plan s (f x s))
@@ -121,7 +123,7 @@ module _ (plan : PlanView) where
   ask-other : (owner : Owner) (command : Command) (s : Machine) → IsOther plan s (ask_coil owner command s)
   ask-other owner command s =
       let after = set_coils (after_asking command owner s.moment s.coils) s in
-      then-other (same-other s after refl refl refl refl)
+      then-other (same-other s after refl refl refl refl refl refl)
       (write-other owner (told command (answer_asking command owner s.moment s.coils)) after
       (told-no_change command (answer_asking command owner s.moment s.coils)))
 
@@ -166,7 +168,7 @@ module _ (plan : PlanView) where
     action-plays owner (Request n) s none = request n s
     action-plays owner (AddBalls n) s none =
         let more = set_game (more_balls n s.game) s in
-        both (still (same-other s more refl refl refl refl)) (want-plays (missing n s.game) more)
+        both (still (same-other s more refl refl refl refl refl refl)) (want-plays (missing n s.game) more)
     action-plays owner _ s none = absurd none
 
     list-plays : (owner : Owner) (l : ListId) → All BooksNothing (actions_at plan l) → (s : Machine) → Plays plan may s (do_list plan owner l s)
@@ -318,7 +320,7 @@ module _ (plan : PlanView) where
       before-plays (Mode m Starting) s = still (nothing-other s)
       before-plays (Mode m Started) s =
           let active = set_mode m (entered (mode_state s.modes m)) s in
-          both (still (same-other s active refl refl refl refl)) (devices-play calls.ModeStart m active)
+          both (still (same-other s active refl refl refl refl refl refl)) (devices-play calls.ModeStart m active)
       before-plays (Mode m Stopping) s = still (nothing-other s)
       before-plays (Mode m Stopped) s = still (nothing-other s)
       before-plays (Game which) s = still (nothing-other s)
@@ -332,7 +334,7 @@ module _ (plan : PlanView) where
       step-plays step s =
           let stepped = set_players step.players (set_game step.game s) in
           let finals = write_finals plan step.finals stepped in
-          both (still (then-other (same-other s stepped refl refl refl refl) (finals-other step.finals stepped)))
+          both (still (then-other (same-other s stepped refl refl refl refl refl refl) (finals-other step.finals stepped)))
           (both (ask-plays step.requests finals)
           (still (posts-other (game_event plan) step.posts (ask_ball plan step.requests finals))))
 
@@ -376,7 +378,7 @@ module _ (plan : PlanView) where
           let released = release_coils plan (owners.Mode m) over in
           let idle = set_mode m (ended (mode_state s.modes m)) released in
           both (devices-play calls.ModeStop m s) (still (then-other (releases-other (owners.Mode m) over)
-          (then-other (same-other released idle refl refl refl refl) (post-other owners.Machine (mode_event plan m Stopped) idle))))
+          (then-other (same-other released idle refl refl refl refl refl refl) (post-other owners.Machine (mode_event plan m Stopped) idle))))
       after-plays kept (Mode m Stopped) s = still (release-other m s)
       after-plays kept (Game which) s = game-plays which s
 
@@ -389,7 +391,7 @@ module _ (plan : PlanView) where
           let begun = taken first rest s in
           let ready = before_handlers plan first rest s in
           let done = all_do (do_handler plan) order ready in
-          both (still (then-other (same-other s fewer refl refl refl refl) (write-other first.owner (lines.Event first.event) fewer tt)))
+          both (still (then-other (same-other s fewer refl refl refl refl refl refl) (write-other first.owner (lines.Event first.event) fewer tt)))
           (both (before-plays (work_of plan first.event) begun)
           (both (handlers-play ready first.event order in_order)
           (after-plays (is_kept (work_of plan first.event) s) (work_of plan first.event) done)))

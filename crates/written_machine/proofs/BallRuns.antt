@@ -44,6 +44,8 @@ module _ (plan : PlanView) where
 
   pub calm-initial : IsCalm plan no_lag (initial plan)
   calm-initial = record {
+    kept = refl;
+    heard = refl;
     count = length-map plan.rows (λ row. first_state row.settings);
     shapes = λ r d within is. record { ball = balls.first_state; is = first-ball r d is; shape = first_ball-shape d };
     rows = length-replicate (length plan.rows) 0;
@@ -68,13 +70,13 @@ module _ (plan : PlanView) where
 
     -- ---- stimuli
 
-    same-calm : (s t : Machine) → t.ledger ≡ s.ledger → t.devices ≡ s.devices → IsCalm plan no_lag s → IsCalm plan no_lag t
-    same-calm s t ledger devices h = search rules
+    same-calm : (s t : Machine) → t.ledger ≡ s.ledger → t.bookings_left_out ≡ s.bookings_left_out → t.tellings_lost ≡ s.tellings_lost → t.devices ≡ s.devices → IsCalm plan no_lag s → IsCalm plan no_lag t
+    same-calm s t ledger kept heard devices h = search rules
 
     accepted-calm : (a : Change) (s : Machine) → IsCalm plan no_lag s → IsCalm plan no_lag (do_accepted plan a s)
     accepted-calm a s h =
         let written = write owners.Machine (lines.Switch a.switch a.active) s in
-        let heard = plays-calm plan valid right {may = IsUsual} (λ call may. may) (listeners-play plan valid.entries own right IsUsual a written (usual-listener a.active)) (same-calm s written refl refl h) in
+        let heard = plays-calm plan valid right {may = IsUsual} (λ call may. may) (listeners-play plan valid.entries own right IsUsual a written (usual-listener a.active)) (same-calm s written refl refl refl refl h) in
         plays-calm plan valid right no_call-usual (accepted-plays plan valid.entries own right IsNoCall a (tell_listeners plan a written)) heard
 
     if_accepted-calm : (o : Option Change) (s : Machine) → IsCalm plan no_lag s → IsCalm plan no_lag (do_if_accepted plan o s)
@@ -90,8 +92,8 @@ module _ (plan : PlanView) where
     begin-calm (Alarm at (device r)) s allowed h =
         plays-calm plan valid right {may = IsUsual} (λ call may. may)
         (call-plays plan valid.entries own right IsUsual calls.Fire r (arrived at s) (due-within s r at h allowed.0.due) tt)
-        (same-calm s (arrived at s) refl refl h)
-    begin-calm (Wait at) s allowed h = same-calm s (arrived at s) refl refl h
+        (same-calm s (arrived at s) refl refl refl refl h)
+    begin-calm (Wait at) s allowed h = same-calm s (arrived at s) refl refl refl refl h
 
     pub calm-run : InEveryRun plan (λ stimuli trace s. IsCalm plan no_lag s)
     calm-run stimuli trace s run =

@@ -103,9 +103,13 @@ module _ (plan : PlanView) where
   telling-keeps : (telling : Telling) → IsKeeping (calls.Act (act_told telling))
   telling-keeps telling = search rules
 
+  -- a telling that is lost keeps them too
+  lost-steady : (telling : Telling) (s : Machine) → IsSteady plan s (tell_nobody telling s)
+  lost-steady telling s = record { moment = refl; count = refl; switches = λ r d is. refl; changes = λ n. refl }
+
   told-steady : (telling : Telling) (o : Option RowId) (s : Machine) → IsSteady plan s (tell_device plan telling o s)
   told-steady telling None s = nothing-steady s
-  told-steady telling (Some q) s = call-steady tell_nobody (λ other t. nothing-steady t) (calls.Act (act_told telling)) (telling-keeps telling) q s
+  told-steady telling (Some q) s = call-steady tell_nobody lost-steady (calls.Act (act_told telling)) (telling-keeps telling) q s
 
   pub telling-steady : (telling : Telling) (s : Machine) → IsSteady plan s (tell_first plan telling s)
   telling-steady telling s = told-steady telling (told_device plan telling s) s

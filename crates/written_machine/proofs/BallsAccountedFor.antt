@@ -1,5 +1,5 @@
 -- In every run of an accepted plan the ledger says where the known balls are.
-use Rattle.std.proofs.Common.{rules}
+use Rattle.std.proofs.Common.{rules, arith}
 use Rattle.written_machine.specs.{GoodRun.BallsAreAccountedFor, CheckedView.CheckedView, Accepted.IsAccepted}
 use Rattle.written_machine.proofs.BallTrace.{told-run, booked-run, somewhere-run}
 use Rattle.written_machine.proofs.{BallRuns.calm-run, BallHeard.counted-run}
@@ -7,6 +7,9 @@ use Rattle.written_machine.proofs.{BallRuns.calm-run, BallHeard.counted-run}
 pub balls-accounted_for : (c : CheckedView) → IsAccepted c → BallsAreAccountedFor c
 balls-accounted_for c accepted = record {
   somewhere = somewhere-run c.plan;
+  kept = λ stimuli trace s run. (calm-run c.plan accepted.valid accepted.own accepted.bookings stimuli trace s run).kept;
+  few = λ stimuli trace s run. let known = (calm-run c.plan accepted.valid accepted.own accepted.bookings stimuli trace s run).most in omega (arith, known);
+  heard = λ stimuli trace s run. (calm-run c.plan accepted.valid accepted.own accepted.bookings stimuli trace s run).heard;
   booked = booked-run c.plan;
   origins = λ stimuli trace s run. (told-run c.plan stimuli trace s run).origins;
   told = λ stimuli trace s run. (told-run c.plan stimuli trace s run).told;

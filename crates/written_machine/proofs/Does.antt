@@ -5,7 +5,7 @@ use Rattle.std.proofs.lemmas.{Option.none-some, List.Elements.{All-head, All-tai
 use Rattle.std.proofs.lemmas.List.{length-map, length-set, get_or-map, get_or_past, get_or-set_same, get_or-set_other, set_past}
 use Rattle.plan_tables.specs.PlanView.{PlanView, may_hold_ball_end, mode_event, no_row, row_at}
 use Rattle.plan_tables.specs.{Valid.HasEntries, declared.entries.ModeEvent.TheVariants.{WillStart, Stopping}}
-use Rattle.plan_tables.specs.declared.{entries.{EventId.EventId, ModeId.ModeId}, devices.RowId.RowId}
+use Rattle.plan_tables.specs.declared.{entries.{EventId.EventId, ModeId.ModeId}, devices.{RowId.RowId, BallTarget.BallTarget}}
 use Rattle.plan_tables.specs.declared.entries.{Owner.Owner, CoilId.CoilId, VariableId.VariableId}
 use Rattle.plan_tables.specs.declared.entries.Owner.TheVariants as owners
 use Rattle.device_objects.specs.declared.{device.Call.Call, state.DeviceState.DeviceState}
@@ -23,11 +23,13 @@ use Rattle.coil_guard.specs.declared.command.Command.TheVariants as commands
 use Rattle.coil_guard.specs.CoilStep.{off, is_held_by, takes_enable, enabled}
 use Rattle.coil_guard.specs.{Coils.{all_off, coil_at, set_coil}, Limits.no_limits, Asked.{limits_of, after_asking}}
 use Rattle.plan_tables.proofs.Owners.{is_owner-same}
+use Rattle.ball_devices.specs.{declared.booking.Origin.Origin, Ledger.{Ledger, set_transit}}
+use Rattle.ball_devices.specs.Ledger as ledgers
 use Rattle.ball_devices.specs.Bookings.{LedgerCall, after_call, booked, can_book}
 use Rattle.written_machine.specs.declared.line.Happening.TheVariants as lines
-use Rattle.written_machine.specs.Machine.{Machine, write, post, set_ledger, counts_of, book, set_mode, set_game, has_game, is_post, post_if, start_mode, stop_mode, all_do, world_of, device_state, device_at, called}
+use Rattle.written_machine.specs.Machine.{Machine, write, post, set_ledger, counts_of, leave_out, book, set_mode, set_game, has_game, is_post, post_if, start_mode, stop_mode, all_do, world_of, device_state, device_at, called}
 use Rattle.written_machine.specs.{Devices.HasDevices, StimulusCost.weigh}
-use Rattle.written_machine.specs.Moves.{Move, Wrote, Sent, Switched, Began, Ended, Marked, Released, Turned, Asked, Booked, Varied, Stepped, AddedBalls, do_move, cost_of_move, MayHold, IsListed, Licence, MayDo, Does, quiet, moved, both, less, Grows}
+use Rattle.written_machine.specs.Moves.{Move, Wrote, Sent, Switched, Began, Ended, Marked, Released, Turned, Asked, Booked, Varied, Stepped, AddedBalls, Unheard, do_move, cost_of_move, MayHold, IsListed, Licence, MayDo, Does, quiet, moved, both, less, Grows}
 
 -- what these cost one after another, where each finds the state that the one before it leaves
 abbrev pub each_now : {X : Type 0} → (X → Machine → Machine) → (X → Machine → Cost) → List X → Machine → Cost
@@ -85,8 +87,30 @@ module _ (owner : Owner) (call : LedgerCall) (s : Machine) where
   abbrev pub booked_now : Machine
   booked_now = write owner (lines.Balls (booked call s.ledger) (counts_of (after_call call s.ledger))) (set_ledger (after_call call s.ledger) s)
 
-  pub book-by : (P : Machine → Type 0) → (can_book call s.ledger ≡ true → P booked_now) → P s → P (book owner call s)
+  pub book-by : (P : Machine → Type 0) → (can_book call s.ledger ≡ true → P booked_now) → P (leave_out s) → P (book owner call s)
   book-by P here not = search rules
+
+-- as many balls are known after a booking, or more
+transit-known : (target : BallTarget) (n : ℕ) (l : Ledger) → (set_transit target n l).known ≡ l.known
+transit-known x1 n l = search rules
+
+entered-known : (d : RowId) (o : Origin) (l : Ledger) → l.known ≤ (ledgers.taken d o l).known
+entered-known d x2 l = search rules
+
+call-known : (call : LedgerCall) (l : Ledger) → l.known ≤ (after_call call l).known
+call-known x1 l = search (rules, transit-known, entered-known)
+
+pub none-grows : (s : Machine) → Grows s s
+none-grows s = record { lines = omega arith; waiting = omega arith; known = omega arith; bookings = omega arith; tellings = omega arith }
+
+pub then-grows : {s t u : Machine} → Grows s t → Grows t u → Grows s u
+then-grows g h = record {
+  lines = let a = g.lines in let b = h.lines in omega (arith, a, b);
+  waiting = let a = g.waiting in let b = h.waiting in omega (arith, a, b);
+  known = let a = g.known in let b = h.known in omega (arith, a, b);
+  bookings = let a = g.bookings in let b = h.bookings in omega (arith, a, b);
+  tellings = let a = g.tellings in let b = h.tellings in omega (arith, a, b);
+}
 
 -- ---- the potential grows by no more than the cost
 
@@ -122,7 +146,7 @@ module _ (plan : PlanView) where
   of_plan-push (q ∷ ps) p h k = (h.0, of_plan-push ps p h.1 k)
 
   pub grows-move : (x : Move) (s : Machine) → Grows s (do_move plan x s)
-  grows-move x s = search (rules, length-append, start-by, stop-by, book-by)
+  grows-move x s = search (rules, length-append, start-by, stop-by, book-by, call-known)
 
   pub moment-move : (x : Move) (s : Machine) → (do_move plan x s).moment ≡ s.moment
   moment-move x s = search rules
@@ -229,6 +253,7 @@ module _ (plan : PlanView) where
   has_states-move l (Booked owner call) s may h = search rules
   has_states-move l (Varied v value) s may h = record { kinds = h.kinds; switches = h.switches; modes = h.modes; devices = h.devices; coils = h.coils; players = varied-few v value s.players h.players }
   has_states-move l (AddedBalls n) s may h = gamed-has_states (more_balls n s.game) s h
+  has_states-move l (Unheard telling) s may h = record { kinds = h.kinds; switches = h.switches; modes = h.modes; devices = h.devices; coils = h.coils; players = h.players }
   has_states-move l (Stepped which) s may h = search (rules, players_stay_few)
 
   -- a device that is due is one of the plan
@@ -244,7 +269,7 @@ module _ (plan : PlanView) where
 
     pub grows-does : Does plan may c s t → Grows s t
     grows-does d =
-        does-keeps plan may (Grows s) (λ x u allowed h. let g = grows-move x u in (omega (arith, h.0, g.0), omega (arith, h.1, g.1))) d (omega arith, omega arith)
+        does-keeps plan may (Grows s) (λ x u allowed h. then-grows h (grows-move x u)) d (none-grows s)
 
     pub moment-does : Does plan may c s t → t.moment ≡ s.moment
     moment-does d = does-keeps plan may (λ u. u.moment ≡ s.moment) (λ x u allowed h. moment-move x u ∙ h) d refl

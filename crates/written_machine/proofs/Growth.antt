@@ -8,15 +8,15 @@ use Rattle.written_machine.specs.declared.line.Happening.TheVariants as lines
 use Rattle.event_queue.specs.declared.queue.Posted.{Posted}
 use Rattle.written_machine.specs.Machine.{Machine, post, ask_coil, all_do, tell_change, do_handler}
 use Rattle.written_machine.specs.EventStep.{taken, is_kept, before_handlers, after_event}
-use Rattle.written_machine.proofs.{Does.grows-does, Parts.{does-handler, does-before, does-after}}
+use Rattle.written_machine.proofs.{Does.{grows-does, none-grows, then-grows}, Parts.{does-handler, does-before, does-after}}
 
 -- where each adds, all do
 pub all_do-grows : {X : Type 0} (f : X → Machine → Machine) → ((x : X) (s : Machine) → Grows s (f x s)) → (xs : List X) (s : Machine) → Grows s (all_do f xs s)
-all_do-grows f each [] s = (omega arith, omega arith)
-all_do-grows f each (x ∷ xs) s = search (rules, all_do-grows f each xs (f x s))
+all_do-grows f each [] s = none-grows s
+all_do-grows f each (x ∷ xs) s = then-grows (each x s) (all_do-grows f each xs (f x s))
 
 pub post-grows : (owner : Owner) (e : EventId) (s : Machine) → Grows s (post owner e s)
-post-grows owner e s = (omega arith, omega (arith, length-append s.waiting (record { event = e; owner = owner } ∷ [])))
+post-grows owner e s = search (rules, length-append)
 
 pub asked-grows : (owner : Owner) (command : Command) (s : Machine) → Grows s (ask_coil owner command s)
 asked-grows owner command s = search (rules, length-append)
@@ -39,4 +39,6 @@ module _ (plan : PlanView) where
       let before = grows-does plan (does-before plan (work_of plan first.event) (taken first rest s)) in
       let g = all_do-grows (do_handler plan) handler-grows order opened in
       let after = grows-does plan (does-after plan (is_kept (work_of plan first.event) s) first.event handled) in
-      (omega (arith, before.0, g.0, after.0, length-append s.lines (written ∷ [])), omega (arith, before.1, g.1, after.1))
+      let more = then-grows before (then-grows g after) in
+      let lines_more = more.lines in
+      (omega (arith, lines_more, length-append s.lines (written ∷ [])), more.waiting)

@@ -133,7 +133,7 @@ module _ (plan : PlanView) (allowed : ActionsKeepLimits plan) where
   guarded-move licence before (Ended m) s may h = search rules
   guarded-move licence before (Booked owner call) s may h =
       book-by owner call s (IsGuarded before)
-      (λ is. quiet-guarded before owner (lines.Balls (booked call s.ledger) (counts_of (after_booking call s.ledger))) (set_ledger (after_booking call s.ledger) s) tt (record { follows = h.follows; idle = h.idle })) h
+      (λ is. quiet-guarded before owner (lines.Balls (booked call s.ledger) (counts_of (after_booking call s.ledger))) (set_ledger (after_booking call s.ledger) s) tt (record { follows = h.follows; idle = h.idle })) (record { follows = h.follows; idle = h.idle })
   guarded-move licence before (Asked owner command) s may h = asked-guarded before owner command s (may.1 allowed) h
   guarded-move licence before _ s may h = record { follows = h.follows; idle = h.idle }
 

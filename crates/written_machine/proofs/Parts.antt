@@ -41,7 +41,7 @@ use Rattle.written_machine.specs.Devices.{ActsAreOwn, IsOwnAct, IsOwnListener}
 use Rattle.written_machine.specs.FreePosts.{IsFree, IsFreeAction, IsFreeSwitch, PostsAreFree}
 use Rattle.written_machine.proofs.{Feeding.told_device-is, Listed.{binding-among, row-among, enable-listed}}
 use Rattle.written_machine.proofs.Does.{each_now, all_do-does, all_do-does_now, does-weaker}
-use Rattle.written_machine.specs.Moves.{Move, Wrote, Sent, Switched, Began, Ended, Marked, Released, Turned, Asked, Booked, Varied, Stepped, AddedBalls, step_now, do_move, MayHold, Licence, MayDo, IsFreeThere, Does, quiet, moved, both, less, IsMachine, ordinary, MayHandle, Begins, MayBegin, working, MayWork}
+use Rattle.written_machine.specs.Moves.{Move, Wrote, Sent, Switched, Began, Ended, Marked, Released, Turned, Asked, Booked, Varied, Stepped, AddedBalls, Unheard, step_now, do_move, MayHold, Licence, MayDo, IsFreeThere, Does, quiet, moved, both, less, IsMachine, ordinary, MayHandle, Begins, MayBegin, working, MayWork}
 use Rattle.player_game.proofs.DrainEvent.{drain-is}
 
 -- ---- what is in a plan
@@ -350,7 +350,7 @@ module _ (plan : PlanView) where
 
     -- a device that is told something tells nobody
     does-told_call : (call : Call) (r : RowId) → (ActsAreOwn plan → by (row_at plan r).owner) → (s : Machine) → Does plan May (call_now_by tell_nobody nobody_now call r s) s (call_device_by plan tell_nobody call r s)
-    does-told_call = does-call_by tell_nobody nobody_now (λ telling s. quiet)
+    does-told_call = does-call_by tell_nobody nobody_now (λ telling s. moved (Unheard telling) s tt)
 
     pub does-telling : (telling : Telling) (s : Machine) → Does plan May (telling_now telling s) s (tell_first plan telling s)
     does-telling telling s = by_first (told_device plan telling s) refl

@@ -1,13 +1,14 @@
 -- States that a run leads to, with no event waiting: the next stimulus, and the next, all in plan order.
-use Rattle.std.proofs.Common.{◌≡◌, ℕ, ◌+◌, ◌≤◌, List, [], ◌∷◌, ◌++◌, length, refl}
+use Rattle.std.proofs.Common.{◌≡◌, ℕ, ◌+◌, ◌≤◌, ◌<◌, ◌^◌, List, [], ◌∷◌, ◌++◌, length, refl, arith}
 use Rattle.plan_tables.specs.{PlanView.PlanView, Valid.IsValid}
 use Rattle.switch_core.specs.Switches.{IsComplete, all_idle}
 use Rattle.written_machine.specs.{declared.line.Line.Line, CheckedView.CheckedView}
 use Rattle.written_machine.specs.{Machine.{Machine, initial}, PlanOrder.{plan_steps, settled}}
 use Rattle.written_machine.specs.{Devices.HasDevices, Accepted.IsAccepted}
 use Rattle.written_machine.specs.Run.{IsNothingLate, Stimulus, IsAllowed, begin, IsReached}
-use Rattle.written_machine.proofs.{Cascade.verified-cascades_end, Does.HasStates}
-use Rattle.written_machine.proofs.PlanSteps.{settled-run, settled-idle, settled-steps, settled-same, settling-within}
+use Rattle.written_machine.proofs.{Cascade.verified-cascades_end, Does.HasStates, Keeps.steps-keep}
+use Rattle.written_machine.proofs.{BallCalm.{IsCalm, no_lag}, BallRuns.{begin-calm, calm-run, step-calm}}
+use Rattle.written_machine.proofs.PlanSteps.{plan_steps-event_steps, settled-run, settled-idle, settled-steps, settled-same, settling-within}
 use Rattle.written_machine.proofs.Alarms.{has_states-run, has_states-initial, complete, not_late-run, not_late-initial}
 
 module _ (plan : PlanView) where
@@ -53,6 +54,24 @@ module _ (c : CheckedView) (accepted : IsAccepted c) (trace : List Line) (s : Ma
   -- on the way there are never more lines and waiting events than the bound
   pub reached-within : (n : ℕ) → length (plan_steps c.plan n (begin c.plan stimulus s)).lines + length (plan_steps c.plan n (begin c.plan stimulus s)).waiting ≤ c.bound
   reached-within n = settling-within c (verified-cascades_end c accepted.valid accepted.verified) reached.stimuli trace s reached.run reached.idle stimulus allowed n
+
+  -- nothing is left out on the way, and fewer than 2^32 balls are known
+  reached-calm : (n : ℕ) → IsCalm c.plan no_lag (plan_steps c.plan n (begin c.plan stimulus s))
+  reached-calm n =
+      let calm = calm-run c.plan accepted.valid accepted.own accepted.bookings reached.stimuli trace s reached.run in
+      let begun = begin-calm c.plan accepted.valid accepted.own accepted.bookings stimulus s allowed calm in
+      let went = plan_steps-event_steps c.plan n (begin c.plan stimulus s) in
+      steps-keep c.plan (λ before. IsCalm c.plan no_lag) (λ before. step-calm c.plan accepted.valid accepted.own accepted.bookings) [] went.0
+      (begin c.plan stimulus s) (plan_steps c.plan n (begin c.plan stimulus s)) went.1 begun
+
+  pub reached-kept : (n : ℕ) → (plan_steps c.plan n (begin c.plan stimulus s)).bookings_left_out ≡ 0
+  reached-kept n = (reached-calm n).kept
+
+  pub reached-heard : (n : ℕ) → (plan_steps c.plan n (begin c.plan stimulus s)).tellings_lost ≡ 0
+  reached-heard n = (reached-calm n).heard
+
+  pub reached-few : (n : ℕ) → (plan_steps c.plan n (begin c.plan stimulus s)).ledger.known < 2 ^ 32
+  reached-few n = let known = (reached-calm n).most in omega (arith, known)
 
   -- any number of event steps after which no event waits gives the same state
   pub reached-same : (n : ℕ) → (plan_steps c.plan n (begin c.plan stimulus s)).waiting ≡ [] → plan_steps c.plan n (begin c.plan stimulus s) ≡ settled c.plan c.bound stimulus s

@@ -12,8 +12,8 @@ use Rattle.device_objects.{specs.DeviceStep.{due_of, first_state}, proofs.Moment
 use Rattle.mode_stack.{specs.Modes.{needs_game, running_of}, proofs.WhoRuns.starting_keeps_who_runs}
 use Rattle.event_queue.specs.Handlers.{takes_part}
 use Rattle.written_machine.{specs.Devices.{HasDevices, ActsAreOwn}, proofs.Inactive.{is_on, stopped-off}}
-use Rattle.written_machine.specs.Machine.{Machine, set_device, has_game, all_do, world_of, device_state, device_at, called, call_device}
-use Rattle.written_machine.specs.Moves.{Move, Wrote, Sent, Switched, Began, Ended, Turned, Asked, Booked, Varied, Stepped, AddedBalls, do_move, MayDo, ordinary}
+use Rattle.written_machine.specs.Machine.{Machine, leave_out, set_device, has_game, all_do, world_of, device_state, device_at, called, call_device}
+use Rattle.written_machine.specs.Moves.{Move, Wrote, Sent, Switched, Began, Ended, Turned, Asked, Booked, Varied, Stepped, AddedBalls, Unheard, do_move, MayDo, ordinary}
 use Rattle.written_machine.proofs.Does.{start-by, stop-by, booked_now, book-by, due-row, has_devices-move}
 use Rattle.written_machine.proofs.Held.{IsHolding, IsNotHolding, asked-count, asked-held}
 
@@ -130,9 +130,10 @@ module _ (plan : PlanView) (valid : IsValid plan) (own : ActsAreOwn plan) (m : M
         let same = starting_keeps_who_runs.stop s.modes k in
         stop-by plan k s (Rests plan m) (running-rests s _ same refl refl h) (running-rests s _ same refl refl h)
     move-rests (Turned call r) s may runs h = turned-rests call r s runs (may own) h
-    move-rests (Booked owner call) s may runs h = book-by owner call s (Rests plan m) (λ is. same-rests s (booked_now owner call s) refl refl refl h) h
+    move-rests (Booked owner call) s may runs h = book-by owner call s (Rests plan m) (λ is. same-rests s (booked_now owner call s) refl refl refl h) (same-rests s (leave_out s) refl refl refl h)
     move-rests (Varied v value) s may runs h = same-rests s (do_move plan (Varied v value) s) refl refl refl h
     move-rests (Stepped which) s may runs h = same-rests s (do_move plan (Stepped which) s) refl refl refl h
     move-rests (AddedBalls n) s may runs h = same-rests s (do_move plan (AddedBalls n) s) refl refl refl h
+    move-rests (Unheard telling) s may runs h = same-rests s (do_move plan (Unheard telling) s) refl refl refl h
     move-rests (Asked owner command) s may runs h = search (rules, asked-count, asked-held)
     move-rests _ s may runs h = absurd may

@@ -119,7 +119,7 @@ module _ (plan : PlanView) (valid : IsValid plan) (m : ModeId) (within : m.0 < l
       book-by owner call s (HoldsIn plan m before front)
       (λ is.
       quiet-holds front owner (lines.Balls (booked call s.ledger) (counts_of (after_call call s.ledger))) (set_ledger (after_call call s.ledger) s) refl runs
-      (record { count = h.count; fine = h.fine; holds = h.holds })) h
+      (record { count = h.count; fine = h.fine; holds = h.holds })) (record { count = h.count; fine = h.fine; holds = h.holds })
 
   -- an event that is none of the mode's is posted
   pub posted-holds : (front : List ModeEvent) (owner : Owner) (e : EventId) (s : Machine) → mine m (work_of plan e) [] ≡ [] → (owner ≡ owners.Mode m → IsRunning m s) → HoldsIn plan m before front s → HoldsIn plan m before front (post owner e s)

@@ -10,7 +10,7 @@
 -- 5. the parts, in the crates below: weights in `cascade_rank`, coils in `coil_guard`, modes in `mode_stack`, devices
 --    in `device_objects`, the ledger in `ball_devices`, the game in `player_game`, switches in `switch_core`, handlers
 --    in `event_queue`.
-use Rattle.std.specs.{Prelude.{◌≡◌, ℕ, ◌+◌, ◌<◌, ◌≤◌, false, true, Some, List, ◌∷◌, length}, List.{All, count_by}}
+use Rattle.std.specs.{Prelude.{◌≡◌, ℕ, ◌+◌, ◌<◌, ◌≤◌, ◌^◌, false, true, Some, List, ◌∷◌, length}, List.{All, count_by}}
 use Rattle.plan_tables.specs.{PlanView.{PlanView, feeders_of, row_at, switch_at}, Valid.IsTargetThere}
 use Rattle.plan_tables.specs.declared.entries.{SwitchId.SwitchId, ModeId.ModeId, CoilId.CoilId}
 use Rattle.plan_tables.specs.declared.entries.Owner.TheVariants as owners
@@ -70,6 +70,13 @@ pub record StoppedModesAreSilent (c : CheckedView) : Type 0 where
 pub record BallsAreAccountedFor (c : CheckedView) : Type 0 where
   -- Each known ball is in a device, on its way, or on the playfield.
   pub somewhere : InEveryRun c.plan (λ stimuli trace s. IsBalanced s.ledger)
+  -- No booking is left out. A ball that enters a device finds fewer than 2^32 balls known, one that leaves a device is
+  -- counted in it, and one that arrives on the playfield was on its way: so the ledger may make each booking that comes.
+  pub kept : InEveryRun c.plan (λ stimuli trace s. s.bookings_left_out ≡ 0)
+  -- At no moment are 2^32 balls known.
+  pub few : InEveryRun c.plan (λ stimuli trace s. s.ledger.known < 2 ^ 32)
+  -- No telling is lost: what a device answers that is told something tells no other device.
+  pub heard : InEveryRun c.plan (λ stimuli trace s. s.tellings_lost ≡ 0)
   -- Each number of the ledger follows from what it has booked.
   pub booked : InEveryRun c.plan (λ stimuli trace s. IsLedgerOf c.plan (bookings trace) s.ledger)
   -- Where each ball came from that entered a device follows from what was booked before.

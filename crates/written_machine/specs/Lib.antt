@@ -18,5 +18,6 @@ pub mod GoodRun
 pub mod FreePosts
 pub mod Accepted
 pub mod AcceptedRuns
+pub mod GuardRuns
 -- what lemmas say of steps: only proofs cite it
 pub mod Moves

@@ -60,9 +60,13 @@ pub record Machine : Type 0 where
   pub waiting : List Posted
   -- the lines since the latest stimulus began
   pub lines : List Line
+  -- how many bookings were left out, as the ledger may not make them, and how many tellings were lost, as they came from
+  -- a device that was told something itself; in runs of accepted plans none (`GoodRun`)
+  pub bookings_left_out : ℕ
+  pub tellings_lost : ℕ
 
 -- At the beginning it is moment 0, all switches are inactive, all modes idle, all devices in their first states, all
--- coils off, no ball is known, there is no game, no mode holds the end of a ball, and nothing waits.
+-- coils off, no ball is known, there is no game, no mode holds the end of a ball, nothing waits, and nothing was left out.
 abbrev pub initial : PlanView → Machine
 initial plan = record {
   moment = 0;
@@ -75,6 +79,8 @@ initial plan = record {
   game = no_game;
   waiting = [];
   lines = [];
+  bookings_left_out = 0;
+  tellings_lost = 0;
 }
 
 -- ---- one change each
@@ -195,13 +201,16 @@ change_variable plan owner v action n e s =
 abbrev pub counts_of : Ledger → BallCounts
 counts_of l = record { known = l.known; counted = all_counted l; transit = all_in_transit l; playfield = l.playfield }
 
--- The ledger books something, and there is a line. Where the ledger may not book it, nothing happens; in runs of accepted
--- plans it always may.
+-- a booking is left out
+abbrev pub leave_out : Machine → Machine
+leave_out s = record s { bookings_left_out = suc s.bookings_left_out }
+
+-- The ledger books something, and there is a line. If the ledger may not book it, that is left out.
 abbrev pub book : Owner → LedgerCall → Machine → Machine
 book owner call s =
     if can_book call s.ledger
     then write owner (lines.Balls (booked call s.ledger) (counts_of (after_call call s.ledger))) (set_ledger (after_call call s.ledger) s)
-    else s
+    else leave_out s
 
 -- `ball_drain` is posted where `drain` holds and the game is in phase Ball
 abbrev pub drain_if : PlanView → Owner → Bool → Machine → Machine
@@ -209,7 +218,7 @@ drain_if plan owner drain s = if drain && is_ball_on s.game.phase then post owne
 
 -- An effect list tells another device in two cases: a ball has entered a device, which the first device that is Away to
 -- it is told; and more balls are wanted, which the first trough is told. In accepted plans what that device answers tells
--- no further one. So lists nest one deep, and nothing here calls itself. `do_action`, `do_list`, `do_answer` and
+-- no further one (`GoodRun`). So lists nest one deep, and nothing here calls itself. `do_action`, `do_list`, `do_answer` and
 -- `call_device` come twice. With `_by` at the end they have an argument `tell`, which tells the other device. Without
 -- it, `tell` is `tell_first`. This calls the other device by `call_device_by`, where `tell` is `tell_nobody`.
 
@@ -290,9 +299,9 @@ is_device_away _ = false
 abbrev pub first_away : PlanView → BallTarget → Machine → Option RowId
 first_away plan target s = find (λ r. is_device_away (device_at s r)) (feeders_of plan target)
 
--- nobody is told: the lists of a device that is told something tell nobody
+-- a telling is lost: the lists of a device that is told something tell nobody
 abbrev pub tell_nobody : Telling → Machine → Machine
-tell_nobody telling s = s
+tell_nobody telling s = record s { tellings_lost = suc s.tellings_lost }
 
 -- Which device is told. Of a ball that has arrived it is the first that is Away to the target. Of balls that are wanted it
 -- is the first trough.

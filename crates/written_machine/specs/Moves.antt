@@ -2,7 +2,7 @@
 use Rattle.std.specs.{Prelude.{◌≡◌, ℕ, ℤ, ◌≤◌, ◌<◌, ◌⊎◌, Option, true, length}, List.list_any}
 use Rattle.plan_tables.specs.PlanView.{PlanView, actions_of, is_enable_of, mode_event, row_at, work_of}
 use Rattle.plan_tables.specs.Valid.{HasEntries, IsValid}
-use Rattle.plan_tables.specs.declared.{entries.ModeEvent.TheVariants.{WillStart, Stopping}, devices.RowId.RowId}
+use Rattle.plan_tables.specs.declared.{entries.ModeEvent.TheVariants.{WillStart, Stopping}, devices.{RowId.RowId, Telling.Telling}}
 use Rattle.plan_tables.specs.declared.entries.{EventId.EventId, SwitchId.SwitchId, ModeId.ModeId, VariableId.VariableId}
 use Rattle.plan_tables.specs.declared.entries.{Owner.Owner, CoilId.CoilId, Work.TheVariants.Game}
 use Rattle.plan_tables.specs.declared.entries.GameEvent.{GameEvent, TheVariants.BallDrain}
@@ -18,7 +18,7 @@ use Rattle.cascade_rank.specs.Cost.{Cost, Lines, Both, price, cost_of_post}
 use Rattle.coil_guard.specs.{declared.command.Command.Command, Limits.IsWithin, Asked.limits_of}
 use Rattle.coil_guard.specs.declared.command.Command.TheVariants as commands
 use Rattle.written_machine.specs.{CoilActions.ActionsKeepLimits, Devices.ActsAreOwn}
-use Rattle.written_machine.specs.Machine.{ask_coil, Machine, write, post, set_switches, set_mode, set_device, set_players, set_game, book, home_of, start_mode, stop_mode, drop_hold, called}
+use Rattle.written_machine.specs.Machine.{ask_coil, Machine, write, post, set_switches, set_mode, set_device, set_players, set_game, book, home_of, start_mode, stop_mode, drop_hold, called, tell_nobody}
 use Rattle.event_queue.specs.Handlers.{takes_part}
 use Rattle.written_machine.specs.Run.{switch, device, Stimulus, SwitchChange, Alarm, Wait}
 
@@ -48,6 +48,8 @@ pub data Move : Type 0 where
   Stepped : (which : GameEvent) → Move
   -- at least so many balls are in play from now on, while a ball is on
   AddedBalls : (balls : ℕ) → Move
+  -- what a device that was told something tells is lost
+  Unheard : (telling : Telling) → Move
 
 -- what an event of the game leads to
 abbrev pub step_now : PlanView → GameEvent → Machine → GameStep
@@ -67,6 +69,7 @@ do_move plan (Booked owner call) s = book owner call s
 do_move plan (Varied v value) s = set_players (after_change plan v value s.players) s
 do_move plan (Stepped which) s = set_players (step_now plan which s).players (set_game (step_now plan which s).game s)
 do_move plan (AddedBalls n) s = set_game (more_balls n s.game) s
+do_move plan (Unheard telling) s = tell_nobody telling s
 
 abbrev pub cost_of_move : PlanView → Move → Cost
 cost_of_move plan (Wrote owner what) = Lines 1
@@ -82,6 +85,7 @@ cost_of_move plan (Booked owner call) = Lines 1
 cost_of_move plan (Varied v value) = Lines 0
 cost_of_move plan (Stepped which) = Lines 0
 cost_of_move plan (AddedBalls n) = Lines 0
+cost_of_move plan (Unheard telling) = Lines 0
 
 -- the line is not that of an event: those come only as events are taken
 abbrev pub IsNoEvent : Happening → Type 0
@@ -143,6 +147,7 @@ MayDo plan l (Booked owner call) = ActsAreOwn plan → l.by owner
 MayDo plan l (Varied v value) = Unit {0}
 MayDo plan l (Stepped which) = Unit {0}
 MayDo plan l (AddedBalls n) = Unit {0}
+MayDo plan l (Unheard telling) = Unit {0}
 
 -- Where nothing in a valid plan posts an event at which the machine itself does something, but the start button's, this
 -- is none either, or it is that of a ball that drains.
@@ -156,9 +161,13 @@ pub data Does (plan : PlanView) (may : Move → Type 0) : Cost → Machine → M
   both : {a b : Cost} {s m t : Machine} → Does plan may a s m → Does plan may b m t → Does plan may (Both a b) s t
   less : {a b : Cost} {s t : Machine} → Does plan may a s t → ((w : EventId → ℕ) → price w a ≤ price w b) → Does plan may b s t
 
--- lines and waiting events only grow
-abbrev pub Grows : Machine → Machine → Type 0
-Grows s t = (length s.lines ≤ length t.lines) × (length s.waiting ≤ length t.waiting)
+-- lines, waiting events, known balls and what was left out only grow
+pub record Grows (s t : Machine) : Type 0 where
+  pub lines : length s.lines ≤ length t.lines
+  pub waiting : length s.waiting ≤ length t.waiting
+  pub known : s.ledger.known ≤ t.ledger.known
+  pub bookings : s.bookings_left_out ≤ t.bookings_left_out
+  pub tellings : s.tellings_lost ≤ t.tellings_lost
 
 -- ---- licences
 

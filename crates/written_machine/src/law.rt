@@ -1,7 +1,8 @@
-//! What holds of every run of what is accepted, and of alarms.
+//! What holds of every run of what is accepted, of the guard of the coils, and of alarms.
 
 ghost use Rattle.written_machine.specs.AcceptedRuns.{AcceptedIsGood};
 ghost use Rattle.written_machine.specs.Devices.{DevicesKeepTheirShape};
+ghost use Rattle.written_machine.specs.GuardRuns.{GuardsFollowCommands};
 ghost use Rattle.written_machine.specs.AlarmsEnd.{StimuliArmLater, AlarmsAreDone, AlarmsEnd};
 
 /// The law of what is accepted, for every plan, weights and bound: if they are accepted
@@ -17,6 +18,16 @@ ghost use Rattle.written_machine.specs.AlarmsEnd.{StimuliArmLater, AlarmsAreDone
 /// It does nothing: its contract is the law, over all runs of the written machine.
 pub fn accepted_is_good()
     ensures { AcceptedIsGood }
+{}
+
+/// The law of the guard of the coils, for every valid plan in which no action asks for more than its
+/// coil may: in every run, what the guard remembers of a coil follows from the commands that were
+/// sent. So the coils that are on by these commands are the ones that the guard says are on. What a
+/// rig puts off when it is shut down rests on this.
+///
+/// It does nothing: its contract is the law, over all runs of the written machine.
+pub fn guards_follow_commands()
+    ensures { GuardsFollowCommands }
 {}
 
 /// The law of alarms, for every valid plan. A stimulus and its event steps arm nothing for its own

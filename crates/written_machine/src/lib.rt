@@ -9,5 +9,5 @@
 pub mod law;
 pub mod line;
 
-pub use law::{accepted_is_good, alarms_end};
+pub use law::{accepted_is_good, alarms_end, guards_follow_commands};
 pub use line::{Happening, Line};

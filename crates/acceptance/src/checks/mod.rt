@@ -7,6 +7,7 @@ mod cascades;
 mod certificates;
 mod coils;
 mod devices;
+mod errors;
 mod failures;
 mod games;
 mod hostile;

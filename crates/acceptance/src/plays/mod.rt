@@ -2,14 +2,7 @@
 //! beside a plain model.
 
 mod ball_games;
-mod balls;
-mod coils;
-mod devices;
 mod failures;
-mod games;
 mod machine;
-mod modes;
 mod row;
-mod shots;
-mod switches;
-mod three_machines;
+mod tables;

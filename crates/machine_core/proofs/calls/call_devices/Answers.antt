@@ -4,7 +4,7 @@ use Rattle.plan_tables.specs.{PlanView.{PlanView, rows_of}, declared.devices.Row
 use Rattle.plan_tables.specs.declared.entries.Owner.TheVariants as owners
 use Rattle.written_machine.specs.Machine.{Machine, call_device, call_devices}
 use Rattle.machine_core.specs.Core.{after}
-use Rattle.machine_core.proofs.{Room.{room-first, all_do-first}, Going.goes-call, Listing.{grown, call-calls}}
+use Rattle.machine_core.proofs.{Room.{room-first, all_do-first}, Going.goes-call, Listing.call-calls}
 use Rattle.machine_core.proofs.calls.call_devices.Goals as goal
 
 none : RowId
@@ -24,7 +24,7 @@ call_device-requires-clause-room g c =
     let rows = c.rows_of_mode-rows.result.now in
     let is : rows ≡ rows_of plan owner = c.rows_of_mode-rows.ensures.rows ∙ ap (λ (p : PlanView). rows_of p owner) c.plan.ensures in
     let first : drop i (rows_of plan owner) ≡ get_or rows i none ∷ drop (i + 1) (rows_of plan owner) = subst (λ (rs : List RowId). drop i rs ≡ get_or rows i none ∷ drop (i + 1) rs) is (drop_more rows i none c.loop-row-test.true) in
-    room-first (λ (p : PlanView). call_device p call) (λ (p : PlanView) (r : RowId) (s : Machine). grown p s (call_device p call r s) (goes-call p call r s)) c.loop-row.core (after (call_devices plan call c.args.mode) c.args.core.now)
+    room-first (λ (p : PlanView). call_device p call) (λ (p : PlanView) (r : RowId) (s : Machine). (goes-call p call r s).grows) c.loop-row.core (after (call_devices plan call c.args.mode) c.args.core.now)
     (get_or rows i none) (drop (i + 1) (rows_of plan owner)) (drop i (rows_of plan owner)) first c.loop-row.invariant.0 c.requires.room
 
 pub loop-row-preserved : goal.loop-row-preserved

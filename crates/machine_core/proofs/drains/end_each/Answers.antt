@@ -5,7 +5,7 @@ use Rattle.device_objects.specs.declared.device.Call.TheVariants as calls
 use Rattle.written_machine.specs.Machine.{Machine, all_do, call_device}
 use Rattle.machine_core.{specs.Core.{CoreView, CanCall, after}, proofs.Draining.{multiplies, multiballs_from}}
 use Rattle.machine_core.proofs.{Room.{room-first, all_do-first}, Going.goes-call}
-use Rattle.machine_core.proofs.Listing.{grown, call-calls, row-first, row-other, rows-end}
+use Rattle.machine_core.proofs.Listing.{call-calls, row-first, row-other, rows-end}
 use Rattle.machine_core.proofs.drains.end_each.Goals as goal
 use Rattle.machine_core.proofs.drains.end_each.Goals.{then-is_multiball, else-is_multiball}
 
@@ -24,7 +24,7 @@ call_device-requires-clause-room g c =
     let there : i < length plan.rows = omega (arith, same, c.loop-number-test.true, ap (λ rows. length rows) c.rows-number-end.ensures.rows) in
     let row_is : c.row.result ≡ row_at plan (record { 0 = i }) = c.row.ensures.row ∙ ap (λ (p : PlanView). row_at p (record { 0 = i })) c.plan-plan.ensures in
     let meant : multiplies plan (record { 0 = i }) ≡ true = ap (λ (row : DeviceRow). is_multiball row.settings) (sym row_is) ∙ sym c.is_multiball.ensures ∙ c.if-is_multiball.true in
-    room-first (λ (p : PlanView). call_device p call) (λ (p : PlanView) (r : RowId) (s : Machine). grown p s (call_device p call r s) (goes-call p call r s)) c.loop-number.core
+    room-first (λ (p : PlanView). call_device p call) (λ (p : PlanView) (r : RowId) (s : Machine). (goes-call p call r s).grows) c.loop-number.core
     (after (all_do (call_device plan call) (multiball_rows plan)) c.args.core.now)
     (record { 0 = i }) (multiballs_from plan (i + 1)) (multiballs_from plan i) (row-first plan (multiplies plan) i there meant) c.loop-number.invariant.0 c.requires.room
 

@@ -2,7 +2,7 @@ use Rattle.std.proofs.{Common.{rules, ◌+◌, drop, get_or, sym, subst}, lemmas
 use Rattle.plan_tables.specs.{PlanView.PlanView, declared.entries.Action.{Action, TheVariants.Post}}
 use Rattle.written_machine.specs.Machine.{Machine, all_do, do_action_by}
 use Rattle.machine_core.specs.Core.{CanCall, after}
-use Rattle.machine_core.proofs.{Going.{goes-can, goes-action_by}, Listing.grown, Room.{room-first, all_do-first}}
+use Rattle.machine_core.proofs.{Going.{goes-can, goes-action_by}, Room.{room-first, all_do-first}}
 use Rattle.machine_core.proofs.lists.actions_by.Goals as goal
 
 none : Action
@@ -19,7 +19,7 @@ run_by-requires-clause-room g c =
     let actions = c.args.actions.now in
     let i = c.loop-action.action-index in
     let run = λ (p : PlanView) (a : Action). do_action_by p (g.T.Tells.tell p) owner a in
-    room-first run (λ (p : PlanView) (a : Action) (s : Machine). grown p s (run p a s) (goes-action_by p (g.T.Tells.tell p) (c.requires.goes p) owner a s)) c.loop-action.core (after (all_do (do_action_by c.args.core.now.plan (g.T.Tells.tell c.args.core.now.plan) owner) actions) c.args.core.now)
+    room-first run (λ (p : PlanView) (a : Action) (s : Machine). (goes-action_by p (g.T.Tells.tell p) (c.requires.goes p) owner a s).grows) c.loop-action.core (after (all_do (do_action_by c.args.core.now.plan (g.T.Tells.tell c.args.core.now.plan) owner) actions) c.args.core.now)
     (get_or actions i none) (drop (i + 1) actions) (drop i actions) (drop_more actions i none c.loop-action-test.true) c.loop-action.invariant.0 c.requires.room
 
 pub loop-action-preserved : goal.loop-action-preserved

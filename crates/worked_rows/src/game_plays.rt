@@ -1,8 +1,6 @@
 //! Games, players, their variables, and conditions: logs that are played.
 
-use crate::plays::row::assert_rows;
-
-const PLAYS: &str = "
+pub const GAME_PLAYS: &str = "
 === score condition
 --- play
 @ config/config.yaml
@@ -514,8 +512,3 @@ counters:
 50 machine event logicblock_c_hit
 50 machine event logicblock_c_complete
 ";
-
-#[test]
-fn games_are_played(rt: HostRuntime) {
-    assert_rows(&rt, PLAYS);
-}

@@ -1,8 +1,6 @@
 //! Modes: logs that are played.
 
-use crate::plays::row::assert_rows;
-
-const PLAYS: &str = "
+pub const MODE_PLAYS: &str = "
 === priority order play
 The mode of higher priority comes first, though it is listed last.
 --- play
@@ -731,8 +729,3 @@ event_player: {s_x_active: from_m}
 10 machine event s_x_active
 10 machine event from_machine
 ";
-
-#[test]
-fn modes_are_played(rt: HostRuntime) {
-    assert_rows(&rt, PLAYS);
-}

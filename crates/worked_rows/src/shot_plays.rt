@@ -1,8 +1,6 @@
 //! Shots, groups and profiles: logs that are played.
 
-use crate::plays::row::assert_rows;
-
-const PLAYS: &str = "
+pub const SHOT_PLAYS: &str = "
 === shot and group in game
 --- play
 @ config/config.yaml
@@ -797,8 +795,3 @@ shots:
 50 machine event a_default_lit_hit
 50 machine event a_lit_hit
 ";
-
-#[test]
-fn shots_are_played(rt: HostRuntime) {
-    assert_rows(&rt, PLAYS);
-}

@@ -1,8 +1,6 @@
 //! Switches, and events that feed each other: logs that are played.
 
-use crate::plays::row::assert_rows;
-
-const ROWS: &str = "
+pub const SWITCH_PLAYS: &str = "
 === one switch play
 --- play
 (one switch)
@@ -194,8 +192,3 @@ event_player:
 7 machine event d
 7 machine event d
 ";
-
-#[test]
-fn logs_are_played(rt: HostRuntime) {
-    assert_rows(&rt, ROWS);
-}

@@ -1,8 +1,6 @@
 //! Logic blocks and timers: logs that are played.
 
-use crate::plays::row::assert_rows;
-
-const BLOCKS: &str = "
+pub const BLOCK_PLAYS: &str = "
 === counter play
 It completes at its second hit, and is disabled then.
 --- play
@@ -279,7 +277,7 @@ counters:
 0 machine event s_active
 ";
 
-const TIMERS: &str = "
+pub const TIMER_PLAYS: &str = "
 === mode stop ends timer
 At 2000 the tick comes before the line, and then the mode stops: nothing of it is due any more.
 --- play
@@ -467,9 +465,3 @@ timers:
 5000 machine event s_more_inactive
 5000 m event timer_t_stopped
 ";
-
-#[test]
-fn devices_are_played(rt: HostRuntime) {
-    assert_rows(&rt, BLOCKS);
-    assert_rows(&rt, TIMERS);
-}
