@@ -9,7 +9,7 @@ from .bundle import Config, ConfigFault, read_bundle
 from .certificate import Certificate
 from .costs import Costs, Weights
 from .faults import Faults
-from .machine import Machine
+from .machine import MOST_LINES, Machine
 from .plan import Plan
 
 Answer = tuple[bytes, int]
@@ -90,10 +90,14 @@ class Judged:
         wrong = [switch for switch, said in zip(right.switches, given.switches) if switch != said]
         return f"10 Certificate Switch {wrong[0][0]} {wrong[0][1]}" if wrong else None
 
-    def play(self, log: bytes, seen: Counter[str] | None = None) -> Answer:
+    def answer(self, command: str, file: bytes) -> Answer:
+        """What a command prints, with the certificate or the log that it reads."""
+        return self.check() if command == "check" else self.verify(file) if command == "verify" else self.play(file)
+
+    def play(self, log: bytes, seen: Counter[str] | None = None, most_lines: int = MOST_LINES) -> Answer:
         if not self.is_accepted:
             return self.check()
-        machine = Machine(self.plan)
+        machine = Machine(self.plan, most_lines)
         all_run = machine.log(log)
         if seen is not None:
             seen.update(machine.seen)

@@ -220,10 +220,10 @@ def given(machine: Machine, weights: Weights) -> Given:
     stated = draw.choice([weights, changed, changed, changed])
     switches = {switch: min(cost, GREATEST) for switch, cost in machine.switch_costs(stated).items()}
     found = Given(draw.choice([1, 2, 2]), min(machine.bound(stated), GREATEST), switches, changed)
-    what = draw.choice(["bound", "switch", "switch", "", ""])
-    if what == "bound":
+    wrong = draw.choice([["bound"], ["switch"], ["switch"], ["bound", "switch"], [], []])
+    if "bound" in wrong:
         found.bound ^= 1
-    elif what == "switch" and found.switches:
+    if "switch" in wrong and found.switches:
         found.switches[draw.choice([*found.switches])] ^= 1
     return found
 

@@ -8,7 +8,7 @@ from collections import Counter
 from dataclasses import dataclass, field
 from pathlib import Path
 
-from . import cascades, damage, draw, logs, odd, plant, wanted
+from . import cascades, damage, draw, edges, greatest, logs, odd, once, plant, wanted
 from .answers import Answer, Judged, judge
 from .bundle import MACHINE_TEXT, VERSION, ConfigFault, joined, split_bundle
 from .costs import Costs, Weights
@@ -19,6 +19,10 @@ from .yaml_text import read
 
 SECONDS, MOST_SECONDS = 2.0, 60.0  # of the processor for an answer, and by the clock
 MOST_LINES = 200  # of an answer, in a report
+CASCADES, EDGES = 4, 3  # small machines for each other machine
+MACHINES_FOR_WANTED = 50  # for so many machines there is a trough that is asked for many balls
+DAMAGED, ODD = 3, 4  # damaged certificates, and texts of parts of YAML, for each machine
+GREATEST_LINES = 4_000_000  # of a play that comes to the greatest values
 VERSION_1 = b"pinball-certificate 1\n"
 SECTIONS = {*SETTINGS, *PLAYERS}
 OF_SAVES = {"active_time", "balls_to_save", "ball_count"}  # settings
@@ -169,6 +173,16 @@ class Comparison:
     def count(self, *what: str) -> None:
         self.found.counts.update(what)
 
+    def drawn(self, seed: str, number: int) -> None:
+        """Compares the machine of this number, and what is drawn with it."""
+        self.machine(f"{seed}/{number}")
+        for part in range(EDGES):
+            self.edges(f"{seed}/{number}/edges/{part}")
+        if number % MACHINES_FOR_WANTED == 0:
+            self.wanted(f"{seed}/{number}/wanted")
+        for part in range(CASCADES):
+            self.cascade(f"{seed}/{number}/{part}")
+
     # One machine
 
     def machine(self, seed: str) -> None:
@@ -188,7 +202,7 @@ class Comparison:
         certified = b""
         if judged.plan:
             certified = right_certificate(drawing, judged)
-            self.verified(judged, certified, damage.certificate(drawing, certified))
+            self.verified(judged, certified, *(damage.certificate(drawing, certified) for _ in range(DAMAGED)))
         elif drawing.random() < 0.2:
             self.compare("verify", bundle, b"?", judged.check())
             self.count("verify: refused")
@@ -201,6 +215,9 @@ class Comparison:
             self.checked(judge(f"@ {MACHINE_TEXT}\n{VERSION}\n{drawing.choice(odd.TEXTS)}".encode()))
         if drawing.random() < 0.5:
             self.checked(judge(f"@ {MACHINE_TEXT}\n{VERSION}\n{drawing.choice(odd.SAVE_TEXTS)}".encode()))
+        for _ in range(ODD):
+            text = f"@ {MACHINE_TEXT}\n{VERSION}\n{odd.drawn(drawing)}".encode()
+            self.compare("check", text, b"", judge(text).check())
         self.count("machines")
 
     def checked(self, judged: Judged) -> None:
@@ -288,6 +305,32 @@ class Comparison:
         judged, seen = judge(bundle), Counter()
         self.compare("play", bundle, log, judged.play(log, seen))
         self.count("many balls wanted", *seen)
+
+    def edges(self, seed: str) -> None:
+        """A machine whose log comes close to the moments at which a rule changes."""
+        self.seed = seed
+        bundle, log = edges.drawn(random.Random(seed))
+        self.compare("play", bundle, log, judge(bundle).play(log))
+        self.count("moments at an edge")
+
+    def once(self) -> None:
+        """The texts that are compared once in each run."""
+        small = judge(once.machine(once.SMALL))
+        for number, (command, bundle, file) in enumerate(once.questions(small.certificate().encode())):
+            self.seed = f"once/{number}"
+            judged = small if bundle == small.bundle else judge(bundle)
+            self.compare(command, bundle, file, judged.answer(command, file))
+            self.count("once")
+
+    def greatest(self) -> None:
+        """A machine in which values come to their limits. Its long answer is not looked at as the others are."""
+        self.seed, slowest = "greatest", self.found.slowest
+        bundle, log = greatest.drawn()
+        wanted, got = judge(bundle).play(log, most_lines=GREATEST_LINES), self.ask("play", bundle, log)
+        if got != wanted:
+            self.differ("play", bundle, log, wanted, got, "another answer")
+        self.found.slowest = slowest
+        self.count("greatest values")
 
     def cascade(self, seed: str) -> None:
         """A machine of long cascades, by the model that knows these alone."""

@@ -1,8 +1,7 @@
 """How often each thing has to come up in a comparison."""
 from . import cascades
-from .compare import Found
+from .compare import CASCADES, Found
 
-CASCADES = 4  # machines of cascades for each other machine
 # About how often things come up with 100 machines. They are too rare where they come up less than a fifth of that.
 SHARES: dict[float, str] = {
     100: """check: yes | check: no | play | damaged bundle | line: event | line: switch active | line: switch inactive

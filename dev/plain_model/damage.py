@@ -73,7 +73,7 @@ def damaged(draw: random.Random, data: bytes) -> bytes:
 def certificate(draw: random.Random, text: bytes) -> bytes:
     """A certificate with other numbers, other lines of switches, another version, or another damage."""
     lines = text.decode().splitlines()
-    kind = draw.randrange(12)
+    kind = draw.randrange(14)
     if kind == 0 or kind < 5 and len(lines) < 3:
         return damaged(draw, text)
     at = draw.randrange(1, len(lines)) if kind > 2 else draw.randrange(2, len(lines))
@@ -96,13 +96,18 @@ def certificate(draw: random.Random, text: bytes) -> bytes:
         lines = ["pinball-certificate 1", *(line for line in lines[1:] if not line.startswith("switch "))]
         if draw.random() < 0.3:
             return damaged(draw, "".join(f"{line}\n" for line in lines).encode())
+    elif kind == 12:  # nothing but the end of the last line
+        return text[:-1]
+    elif kind == 13:  # the bound, and all numbers of switches
+        is_wrong = [line.startswith(("bound ", "switch ")) for line in lines]
+        lines = [re.sub("[0-9]+$", "7", line) if wrong else line for line, wrong in zip(lines, is_wrong)]
     else:
         damage_switches(draw, lines)
     return "".join(f"{line}\n" for line in lines).encode()
 
 
 def another(draw: random.Random, number: str) -> str:
-    return str(max(0, int(number) + draw.choice([-1, 1, 1, 5, -2, 90_000])))
+    return str(max(0, int(number) + draw.choice([-1, 1, 1, 5, -2, 90_000, 200_000])))
 
 
 def damage_switches(draw: random.Random, lines: list[str]) -> None:

@@ -285,8 +285,10 @@ class Timer(Device):
         if act[0] in ("reset", "restart"):
             self.value = self.entry["start_value"]
             return self.run(now) if act[0] == "restart" else []
-        moved = {"add": self.value + act[1], "subtract": self.value - act[1], "jump": act[1]}
-        self.value = clamped(moved[act[0]])
+        if act[0] == "jump":
+            self.value = act[1]
+        else:
+            self.value = clamped(self.value + (act[1] if act[0] == "add" else -act[1]))
         return self.completes(now) if running and self.at_end(self.value) else []
 
     def outcomes(self, act: Act) -> list[list[int]]:

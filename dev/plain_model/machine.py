@@ -1,4 +1,5 @@
 """The run of a log: the written machine, a stimulus after the other."""
+import operator
 import re
 from collections import Counter
 from copy import copy
@@ -10,9 +11,8 @@ from .values import Condition
 
 LAST_MOMENT = (1 << 40) - 1
 LOG_LINE = re.compile(rb"([0-9]{1,20})(?:[ \t]+([^ \t]+)[ \t]+([01]))?")
-SIGNS = {"==": "__eq__", "!=": "__ne__", "<": "__lt__", "<=": "__le__", ">": "__gt__", ">=": "__ge__"}
-
-
+SIGNS = {"==": operator.eq, "!=": operator.ne, "<": operator.lt, "<=": operator.le, ">": operator.gt, ">=": operator.ge}
+OF_BALLS_IN_PLAY = (BallSave, Multiball)
 MOST_LINES = 20_000
 
 
@@ -37,10 +37,11 @@ class Accepted:
 
 
 class Machine:
-    """The state of a run, and the lines that it has printed. `seen` counts what came up."""
+    """The state of a run, and the lines that it has printed, which are not to be more than `most_lines`. `seen` counts
+    what came up."""
 
-    def __init__(self, plan: Plan):
-        self.plan, self.now = plan, 0
+    def __init__(self, plan: Plan, most_lines: int = MOST_LINES):
+        self.plan, self.now, self.most_lines = plan, 0, most_lines
         self.rows = [row.fresh() for row in plan.rows]
         self.row_of = {id(before): after for before, after in zip(plan.rows, self.rows)}
         self.coils = {name: copy(plan.coils[name]) for name in plan.tables["coils"]}
@@ -69,7 +70,7 @@ class Machine:
 
     def print(self, owner: str, what: str) -> None:
         self.lines.append(f"{self.now} {owner} {what}")
-        if len(self.lines) > MOST_LINES:
+        if len(self.lines) > self.most_lines:
             raise TooLong
 
     def post(self, owner: str, *events: str) -> None:
@@ -206,12 +207,13 @@ class Machine:
         if not self.current:
             return False
         value = self.players[self.current - 1].get(condition.variable)
-        return getattr(value, SIGNS[condition.sign])(condition.number)
+        return SIGNS[condition.sign](value, condition.number)
 
     def handle(self, binding: Binding) -> None:
+        holds = self.holds(binding.condition)
         if binding.condition:
-            self.seen["condition true" if self.holds(binding.condition) else "condition false"] += 1
-        if not self.holds(binding.condition):
+            self.seen["condition true" if holds else "condition false"] += 1
+        if not holds:
             return
         kind, *what = binding.target
         if kind == "post":
@@ -231,7 +233,7 @@ class Machine:
 
     def act(self, row: Device, act: Act) -> None:
         """What a handled event does with a device."""
-        if isinstance(row, BallSave | Multiball):
+        if isinstance(row, OF_BALLS_IN_PLAY):
             where = "" if self.in_play or isinstance(row, BallSave) else ", without a ball"
             self.seen[f"{row.kind}, {act[0]} while {'active' if row.active else 'not active'}{where}"] += 1
         self.run_lists(row, row.act(act, self.now, self.world))
@@ -276,7 +278,7 @@ class Machine:
         elif what == "stopping":
             for row in self.rows:
                 if row.owner == mode:
-                    self.see({f"a mode ends a {row.kind}": isinstance(row, BallSave | Multiball) and row.active})
+                    self.see({f"a mode ends a {row.kind}": isinstance(row, OF_BALLS_IN_PLAY) and row.active})
                     row.stop()
             for coil in self.coils.values():
                 if coil.holder == mode:
@@ -475,7 +477,7 @@ AFTER = {
 
 def kind_of(row: Device) -> str:
     """The kind of a device, and of a ball save or a multiball whether a mode has it."""
-    of_mode = isinstance(row, BallSave | Multiball) and row.owner != "machine"
+    of_mode = isinstance(row, OF_BALLS_IN_PLAY) and row.owner != "machine"
     return f"{row.kind} of a mode" if of_mode else row.kind
 
 

@@ -1,4 +1,5 @@
 """Odd values and odd texts, for what random damage seldom makes."""
+import random
 
 VALUES: list[str] = [
     "0", "1", "01", "-1", "-0", "+1", "1ms", "1s", "1m", "1h", "1d", "1.5s", "1.0005s", "1.001s", "0.001s", "0.0001s",
@@ -47,6 +48,9 @@ TEXTS: list[str] = [
     "- a\nb", "- a\n-b", "a:\n- b\nc", "a:\n- b\n-c", "a:\n  - b\n  c: d", "a:\n  b: c\n  - d", "a:\n  b\n  - c",
     "'': a", '\'\': a\n"": b', "a:\n\n\n", "a: ''", "a: 'it''s'", "a: 'it' 's'", 'a: "it""s"', "a: ''''", "a: '''",
     "- 'a': b", "- 'a' : b", "- 'a':b", "- 'a' b", "-'a'", "- a:b", "- a: b: c", "- a: [b]: c",
+    "-\t: b", "-\t:", "-\t? a: b", "-\t- a: b", "-\t'a': b", "k: {a b: #a, \x7f", "k: {a: #\x7f", "[a, #\x7f",
+    "[a #\x7f", "k: 'a\x7f", "k: {'a\x7f", "a: \x7f\n\tb: c", "\ta: \x7f",
+    "a: b\na: \x7f", "a: {b: c, b: \x7f", "a: [b]\x7f",
 ]
 
 
@@ -59,6 +63,17 @@ SAVE_TEXTS: list[str] = [
     "ball_saves: {playfield: {}}", "multiballs: {playfield: {ball_count: 2}}", "ball_saves: {bs: {start_events: a}}",
     "multiballs: {mb: {ball_count: 2, enable_events: a}}", "multiballs: {mb: {ball_count: 2, start_events: [a, b]}}",
 ]
+
+
+# What drawn texts are made of: common parts, and rare ones.
+COMMON = ["a", "b", "a: ", "b: ", "k: {", ": ", ":", " ", "  ", "\n", "\n  ", "\n    ", "\n- ", "- ", "-", "\t"]
+COMMON += ["[", "]", "{", "}", ", ", ",", "'", '"', "''", '"a"', "'b'", "#", " #"]
+RARE = ["\\", "\\n", "? ", "?", "&", "|", "---", "\n...\n", "\x7f", "\r", "\r\n", "ä", "\u0085", "\u2028", "%", "*"]
+
+
+def drawn(draw: random.Random) -> str:
+    """A text of parts of YAML in any order."""
+    return "".join(draw.choice(COMMON if draw.random() < 0.95 else RARE) for _ in range(draw.randint(1, 14)))
 
 
 def nested(depth: int) -> list[str]:

@@ -166,7 +166,9 @@ class Words:
                 self.fault("NotInSubset" if self.at_colon() else "Flow")
 
     def flow_value(self, depth: int, ends: str) -> Node:
-        if self.nothing_more() or self.here(",]}"):
+        if self.nothing_more():
+            self.fault("Flow", len(self.text))
+        if self.here(",]}"):
             self.fault("Flow")
         return self.flow(depth + 1) if self.here("[{") else self.flow_scalar(ends)
 
@@ -216,8 +218,10 @@ def is_entry(line: Line) -> bool:
         while at < len(text) and text[at] in BLANKS:
             at += 1
         return at < len(text) and text[at] == ":" and blank_or_end(text, at + 1)
+    if text[at] in NO_PLAIN_START or text[at] in "-?:" and blank_or_end(text, at + 1):
+        return False
     end = BLOCK_END.search(text, at)
-    return text[at] not in NO_PLAIN_START and end is not None and end[0] == ":"
+    return end is not None and end[0] == ":"
 
 
 class Blocks:

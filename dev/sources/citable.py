@@ -3,6 +3,7 @@
 That is the declarations and contracts of the code below, and the definitions of specs/, that are within reach by name:
 from the crate's own text, and from one of them to the next. Bodies of functions below are not within reach, nor are
 private fields, and what a model says of its fields. Code has to be laid out as by `rt fmt`."""
+import hashlib
 import re
 from collections.abc import Iterable, Set
 from functools import cache
@@ -275,3 +276,18 @@ def basis_of(crate: str) -> tuple[tuple[str, ...], ...]:
         named, reached = more, further
         words |= {word for it in reached for word in words_of(text_of(it))}
     return (*sorted(named), *sorted((*it, text_of(it)) for it in reached if it.crate != crate))
+
+
+@cache
+def sum_of_crate(crate: str) -> str:
+    """A checksum of src/ and specs/ of a crate, without lines that are comments, and of what is below it.
+
+    How imports share lines makes no difference."""
+    folder, total = TOP / "crates" / crate, hashlib.sha256(repr(basis_of(crate)).encode())
+    for file in sorted([*folder.glob("src/**/*.rt"), *folder.glob("specs/**/*.antt")]):
+        text = file.read_text()
+        imports = sorted((use.marks, *it[2:]) for use in antt_imports.uses_in(text) for it in use.imports)
+        rest = [it for it in antt_imports.without_imports(text).splitlines()
+                if it and not it.lstrip().startswith(("//", "--"))]
+        total.update(repr((str(file.relative_to(folder)), imports, rest)).encode())
+    return total.hexdigest()

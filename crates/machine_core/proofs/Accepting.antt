@@ -7,9 +7,8 @@ use Rattle.device_objects.specs.declared.device.Call.TheVariants as calls
 use Rattle.switch_core.specs.declared.change.Change.{Change}
 use Rattle.written_machine.specs.declared.line.Happening.TheVariants as lines
 use Rattle.written_machine.specs.Machine.{Machine, write, post, all_do, tell_listener, tell_listeners, confirm_on_playfield, do_accepted}
-use Rattle.machine_core.specs.{Core.{CoreView, CanCall, IsSound, after}, Goes.Goes}
+use Rattle.machine_core.{specs.{Core.{CoreView, CanCall, IsSound, after}, Goes.Goes}, proofs.Room.room-before}
 use Rattle.machine_core.proofs.Going.{goes-then, goes-can, goes-all, goes-post, goes-write, goes-call, goes-playfield}
-use Rattle.machine_core.proofs.Room.{room-before}
 
 module _ (a : Change) (now : CoreView) (room : IsSound now.room (do_accepted now.plan a now.machine)) where
   abbrev plan : PlanView
@@ -40,7 +39,7 @@ module _ (a : Change) (now : CoreView) (room : IsSound now.room (do_accepted now
   pub line-room : length now.machine.lines < now.room
   line-room =
       let s = now.machine in
-      let more = (goes-told begun).lines in
+      let more = (goes-told begun).grows.lines in
       let fits = told-fits.lines in
       omega (arith, length-append s.lines (record { moment = s.moment; owner = owners.Machine; happening = lines.Switch a.switch a.active } ∷ []))
 

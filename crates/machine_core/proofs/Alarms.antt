@@ -63,7 +63,8 @@ module _ (core : CoreView) (source : Source) (next : option_map (λ a. a.1) (nex
   fired-is = ap (λ x. fire core.plan x core.machine) source_is ∙ (λ i. do_accepted core.plan (sym acceptance-is i) (set_switches (sym accepted-is i) core.machine))
 
   pub fired-room : IsSound core.room (fire core.plan source core.machine) → IsSound now.room (do_accepted now.plan a now.machine)
-  fired-room room = search (rules, fired-is)
+  fired-room room =
+      subst (λ (c : CoreView). IsSound c.room (do_accepted c.plan a c.machine)) (sym now_is) (subst (IsSound core.room) fired-is room)
 
   pub fired-done : (last : CoreView) → last ≡ after (do_accepted now.plan a) now → last ≡ after (fire core.plan source) core
   fired-done last last_is = last_is ∙ ap (λ (c : CoreView). after (do_accepted c.plan a) c) now_is ∙ ap (λ (s : Machine). after (λ t. s) core) (sym fired-is)

@@ -1,5 +1,5 @@
 -- What is kept while actions are done, devices are called, and other devices are told.
-use Rattle.std.proofs.Common.{rules, ℕ, ℤ, Bool, if◌then◌else◌, Option, None, Some, List, [], ◌∷◌, length-append, refl, ◌∙◌}
+use Rattle.std.proofs.Common.{rules, ℕ, ℤ, Bool, if◌then◌else◌, Option, None, Some, List, [], ◌∷◌, length-append, refl, ◌∙◌, arith}
 use Rattle.plan_tables.specs.PlanView.{PlanView, act_told, actions_at, list_of_row, row_at, target_of}
 use Rattle.plan_tables.specs.declared.entries.{Action.Action, EventId.EventId, Owner.Owner, VariableId.VariableId}
 use Rattle.plan_tables.specs.declared.entries.Action.TheVariants.{Post, Pulse, Enable, Disable, Change as ChangeVariable, Enter, Leave, Lose, Arrive, Request, AddBalls}
@@ -14,10 +14,11 @@ use Rattle.device_objects.specs.declared.device.Call.{Call}
 use Rattle.device_objects.specs.declared.device.Call.TheVariants as calls
 use Rattle.player_game.specs.Players.{PlayersState}
 use Rattle.switch_core.specs.declared.change.Change.{Change}
-use Rattle.written_machine.specs.{declared.line.Happening.Happening, Moves.{Booked, Turned, Unheard, Does, moved, Grows}}
+use Rattle.written_machine.specs.declared.line.Happening.{Happening}
+use Rattle.written_machine.specs.Moves.{Booked, Turned, Unheard, Does, moved, Grows}
 use Rattle.written_machine.specs.Machine.{Machine, write, post, set_device, set_players, all_do, ask_coil, tell_change, book, drain_if, after_entry, enter_ball, add_balls, do_action_by, do_list_by, do_answer_by, called, call_device_by, tell_nobody, told_device, tell_device, tell_first, call_device, ask_ball, end_multiballs, confirm_on_playfield}
-use Rattle.written_machine.proofs.{Does.{book-by, grows-does, has_devices-does, none-grows, then-grows}, Held.asked-count}
-use Rattle.written_machine.proofs.Growth.{post-grows, asked-grows, told-grows}
+use Rattle.written_machine.proofs.Does.{book-by, grows-does, has_devices-does, none-grows, then-grows}
+use Rattle.written_machine.proofs.{Held.asked-count, Growth.{post-grows, asked-grows, told-grows}}
 use Rattle.machine_core.specs.{Core.{CoreView, CanCall, after}, Goes.Goes}
 
 -- devices can be called as before
@@ -50,8 +51,16 @@ module _ (plan : PlanView) where
 
   goes-told : (owner : Owner) (player : ℕ) (v : VariableId) (e : EventId) (value : Option ℤ) (players : PlayersState) (s : Machine)
       → Goes plan s (tell_change owner player v e value (set_players players s))
-  goes-told owner player v e None players s = record { grows = none-grows s; modes = refl; moment = refl; coils = refl; devices = λ h. h }
-  goes-told owner player v e (Some value) players s = search (rules, told-grows)
+  goes-told owner player v e None players s = record { grows = record { lines = omega arith; waiting = omega arith; known = omega arith; bookings = omega arith; tellings = omega arith }; modes = refl; moment = refl; coils = refl; devices = λ h. h }
+  goes-told owner player v e (Some value) players s =
+      let g = told-grows owner player v e (Some value) (set_players players s) in
+      record {
+        grows = record { lines = g.lines; waiting = g.waiting; known = g.known; bookings = g.bookings; tellings = g.tellings };
+        modes = refl;
+        moment = refl;
+        coils = refl;
+        devices = λ h. h;
+      }
 
   -- a device is called, and goes on to its next state
   pub goes-turn : (call : Call) (r : RowId) (s : Machine) → Goes plan s (set_device r (called plan call r s).0 s)

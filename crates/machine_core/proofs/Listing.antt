@@ -9,8 +9,7 @@ use Rattle.device_objects.specs.{declared.device.Call.Call, Laws.MayCome, Outcom
 use Rattle.device_objects.proofs.{Answered.answers_are_outcomes, Lists.outcomes_of_row}
 use Rattle.cascade_rank.proofs.Rows.{length-rows, row_of}
 use Rattle.written_machine.specs.{Devices.HasDevices, Machine.{Machine, world_of, device_at, called, call_device}}
-use Rattle.machine_core.specs.{Core.{CoreView, CanCall, after}, Goes.Goes}
-use Rattle.machine_core.proofs.Going.{goes-can, goes-call}
+use Rattle.machine_core.{specs.Core.{CoreView, CanCall, after}, proofs.Going.{goes-can, goes-call}}
 
 module _ (plan : PlanView) where
   -- the rows of a mode, from a number on

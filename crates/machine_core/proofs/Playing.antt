@@ -25,7 +25,7 @@ module _ (plan : PlanView) where
 
   -- the game goes on
   goes-gone : (which : GameEvent) (s : Machine) → Goes plan s (played plan which s)
-  goes-gone which s = record { lines = omega arith; waiting = omega arith; modes = refl; moment = refl; coils = refl; devices = λ h. h }
+  goes-gone which s = record { grows = record { lines = omega arith; waiting = omega arith; known = omega arith; bookings = omega arith; tellings = omega arith }; modes = refl; moment = refl; coils = refl; devices = λ h. h }
 
   pub goes-step : (which : GameEvent) (s : Machine) → Goes plan s (step_game plan which s)
   goes-step which s =

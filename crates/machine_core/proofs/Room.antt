@@ -1,5 +1,5 @@
 -- A machine that is sound in the end was sound before.
-use Rattle.std.proofs.Common.{rules, ◌≡◌, ℕ, ℤ, zero, suc, ◌+◌, ◌≤◌, ◌<◌, Bool, true, false, if◌then◌else◌, refl, Option, Some, List, [], ◌∷◌, length, drop, length-append, ap, sym, ◌∙◌, subst, arith}
+use Rattle.std.proofs.Common.{rules, ◌≡◌, ℕ, ℤ, zero, suc, ◌+◌, ◌<◌, Option, Some, List, [], ◌∷◌, length, drop, length-append, ap, sym, ◌∙◌, subst, arith}
 use Rattle.std.specs.Prelude.{slice_get}
 use Rattle.plan_tables.specs.declared.entries.{EventId.EventId, Owner.Owner, GameEvent.GameEvent, VariableId.VariableId}
 use Rattle.plan_tables.specs.declared.entries.Owner.TheVariants as owners
@@ -7,10 +7,8 @@ use Rattle.machine_settings.specs.declared.words.VariableAction.{VariableAction}
 use Rattle.plan_tables.specs.PlanView.{PlanView, game_event}
 use Rattle.player_game.specs.Players.{changed_to, after_change as players_after_change, score_of}
 use Rattle.written_machine.specs.declared.line.Happening.TheVariants as lines
-use Rattle.ball_devices.specs.Bookings.{LedgerCall, after_call, booked, can_book}
-use Rattle.written_machine.specs.Moves.{Grows}
-use Rattle.written_machine.specs.Machine.{Machine, write, post, leave_out, book, counts_of, set_ledger, set_players, all_do, tell_change, change_variable, post_game, write_final}
-use Rattle.written_machine.proofs.Growth.{all_do-grows, post-grows}
+use Rattle.written_machine.{specs.Moves.Grows, proofs.Growth.{all_do-grows, post-grows}}
+use Rattle.written_machine.specs.Machine.{Machine, post, set_players, all_do, tell_change, change_variable, post_game, write_final}
 use Rattle.event_queue.specs.{declared.queue.Posted.Posted, Queue.{QueueView, IsTaken}}
 use Rattle.machine_core.specs.Core.{CoreView, TakesFirst, IsSound, after}
 
@@ -22,16 +20,6 @@ room-before room s t g h = record {
   heard = let a = g.tellings in let b = h.heard in omega (arith, a, b);
   few = let a = g.known in let b = h.few in omega (arith, a, b);
 }
-
--- a booking that is not left out is one that the ledger may make
-pub kept-can : (owner : Owner) (call : LedgerCall) (room : ℕ) (s : Machine) → IsSound room (book owner call s) → can_book call s.ledger ≡ true
-kept-can owner call room s h = by (can_book call s.ledger) refl h
-  where
-    by : (b : Bool) → can_book call s.ledger ≡ b
-        → IsSound room (if b then write owner (lines.Balls (booked call s.ledger) (counts_of (after_call call s.ledger))) (set_ledger (after_call call s.ledger) s) else leave_out s)
-        → can_book call s.ledger ≡ true
-    by true is sound = is
-    by false is sound = let kept = sound.kept in absurd (omega (arith, kept))
 
 -- where all that is left to do leaves room, its first does
 pub room-first : {X : Type 0} (f : PlanView → X → Machine → Machine) → ((plan : PlanView) (x : X) (s : Machine) → Grows s (f plan x s)) → (now all : CoreView) (x : X) (xs left : List X) → left ≡ x ∷ xs

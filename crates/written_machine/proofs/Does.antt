@@ -4,8 +4,9 @@ use Rattle.std.{proofs.lemmas.Bool.{cases_eq, cases_lt, false≢true}, specs.Lis
 use Rattle.std.proofs.lemmas.{Option.none-some, List.Elements.{All-head, All-tail}}
 use Rattle.std.proofs.lemmas.List.{length-map, length-set, get_or-map, get_or_past, get_or-set_same, get_or-set_other, set_past}
 use Rattle.plan_tables.specs.PlanView.{PlanView, may_hold_ball_end, mode_event, no_row, row_at}
-use Rattle.plan_tables.specs.{Valid.HasEntries, declared.entries.ModeEvent.TheVariants.{WillStart, Stopping}}
-use Rattle.plan_tables.specs.declared.{entries.{EventId.EventId, ModeId.ModeId}, devices.{RowId.RowId, BallTarget.BallTarget}}
+use Rattle.plan_tables.specs.{Valid.HasEntries, declared.entries.{EventId.EventId, ModeId.ModeId}}
+use Rattle.plan_tables.specs.declared.entries.ModeEvent.TheVariants.{WillStart, Stopping}
+use Rattle.plan_tables.{specs.declared.devices.{RowId.RowId, BallTarget.BallTarget}, proofs.Owners.is_owner-same}
 use Rattle.plan_tables.specs.declared.entries.{Owner.Owner, CoilId.CoilId, VariableId.VariableId}
 use Rattle.plan_tables.specs.declared.entries.Owner.TheVariants as owners
 use Rattle.device_objects.specs.declared.{device.Call.Call, state.DeviceState.DeviceState}
@@ -22,7 +23,6 @@ use Rattle.coil_guard.specs.declared.{command.Command.Command, state.CoilState.C
 use Rattle.coil_guard.specs.declared.command.Command.TheVariants as commands
 use Rattle.coil_guard.specs.CoilStep.{off, is_held_by, takes_enable, enabled}
 use Rattle.coil_guard.specs.{Coils.{all_off, coil_at, set_coil}, Limits.no_limits, Asked.{limits_of, after_asking}}
-use Rattle.plan_tables.proofs.Owners.{is_owner-same}
 use Rattle.ball_devices.specs.{declared.booking.Origin.Origin, Ledger.{Ledger, set_transit}}
 use Rattle.ball_devices.specs.Ledger as ledgers
 use Rattle.ball_devices.specs.Bookings.{LedgerCall, after_call, booked, can_book}

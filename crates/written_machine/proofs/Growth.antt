@@ -8,7 +8,8 @@ use Rattle.written_machine.specs.declared.line.Happening.TheVariants as lines
 use Rattle.event_queue.specs.declared.queue.Posted.{Posted}
 use Rattle.written_machine.specs.Machine.{Machine, post, ask_coil, all_do, tell_change, do_handler}
 use Rattle.written_machine.specs.EventStep.{taken, is_kept, before_handlers, after_event}
-use Rattle.written_machine.proofs.{Does.{grows-does, none-grows, then-grows}, Parts.{does-handler, does-before, does-after}}
+use Rattle.written_machine.proofs.Does.{grows-does, none-grows, then-grows}
+use Rattle.written_machine.proofs.Parts.{does-handler, does-before, does-after}
 
 -- where each adds, all do
 pub all_do-grows : {X : Type 0} (f : X → Machine → Machine) → ((x : X) (s : Machine) → Grows s (f x s)) → (xs : List X) (s : Machine) → Grows s (all_do f xs s)

@@ -6,8 +6,8 @@ use Rattle.written_machine.specs.{declared.line.Line.Line, CheckedView.CheckedVi
 use Rattle.written_machine.specs.{Machine.{Machine, initial}, PlanOrder.{plan_steps, settled}}
 use Rattle.written_machine.specs.{Devices.HasDevices, Accepted.IsAccepted}
 use Rattle.written_machine.specs.Run.{IsNothingLate, Stimulus, IsAllowed, begin, IsReached}
-use Rattle.written_machine.proofs.{Cascade.verified-cascades_end, Does.HasStates, Keeps.steps-keep}
-use Rattle.written_machine.proofs.{BallCalm.{IsCalm, no_lag}, BallRuns.{begin-calm, calm-run, step-calm}}
+use Rattle.written_machine.proofs.{Cascade.verified-cascades_end, BallCalm.{IsCalm, no_lag}}
+use Rattle.written_machine.proofs.{Does.HasStates, Keeps.steps-keep, BallRuns.{begin-calm, calm-run, step-calm}}
 use Rattle.written_machine.proofs.PlanSteps.{plan_steps-event_steps, settled-run, settled-idle, settled-steps, settled-same, settling-within}
 use Rattle.written_machine.proofs.Alarms.{has_states-run, has_states-initial, complete, not_late-run, not_late-initial}
 

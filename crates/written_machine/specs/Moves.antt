@@ -1,8 +1,8 @@
 -- What handlers and works do, one change of the machine after another, and which changes are theirs to make.
 use Rattle.std.specs.{Prelude.{◌≡◌, ℕ, ℤ, ◌≤◌, ◌<◌, ◌⊎◌, Option, true, length}, List.list_any}
 use Rattle.plan_tables.specs.PlanView.{PlanView, actions_of, is_enable_of, mode_event, row_at, work_of}
-use Rattle.plan_tables.specs.Valid.{HasEntries, IsValid}
-use Rattle.plan_tables.specs.declared.{entries.ModeEvent.TheVariants.{WillStart, Stopping}, devices.{RowId.RowId, Telling.Telling}}
+use Rattle.plan_tables.specs.{Valid.{HasEntries, IsValid}, declared.devices.{RowId.RowId, Telling.Telling}}
+use Rattle.plan_tables.specs.declared.entries.ModeEvent.TheVariants.{WillStart, Stopping}
 use Rattle.plan_tables.specs.declared.entries.{EventId.EventId, SwitchId.SwitchId, ModeId.ModeId, VariableId.VariableId}
 use Rattle.plan_tables.specs.declared.entries.{Owner.Owner, CoilId.CoilId, Work.TheVariants.Game}
 use Rattle.plan_tables.specs.declared.entries.GameEvent.{GameEvent, TheVariants.BallDrain}

@@ -3,9 +3,8 @@ use Rattle.std.proofs.lemmas.List.{drop_more, Elements.All-get_or}
 use Rattle.plan_tables.specs.PlanView.{PlanView, actions_at, list_of_row, row_at}
 use Rattle.plan_tables.specs.declared.{entries.{Action.Action, Owner.Owner}, devices.DeviceRow.DeviceRow}
 use Rattle.written_machine.specs.Machine.{Machine, all_do, do_action_by, do_answer_by, do_list_by}
-use Rattle.machine_core.specs.Core.{CoreView, CanCall, IsSound, after}
-use Rattle.machine_core.proofs.Callable.{actions-within}
-use Rattle.machine_core.proofs.{Going.{goes-can, goes-list_by}, Room.{room-first, all_do-first}}
+use Rattle.machine_core.{specs.Core.{CoreView, CanCall, IsSound, after}, proofs.Room.{room-first, all_do-first}}
+use Rattle.machine_core.proofs.{Callable.actions-within, Going.{goes-can, goes-list_by}}
 use Rattle.machine_core.proofs.lists.lists_by.Goals as goal
 
 pub row-owner-requires : goal.row-owner-requires

@@ -16,7 +16,7 @@ returns g c =
     let view : CoreView = record {
       plan = c.self.inside.plan.now;
       running = c.self.inside.handlers.running;
-      machine = record { moment = c.self.inside.moment; switches = c.self.inside.switches; modes = c.self.inside.modes.modes; devices = map state items; coils = c.self.inside.coils; ledger = c.self.inside.ledger; players = c.self.inside.players.state; game = c.self.inside.game.state; waiting = c.self.inside.queue.waiting; lines = c.self.inside.lines.items };
+      machine = record { moment = c.self.inside.moment; switches = c.self.inside.switches; modes = c.self.inside.modes.modes; devices = map state items; coils = c.self.inside.coils; ledger = c.self.inside.ledger; players = c.self.inside.players.state; game = c.self.inside.game.state; waiting = c.self.inside.queue.waiting; lines = c.self.inside.lines.items; bookings_left_out = 0; tellings_lost = 0 };
       room = c.self.inside.queue.size;
     } in
     let stopped = machine-stopped row state view.plan view.machine items c.deref_mut.result.now new c.world-world.result c.self.invariant.rows_are refl world_is c.deref_mut.ensures.value c.stop_all.ensures.rows c.stop_all.ensures.states in
