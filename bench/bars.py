@@ -20,6 +20,6 @@ class Bars:
         print(f"  {what}: {value:.2f}, bar {bar}: {self.judged(value, bar).strip()}", flush=True)
 
     def status(self) -> int:
-        """Prints the sum, and gives the exit status: 1 where a bar is not met."""
+        """Prints the sum, and gives the exit status: 1 if a bar is not met."""
         print(f"\n{self.met} bars are met, and {self.missed} are not", flush=True)
         return 1 if self.missed else 0

@@ -3,7 +3,7 @@
 PROGRAM is pinball, proved: of an unproved build valgrind reports no count. For each size of a plan it plays a log, and
 then an empty one, under `valgrind --tool=callgrind`. The difference is what the lines of the log took, so that reading
 the configuration and making the machine are left out. Each line of output has the size, the lines of output, the
-instructions for each of them, and their ratio to those of the smallest size. It ends with status 1 where a ratio is
+instructions for each of them, and their ratio to those of the smallest size. It ends with status 1 if a ratio is
 above its bar."""
 import dataclasses
 import pathlib

@@ -3,7 +3,7 @@ starts it.
 
 PROGRAM is pinball, proved: of an unproved build valgrind reports no count. COMPLETE is the folder of examples/complete.
 Instructions are counted by valgrind. Processor time and peak memory are those of the kernel's account. The status in
-brackets is that of the smaller of the two texts. This ends with status 1 where a bar is not met."""
+brackets is that of the smaller of the two texts. This ends with status 1 if a bar is not met."""
 import pathlib
 import statistics
 import sys

@@ -5,7 +5,7 @@ PROGRAM is pinball, proved: of an unproved build valgrind reports no count. PLAI
 collide.rs are built to, and COMPLETE is the folder of examples/complete. A READER reads the YAML file that its word
 names. Each is a path. Each line of output has millions of instructions, their ratio to those of another line, the wall
 time in ms (the median of RUNS runs, of a third as many of `play`), its ratio, peak memory in MiB, and bytes of memory
-for each byte of text. An exit status is in brackets. This ends with status 1 where a bar is not met. Wants Debian's
+for each byte of text. An exit status is in brackets. This ends with status 1 if a bar is not met. Wants Debian's
 /usr/bin/python3. What it lacks of python3-yaml and fy-tool it names, and leaves out."""
 import dataclasses
 import os

@@ -11,7 +11,7 @@ import time
 KIB = 1 << 10
 MIB = 1 << 20
 WEIGHED = 3  # how often the memory is taken
-# How `check` and `play` end where they have an answer.
+# How `check` and `play` end if they have an answer.
 ANSWERED = (0, 1)
 # Of Linux's prctl: what a child of ours leaves behind becomes a child of ours.
 PR_SET_CHILD_SUBREAPER = 36

@@ -1,9 +1,9 @@
 """Public calls that have a clause `ensures`, and that no page names; and calls that a page names and that are gone.
 
 docs/promises.md or docs/layers.md has to name each, as code: `CRATE::NAME`, `TYPE::NAME`, or NAME alone in a paragraph,
-an item or a row that also names its crate, its type or its module. One path may have several names, `Rig::{now, state}`,
-and a star stands for all names that fit: `Plan::*` or `mpf_sections::as_*`. Crates of tests promise nothing. A fault is
-`FILE: CALL`. A path in a page that begins with a crate has to name something in its code."""
+an item or a row that also names its crate, its type or its module. One path may have several names, as in
+`Rig::{now, state}`, and a star stands for all names that fit, as in `Plan::*` or `mpf_sections::as_*`. Crates of tests
+promise nothing. A fault is `FILE: CALL`. A path in a page that begins with a crate has to name something in its code."""
 import re
 from collections.abc import Iterable, Iterator
 from fnmatch import fnmatchcase

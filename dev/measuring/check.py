@@ -13,7 +13,8 @@ import time
 from sources.rooms import TOP, listed
 
 # What Rattle names the modules that it makes of a function.
-MADE = r"\.(Lts[^.]*(\.View)?|Proof|Tie|Code(\..*)?|Statement|Met|Layout|Reads|Kinds[^.]*|Goals|Answers|Invariants|Key)$"
+MADE = (r"\.(Lts[^.]*(\.View)?|Proof|Tie|Code(\..*)?|Statement|Met|Layout|Reads|Kinds[^.]*|Goals|Answers|Invariants"
+        r"|Key)$")
 LIBRARY = r"^Rattle-\w+?-(proofs|specs\.contracts|specs\.declared|specs)\."
 
 

@@ -84,8 +84,9 @@ def main(words: argparse.Namespace) -> int:
     if not functions or not times.spent:
         sys.exit(f"{words.log} has no proved crate, or no line `seconds ..`: it is no log of tools/test")
     sums = [sum(it for (_, part), it in times.spent.items() if part == one) for one in PARTS]
-    rows = [list(HEADS), ["---"] * len(HEADS), *(row_of(it, functions[it], times) for it in listed() if it in functions)]
-    rows += [["all crates", "", "", "", "", *map(seconds, sums), ""]]
+    crates = [it for it in listed() if it in functions]
+    rows = [list(HEADS), ["---"] * len(HEADS), *(row_of(it, functions[it], times) for it in crates),
+            ["all crates", "", "", "", "", *map(seconds, sums), ""]]
     for row in rows:
         print("|" + "|".join(f" {it} " if it else " " for it in row) + "|")
     print(f"\nAll else took {times.whole - sum(sums):,.0f} processor seconds, and the whole gate {times.whole:,.0f},")
