@@ -76,6 +76,7 @@ class ClickHand:
     def until(self, what: str, holds: Callable[[dict[str, Any]], bool]) -> None:
         self.set_speed(10 if what in games.LONG else 1)
         self.page.click("#pause")
+        self.page.until("!window.pinball.paused")  # (the button does what the page shows)
         self.table.until(holds)
         self.pause()
         if what in ("two balls lie in the trough", "the hurry-up runs", "the flipper is held", "the game is over"):

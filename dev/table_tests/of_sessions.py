@@ -161,8 +161,9 @@ def a_replay_and_a_live_program_answer_the_same() -> None:
         answers.rewind(log[:12])
         equal(answers.ask("3650"), [])
     equal(replay.ask("3900 s_left_button 0"), live.ask("3900 s_left_button 0"))
-    live.ask("4300 s_left_button 1")
-    equal(live.end(), ["4300 machine off c_left_hold"])
+    equal(replay.ask("4300 s_left_button 1"), live.ask("4300 s_left_button 1"))
+    off = ["4300 machine off c_left_main", "4300 machine off c_left_hold"]
+    equal((replay.end(), live.end()), (off, off))
 
 
 @test
