@@ -61,8 +61,8 @@ def write_errors(asked: argparse.Namespace) -> int:
 def hint_as_json(hint: hints.Hint) -> dict:
     """A hint as editors read it, with the same fields as a finding."""
     said = f"hint {hint.text} {hint.line} {hint.key}"
-    return {"said": said, "message": "hint", "text": hint.text, "line": hint.line, "column": 1, "width": 1,
-            "says": [hint.says], "write": "", "severity": "hint"}
+    found = Finding(said, "hint", hint.text, hint.line, 1, 1, "", (hint.says,), "", "", "", (), (), "", "")
+    return {**as_json(found), "severity": "hint"}
 
 
 def counted(report: errors.Report, found: list[Finding], full: str) -> str:
