@@ -10,7 +10,7 @@ from typing import Any, Callable
 from pinball_help import outline
 from pinball_help.near import nearest
 from pinball_help.outline import Entry, Node
-from pinball_help.texts import plain, read_text
+from pinball_help.texts import TEXT_LIMIT, lines_of, read_bytes
 from pinball_help.values import milliseconds, number, thousandths
 
 from .machine import Machine
@@ -175,7 +175,7 @@ def read_settings(machine: Machine) -> Settings:
     file = machine.folder / FILE
     if not file.exists():
         return settings
-    for entry in outline.read(plain(read_text(file))).entries or []:
+    for entry in outline.read(lines_of(read_bytes(file, TEXT_LIMIT))).entries or []:
         read = SECTIONS.get(entry.key)
         if not read:
             raise bad(file, entry.line, f"there is no setting `{entry.key}`: the settings are {', '.join(SECTIONS)}")
