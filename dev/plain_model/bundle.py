@@ -17,6 +17,7 @@ from .sections import (
     judged,
     mapping_of,
     player_entry,
+    root_of,
     settings,
 )
 from .values import Word
@@ -159,7 +160,7 @@ class Reader:
     def text(self, part: Part, root: Node) -> list[Note]:
         """Reads a text into its part, and gives its notes, each with its place."""
         notes = []
-        for key, node in judged(mapping_of, root, root.line, "-"):
+        for key, node in judged(root_of, root, root.line, "-"):
             is_here = key.text not in (MODE_ONLY if part.owner == "machine" else MACHINE_ONLY)
             if key.text in SKIPPED:
                 notes.append((key.line, key.column, f"note {part.text} {key.line} skipped {key.text}"))

@@ -120,6 +120,13 @@ COIL_ACTION = {
 VARIABLE_ACTION = {"int": required(values.integer()), "action": Setting(values.one_of("add", "set"), "add")}
 
 
+def root_of(node: Node) -> list[tuple[Scalar, Node]]:
+    """The entries of a whole text, which is a mapping. A text without content is read as an empty one."""
+    if not isinstance(node, Entries):
+        raise BadValue
+    return node.entries
+
+
 def mapping_of(node: Node) -> list[tuple[Scalar, Node]]:
     """The entries of a mapping; the empty text is an empty one."""
     if isinstance(node, Scalar) and not node.text:

@@ -45,13 +45,18 @@ fn add_numbers<D: Device, B: Board>(pen: &mut Pen, rig: &mut Rig<'_, D, B>, word
     }
 }
 
-/// Answers to numbers: after so many attempts have begun, the number of the latest one, or 0 if the device gave up.
-pub(crate) fn attempted(pen: &mut Pen, checked: &Checked, words: &str) {
-    let devices = devices_of(pen.alloc, checked);
+/// Adds the numbers that a machine with these devices gives.
+fn add_attempts<D: Device>(pen: &mut Pen, checked: &Checked, devices: Vec<D>, words: &str) {
     match with_memory(pen.alloc, checked, devices) {
         Some(mut rig) => add_numbers(pen, &mut rig, words),
         None => pen.put("no rig"),
     }
+}
+
+/// Answers to numbers: after so many attempts have begun, the number of the latest one, or 0 if the device gave up.
+pub(crate) fn attempted(pen: &mut Pen, checked: &Checked, words: &str) {
+    let devices = devices_of(pen.alloc, checked);
+    add_attempts(pen, checked, devices, words);
 }
 
 // Without a limit the number stays at 1,000. With one, the device gives up after it.
