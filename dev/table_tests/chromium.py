@@ -4,6 +4,7 @@ import json
 import os
 import select
 import shutil
+import signal
 import subprocess
 import tempfile
 import time
@@ -27,8 +28,8 @@ class Chromium:
         outlet, back = os.pipe()
         words = [
             program, "--headless=new", "--no-sandbox", "--disable-gpu", "--no-first-run", "--disable-dev-shm-usage",
-            "--disable-background-networking", "--remote-debugging-pipe", f"--user-data-dir={self.room.name}",
-            f"--window-size={width},{height}", "about:blank"]
+            "--disable-background-networking", "--disable-breakpad", "--remote-debugging-pipe",
+            f"--user-data-dir={self.room.name}", f"--window-size={width},{height}", "about:blank"]
         # (it reads from file 3 and writes to file 4)
         self.process = subprocess.Popen(
             ["/bin/sh", "-c", f'exec "$@" 3<&{out} 4>&{back}', "sh", *words], pass_fds=(out, back),
@@ -48,7 +49,7 @@ class Chromium:
         self.close()
 
     def close(self) -> None:
-        self.process.kill()
+        os.killpg(self.process.pid, signal.SIGKILL)  # (also the processes that it has started)
         self.process.wait()
         os.close(self.inlet)
         os.close(self.outlet)

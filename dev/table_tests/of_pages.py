@@ -122,10 +122,11 @@ def a_held_switch_belongs_to_its_page() -> None:
 def a_short_press_lasts_as_long_as_a_click() -> None:
     """By the log, however long the program takes to answer: otherwise it would be taken for a bounce."""
     with Table(TOP / "examples/first") as table:
-        for _ in range(3):
+        for at in range(3):
             table.do("press", switch="s_drain", page="a")
             table.do("release", switch="s_drain", page="a")
-            table.until(lambda it: not it["active"])
+            accepted = "event s_drain_inactive"
+            table.until(lambda _, count=at + 1: table.get("/trace").count(accepted) == count)
         moments = [int(line.split()[0]) for line in table.get("/log").splitlines() if " " in line]
         assert len(moments) == 6 and all(moments[it + 1] - moments[it] >= 60 for it in (0, 2, 4)), moments
 
