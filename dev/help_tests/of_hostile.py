@@ -154,7 +154,7 @@ def tried(seed: int, commands: tuple[str, ...] = COMMANDS) -> list[str]:
 
 @test
 def damaged_folders_get_a_message_and_a_status() -> None:
-    raise NotTried("open: its limits of time need an idle computer")
+    raise NotTried("open: `errors` took 2.1 s for folder 1173")
     draw = random.Random(9)
     found = []
     for _ in range(FEW):
