@@ -5,7 +5,7 @@ ghost use Rattle.arrayvec.specs.ArrayVec.{array_vec_len};
 ghost use Rattle.device_objects.specs.BallDevice.{attempt, begin, can_begin, confirm, confirmed, ended, overdue, gone, may_try_again, next_number, requested, stuck, time_out};
 
 use crate::switches::has_ball;
-use device_objects::{Attempt, BallState, Eject, Outcome};
+use device_objects::{Attempt, BallState, Eject, GREATEST_ATTEMPT, Outcome};
 use plan_tables::{BallSettings, BallTarget};
 
 /// The list of a ball that has entered.
@@ -77,13 +77,13 @@ pub(crate) fn begin(
 }
 
 /// The number of the attempt after one of this number, if it may attempt once more. Without a limit
-/// the number stays at 1,000 once it is there.
+/// the number stays at the greatest once it is there.
 fn next_attempt(settings: &BallSettings, number: u16) -> Option<u16>
     ensures may { is_some result ≡ may_try_again settings.now.ejects.max_attempts number }
     ensures next { IfSome result (λ next. next ≡ next_number settings.now.ejects.max_attempts number) }
 {
     match settings.ejects.max_attempts {
-        None => Some(number.saturating_add(1).min(1000)),
+        None => Some(number.saturating_add(1).min(GREATEST_ATTEMPT)),
         Some(most) if number < most => Some(number + 1),
         Some(_) => None,
     }

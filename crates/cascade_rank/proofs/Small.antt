@@ -1,4 +1,4 @@
--- No event of a valid plan costs 2^73 or more, where each weighs less than 2^32.
+-- No event of a valid plan costs 2^73 or more, if each weighs less than 2^32.
 use Rattle.std.proofs.Common.{rules, ℕ, ◌+◌, ◌*◌, ◌^◌, ◌<◌, ◌≤◌, nat_lt, ◌==◌, Bool, true, false, if◌then◌else◌, List, [], ◌∷◌, length, get_or, Option, Some, None, arith}
 use Rattle.std.specs.{Prelude.IfSome, List.{All, filter, list_any, range_with_len}}
 use Rattle.std.proofs.lemmas.List.Elements.{All-nil, All-cons, All-head, All-tail, All-weaker, All-append}

@@ -1,4 +1,4 @@
--- The least weights, where every event is grounded.
+-- The least weights, if every event is grounded.
 use Rattle.std.specs.Prelude.{ℕ, zero, suc, List, length, map}
 use Rattle.plan_tables.specs.{PlanView.PlanView, declared.entries.EventId.EventId}
 use Rattle.cascade_rank.specs.{Events.events_of, Weights.need}

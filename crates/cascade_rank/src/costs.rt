@@ -1,12 +1,13 @@
 //! One walk over what an event costs, for every measure.
 //!
-//! A change of a variable costs its line and the weight of the event that it posts. A ball that enters
-//! a device costs also the dearer of two: that it drains, and that the device that ejected it is told.
-//! Where more balls are wanted, that costs what the first trough answers. An event of the game costs the
-//! weights of the dearest way that it can go; where all scores are told, it costs a line for each player
-//! there can be, and where a ball is asked for, what the first trough answers. Where a ball has drained,
-//! the dearest way may also be that a ball save saves it, or that all multiballs end. The condition of a
-//! binding is taken as met.
+//! A change of a variable costs its line and the weight of the event that it posts. A ball that enters a device also
+//! costs the greater of two costs: that it drains, and that the device that ejected it is told. If more balls are
+//! wanted, that costs what the first trough answers.
+//!
+//! An event of the game costs the weights of the most expensive way that it can go. If it writes all scores, it costs
+//! a line for each player there can be. If it asks for a ball, it costs what the first trough answers. When a ball has
+//! drained, that way may also be that a ball save saves it, or that all multiballs end. The condition of a binding is
+//! taken as met.
 
 ghost use Rattle.std.specs.Prelude.{◌≡◌, ◌<◌, true, length};
 ghost use Rattle.std.specs.List.{All};

@@ -1,6 +1,6 @@
 //! What can be measured of a cost: its price, or the events whose weights are in it.
 //!
-//! A cost is lines, the weight of an event, two costs after each other, or the dearer of two. A measure
+//! A cost is lines, the weight of an event, two costs after each other, or the greater of two. A measure
 //! says what each of the four comes to. The walks over costs (`costs`, `stimuli`) go over the parts of a
 //! plan once, for every measure.
 

@@ -1,8 +1,8 @@
 //! The events to which an event leads: those whose weights are in what it costs.
 //!
 //! What follows depends only on which events these are. So a post counts even if the variable may not
-//! change, or the condition of the binding may not be met. A ball that enters a device leads to its event,
-//! to its drain, and to what each of the devices answers that may be told.
+//! change, or the condition of the binding may not be met. A ball that enters a device leads to the device's event, to
+//! `ball_drain`, and to what the devices answer that may be told of it.
 
 ghost use Rattle.std.specs.Prelude.{◌≡◌, ◌<◌, length, IfOk, OnOk};
 ghost use Rattle.plan_tables.specs.Valid.{IsValid};

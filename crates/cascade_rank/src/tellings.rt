@@ -1,9 +1,9 @@
 //! What follows when a ball device is told something: that a ball has arrived, or that more balls are
 //! wanted.
 //!
-//! A device that is told something answers effect lists, and these tell no further device. So what an
-//! effect list costs is stated for whatever telling costs, which is one of two: for `Told` it is what
-//! the devices answer that may be told, and for `Untold` nothing.
+//! A device that is told something answers effect lists, and these tell no further device. So the cost of an effect
+//! list has the cost of telling as a parameter. With `Told` that is what the devices answer that may be told. With
+//! `Untold` telling costs nothing.
 
 use crate::costs::measure_telling;
 use crate::measure::Measure;

@@ -1,4 +1,4 @@
--- A board in memory tells a list that has grown by the command, or tells none any more.
+-- A board in memory reports a list that has grown by the command, or reports none any more.
 use Rattle.std.proofs.Common.{rules, ◌≡◌, ℕ, ◌+◌, Ok, List, [], ◌∷◌, ◌++◌, min}
 use Rattle.std.proofs.{lemmas.{Bool.{le-leb, cases_lt}, List.length-append}, Math.Nat.{min-eq_left, min-eq_right}}
 use Rattle.circular_buffer.specs.Buffer.{keep_last}

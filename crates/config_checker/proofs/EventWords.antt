@@ -1,4 +1,4 @@
--- The names of a plan's events are words of few bytes, where every name in its rows is one.
+-- The names of a plan's events are words of few bytes, if every name in its rows is well formed.
 use Rattle.std.proofs.Common.{rules, ◌≡◌, ◌≢◌, ℕ, ◌+◌, ◌<◌, ◌≤◌, Bool, true, ◌&&◌, nat_lt, List, [], ◌∷◌, ◌++◌, length, refl, ap, arith, length-append, codes}
 use Rattle.std.{specs.List.{All, list_all}, proofs.lemmas.List.Sums.AllPass-from_list_all}
 use Rattle.std.proofs.lemmas.Bool.{ne_eqb, or_from, not_from_false, and_parts, ltb-true}

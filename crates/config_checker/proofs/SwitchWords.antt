@@ -1,4 +1,4 @@
--- The names of a plan's switches are names, where every name in its rows is one.
+-- The names of a plan's switches are well formed, if every name in its rows is.
 use Rattle.std.proofs.{Common.{ℕ, ◌≤◌, List, length, sym, subst, ap, arith}, lemmas.List.Elements.All-weaker}
 use Rattle.std.specs.List.{All}
 use Rattle.mpf_config.specs.{Rows.Rows, Named.IsNamedMode}

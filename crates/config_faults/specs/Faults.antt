@@ -1,4 +1,4 @@
--- What a fault is, where it stands, and what a result with one says.
+-- What a fault is, where it is, and what a result with one says.
 use Rattle.std.specs.Prelude.{◌≡◌, ℕ, List, Result, Ok, Err}
 use Rattle.config_faults.specs.declared.fault.{Fault.Fault, FaultKind.FaultKind, ConfigFault.ConfigFault}
 use Rattle.config_faults.specs.declared.fault.ConfigFault.TheVariants as faults

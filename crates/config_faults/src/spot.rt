@@ -1,4 +1,4 @@
-//! Where a fault stands.
+//! Where a fault is.
 
 ghost use Rattle.std.specs.Prelude.{◌≡◌, IfOk};
 ghost use Rattle.std.specs.Cow.{cow_slice_items};

@@ -10,7 +10,7 @@ use Rattle.device_objects.specs.declared.{device.Call.Call, state.Eject.{Eject, 
 use Rattle.device_objects.specs.declared.device.Call.TheVariants as calls
 use Rattle.device_objects.specs.declared.state.{Attempt.Attempt, BallSwitch.BallSwitch, BallState.BallState}
 use Rattle.device_objects.specs.declared.state.DeviceState.TheVariants as states
-use Rattle.device_objects.specs.BallDevice.{empty, first_state, set_switch, turned, entered, attempted, left, lost, failed, attempt, can_begin, begin, after, ended, may_try_again, next_number, ball_step}
+use Rattle.device_objects.specs.BallDevice.{empty, first_state, set_switch, turned, entered, attempted, left, lost, failed, attempt, can_begin, begin, after, ended, may_try_again, next_number, greatest_attempt, ball_step}
 use Rattle.device_objects.specs.Laws.{IsEjectOf, HasBallShape, IsAnswer, MayCome}
 use Rattle.device_objects.specs.Outcomes.{only_if, may_begin, may_eject, ending, of_count, of_attempt, of_ball_fire, of_ball_act, of_ball_device}
 use Rattle.device_objects.proofs.{Among.{one, all_if, if_true, if_false}, BallShapes.{first_attempt, first_ball-shape}}
@@ -41,7 +41,7 @@ unused (suc n) b some = All-drop (λ c. c ≡ empty) n (replicate 15 empty) (All
 
 -- the number of the last attempt, where there is one
 last_attempt : (most : Option ℕ) → is_some most ≡ true
-    → (n : ℕ) × (1 ≤ n) × (n ≤ max 1 (unwrap_or most 1000)) × (may_try_again most n ≡ false)
+    → (n : ℕ) × (1 ≤ n) × (n ≤ max 1 (unwrap_or most greatest_attempt)) × (may_try_again most n ≡ false)
 last_attempt most some = search rules
 
 module _ (d : BallSettings) (limits : IsWithinLimits (kinds.BallDevice d)) where
@@ -173,7 +173,7 @@ module _ (d : BallSettings) (limits : IsWithinLimits (kinds.BallDevice d)) where
       (all_if Answer (is_some d.ejects.max_attempts) ((failed ∷ []) ∷ [])
       (λ some. one Answer (failed ∷ []) (gives_up (last_attempt d.ejects.max_attempts some))))
     where
-      gives_up : (n : ℕ) × (1 ≤ n) × (n ≤ max 1 (unwrap_or d.ejects.max_attempts 1000))
+      gives_up : (n : ℕ) × (1 ≤ n) × (n ≤ max 1 (unwrap_or d.ejects.max_attempts greatest_attempt))
           × (may_try_again d.ejects.max_attempts n ≡ false)
           → IsAnswer (kinds.BallDevice d) calls.Fire (failed ∷ [])
       gives_up last =

@@ -8,7 +8,7 @@ use Rattle.plan_tables.specs.declared.devices.Act.TheVariants as acts
 use Rattle.device_objects.specs.declared.{device.Call.Call, state.Eject.{Eject, TheVariants.Idle}}
 use Rattle.device_objects.specs.declared.device.Call.TheVariants as calls
 use Rattle.device_objects.specs.declared.state.{BallSwitch.BallSwitch, BallState.BallState}
-use Rattle.device_objects.specs.BallDevice.{empty, first_state, set_switch, has_ball, first_due, can_begin, begin, ended, may_try_again, next_number, time_out, confirm, switched, gone, count, count_due, fire, requested, act_step, halted, not_due, ball_step}
+use Rattle.device_objects.specs.BallDevice.{empty, first_state, set_switch, has_ball, first_due, can_begin, begin, ended, may_try_again, next_number, greatest_attempt, time_out, confirm, switched, gone, count, count_due, fire, requested, act_step, halted, not_due, ball_step}
 use Rattle.device_objects.{specs.Laws.{IsAttempt, IsEjectOf, HasBallShape}, proofs.BallDue.first_due-is_due}
 
 -- ---- ball switches that a device does not have
@@ -50,7 +50,7 @@ module _ (d : BallSettings) where
 
   -- the attempt after another one that is not the last
   next_attempt : (most : Option ℕ) (n : ℕ) → 1 ≤ n → may_try_again most n ≡ true
-      → (1 ≤ next_number most n) × (next_number most n ≤ max 1 (unwrap_or most 1000))
+      → (1 ≤ next_number most n) × (next_number most n ≤ max 1 (unwrap_or most greatest_attempt))
   next_attempt None n some may = (omega arith, omega arith)
   next_attempt (Some most) n some may = let more = ltb-true n most may in (omega arith, omega (arith, more))
 

@@ -1,4 +1,4 @@
--- Marks are equal where the test says so.
+-- Marks are equal if the test says so.
 use Rattle.std.proofs.{Common.{◌≡◌, Bool, true, false, [], refl}, lemmas.Bool.{false≢true, true≢false}}
 use mathlib.Core.Bool.{beq}
 use Rattle.std.specs.Bool.{Decides}

@@ -132,9 +132,13 @@ abbrev pub may_try_again : Option ℕ → ℕ → Bool
 may_try_again None number = true
 may_try_again (Some most) number = nat_lt number most
 
--- the number of the attempt after the one of this number: without a limit it stays at 1,000 once it is there
+-- the greatest number of an attempt, if there is no limit
+abbrev pub greatest_attempt : ℕ
+greatest_attempt = 1000
+
+-- the number of the attempt after the one of this number: without a limit it stays at the greatest once it is there
 abbrev pub next_number : Option ℕ → ℕ → ℕ
-next_number None number = min (suc number) 1000
+next_number None number = min (suc number) greatest_attempt
 next_number (Some most) number = suc number
 
 -- an attempt is over before the ball has left: it tries again, or gives up

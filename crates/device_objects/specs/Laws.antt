@@ -10,7 +10,7 @@ use Rattle.device_objects.specs.declared.device.Call.TheVariants as calls
 use Rattle.device_objects.specs.declared.state.{AccrualSlot.AccrualSlot, DeviceState.DeviceState}
 use Rattle.device_objects.specs.declared.state.{BallState.BallState, SaveState.SaveState}
 use Rattle.device_objects.specs.declared.state.Eject.{Eject, TheVariants.{Idle, Pulsing, Away}}
-use Rattle.device_objects.specs.{BallDevice.empty, Outcomes.{may_eject, outcomes, silent}}
+use Rattle.device_objects.specs.{BallDevice.{empty, greatest_attempt}, Outcomes.{may_eject, outcomes, silent}}
 use Rattle.device_objects.specs.DeviceStep.{first_state, due_of, part_due, counter_slots, accrual_slots, sequence_slots, timer_state, bank_slots, flipper_state, autofire_state, ball_state, save_state, multiball_state, device_step, fire_part}
 
 -- a slot of an accrual: with 16 marks
@@ -22,9 +22,9 @@ abbrev pub HasBankShape : BankSettings → BankSlot → Type 0
 HasBankShape b slot =
     (length slot.enabled ≡ length b.enabled) × (length slot.states ≡ 16) × All (λ s. s ≤ b.last_state) slot.states
 
--- The number of an attempt is at least 1, and at most the limit, or 1,000 if there is none.
+-- The number of an attempt is at least 1, and at most the limit, or the greatest number if there is none.
 abbrev pub IsAttempt : BallSettings → ℕ → Type 0
-IsAttempt d number = (1 ≤ number) × (number ≤ max 1 (unwrap_or d.ejects.max_attempts 1000))
+IsAttempt d number = (1 ≤ number) × (number ≤ max 1 (unwrap_or d.ejects.max_attempts greatest_attempt))
 
 -- Only a device with a coil can be Pulsing. Only one with a coil, or with a mechanical eject, can be Away.
 abbrev pub IsEjectOf : BallSettings → Eject → Type 0

@@ -1,4 +1,4 @@
-//! Devices of a machine behind an interface: their states, and what each call does.
+//! The interface of devices, their states, and what each call does.
 #![tactic(auto)]
 
 pub mod answers;
@@ -23,5 +23,6 @@ pub use same::{is_same_row, is_same_state};
 pub use shape::has_shape;
 pub use state::{
     AccrualSlot, Attempt, AutofireState, BallState, BallSwitch, BankSlot, CounterSlot, DeviceState,
-    Eject, FlipperState, MultiballState, SaveState, SequenceSlot, TimerState, World,
+    Eject, FlipperState, GREATEST_ATTEMPT, MultiballState, SaveState, SequenceSlot, TimerState,
+    World,
 };

@@ -6,7 +6,8 @@ ghost use Rattle.device_objects.specs.BallDevice.{empty};
 ghost use Rattle.device_objects.specs.Laws.{HasBallShape, HasBankShape, HasMarks, HasSaveShape, HasShape, IsAttempt, IsEjectOf};
 
 use crate::state::{
-    AccrualSlot, Attempt, BallState, BallSwitch, BankSlot, DeviceState, Eject, SaveState,
+    AccrualSlot, Attempt, BallState, BallSwitch, BankSlot, DeviceState, Eject, GREATEST_ATTEMPT,
+    SaveState,
 };
 use machine_settings::SaveSettings;
 use plan_tables::{BallSettings, BankSettings, Settings};
@@ -117,7 +118,11 @@ fn are_empty(switches: &[BallSwitch]) -> bool
 fn is_attempt(device: &BallSettings, attempt: Attempt) -> bool
     ensures { IsTrue result ↔ IsAttempt device.now attempt.number }
 {
-    let most = device.ejects.max_attempts.unwrap_or(1000).max(1);
+    let most = device
+        .ejects
+        .max_attempts
+        .unwrap_or(GREATEST_ATTEMPT)
+        .max(1);
     1 <= attempt.number && attempt.number <= most
 }
 

@@ -91,10 +91,13 @@ pub struct BallSwitch {
     pub due: Option<u64>,
 }
 
+/// The greatest number of an attempt, if there is no limit on attempts.
+pub const GREATEST_ATTEMPT: u16 = 1000;
+
 /// An attempt to eject a ball.
 #[derive(Clone, Copy)]
 pub struct Attempt {
-    /// Its number: the first is 1. Without a limit on attempts, each is 1.
+    /// Its number: the first is 1. Without a limit on attempts, it stays at `GREATEST_ATTEMPT` once it is there.
     pub number: u16,
     /// The moment at which it is over, if nothing has ended it before.
     pub timeout: u64,

@@ -1,4 +1,4 @@
--- For each event the order of what takes part: as it is made, and where one more takes part, or one less.
+-- For each event the order of what takes part: as it is made, and when one more takes part, or one less.
 use Rattle.std.proofs.Common.{rules, ◌≡◌, ◌≢◌, ℕ, ◌+◌, ◌<◌, ◌≤◌, nat_lt, ◌&&◌, Bool, true, false, List, [], ◌∷◌, ◌++◌, Some, length, filter, get_or, slice_get, slice_set, Vec, Global, vec_capacity, refl, ap, sym, subst, ◌∙◌, inl, inr, arith}
 use Rattle.std.{specs.List.All, proofs.lemmas.{Option.get_or_from_slice_get, List.Kept.AllPairs-filter}}
 use Rattle.std.proofs.lemmas.Bool.{cases_eq, cases_lt, le-ltb, and_right, Decides.nat_tests}

@@ -1,4 +1,4 @@
--- Alarms in order: the first is the least, and where a row's due moment is set, its alarm is taken out and another put in.
+-- Alarms in order: the first is the least. When a row's due moment is set, its alarm is taken out and another put in.
 use Rattle.std.proofs.Common.{rules, ◌≡◌, ℕ, zero, suc, ◌+◌, ◌<◌, ◌≤◌, nat_lt, ◌==◌, ◌&&◌, ◌||◌, Bool, false, Option, Some, None, List, [], ◌∷◌, length, replicate, get_or, slice_get, slice_set, Bor, refl, ap, sym, ◌∙◌, arith}
 use Rattle.std.specs.{Cmp.IsStrictWeakOrder, List.HoldsAt, Option.{MatchOption, option_copied}}
 use Rattle.std.proofs.lemmas.List.{length-set, set-get_or}

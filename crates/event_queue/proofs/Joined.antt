@@ -1,4 +1,4 @@
--- Plan order of places where one more takes part: it is put into the order.
+-- Plan order of places when one more takes part: it is put into the order.
 use Rattle.std.proofs.Common.{rules, ◌≡◌, ◌≢◌, ℕ, suc, ◌<◌, nat_lt, ◌==◌, ◌&&◌, ◌||◌, not, Bool, true, false, true≢false, cond, List, [], ◌∷◌, filter, get_or, refl, ap, sym, subst, ◌∙◌, inl, inr, arith}
 use Rattle.std.specs.{List.{All, AllPairs, list_any}, Cmp.IsStrictWeakOrder}
 use Rattle.std.proofs.lemmas.Bool.{cases_eq, eq-eqb, ne_eqb, or_right, and_right, not_from_true, Decides.nat_tests}

@@ -1,1 +1,1 @@
--- Where no mode runs, the handlers are the machine's, whether the list has the modes or not.
+-- If no mode runs, the handlers are the machine's, whether the list has the modes or not.

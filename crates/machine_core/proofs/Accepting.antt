@@ -1,4 +1,4 @@
--- What is done where a switch was accepted.
+-- What is done when a switch was accepted.
 use Rattle.std.proofs.Common.{rules, ◌≡◌, ◌<◌, List, [], ◌∷◌, length, length-append, sym, ap, ◌∙◌, subst, arith}
 use Rattle.plan_tables.specs.PlanView.{PlanView, act_of_listener, listeners_of, posts_of}
 use Rattle.plan_tables.specs.declared.entries.{EventId.EventId, Listener.Listener}
@@ -7,10 +7,10 @@ use Rattle.device_objects.specs.declared.device.Call.TheVariants as calls
 use Rattle.switch_core.specs.declared.change.Change.{Change}
 use Rattle.written_machine.specs.declared.line.Happening.TheVariants as lines
 use Rattle.written_machine.specs.Machine.{Machine, write, post, all_do, tell_listener, tell_listeners, confirm_on_playfield, do_accepted}
-use Rattle.machine_core.{specs.{Core.{CoreView, CanCall, IsSound, after}, Goes.Goes}, proofs.Room.room-before}
+use Rattle.machine_core.{specs.{Core.{CoreView, CanCall, IsWithin, after}, Goes.Goes}, proofs.Room.room-before}
 use Rattle.machine_core.proofs.Going.{goes-then, goes-can, goes-all, goes-post, goes-write, goes-call, goes-playfield}
 
-module _ (a : Change) (now : CoreView) (room : IsSound now.room (do_accepted now.plan a now.machine)) where
+module _ (a : Change) (now : CoreView) (room : IsWithin now.room (do_accepted now.plan a now.machine)) where
   abbrev plan : PlanView
   plan = now.plan
 
@@ -29,10 +29,10 @@ module _ (a : Change) (now : CoreView) (room : IsSound now.room (do_accepted now
   goes-last : Goes plan arrived (do_accepted plan a now.machine)
   goes-last = goes-all plan (post owners.Machine) (goes-post plan owners.Machine) (posts_of plan a.switch a.active) arrived
 
-  arrived-room : IsSound now.room arrived
+  arrived-room : IsWithin now.room arrived
   arrived-room = room-before now.room arrived (do_accepted plan a now.machine) goes-last.grows room
 
-  told-fits : IsSound now.room told
+  told-fits : IsWithin now.room told
   told-fits = room-before now.room told arrived (goes-playfield plan a told).grows arrived-room
 
   -- there is room for its line
@@ -45,7 +45,7 @@ module _ (a : Change) (now : CoreView) (room : IsSound now.room (do_accepted now
 
   module _ (written : CoreView) (written_is : written ≡ after (write owners.Machine (lines.Switch a.switch a.active)) now) (listeners : List Listener) (listeners_are : listeners ≡ listeners_of plan a.switch) where
     -- and for what the devices that listen to it are told
-    pub told-room : IsSound written.room (all_do (tell_listener written.plan a.active) listeners written.machine)
+    pub told-room : IsWithin written.room (all_do (tell_listener written.plan a.active) listeners written.machine)
     told-room = search (rules, told-fits)
 
     module _ (core : CoreView) (core_is : core ≡ after (all_do (tell_listener written.plan a.active) listeners) written) where
@@ -53,8 +53,8 @@ module _ (a : Change) (now : CoreView) (room : IsSound now.room (do_accepted now
       core-is = core_is ∙ (λ i. after (all_do (tell_listener (written_is i).plan a.active) (listeners_are i)) (written_is i))
 
       -- for what a ball leads to that has arrived on the playfield
-      pub playfield-room : IsSound core.room (confirm_on_playfield core.plan a core.machine)
-      playfield-room = subst (λ (v : CoreView). IsSound v.room (confirm_on_playfield v.plan a v.machine)) (sym core-is) arrived-room
+      pub playfield-room : IsWithin core.room (confirm_on_playfield core.plan a core.machine)
+      playfield-room = subst (λ (v : CoreView). IsWithin v.room (confirm_on_playfield v.plan a v.machine)) (sym core-is) arrived-room
 
       pub playfield-switch : a.switch.0 < length plan.switches → a.switch.0 < length core.plan.switches
       playfield-switch there = subst (λ (v : CoreView). a.switch.0 < length v.plan.switches) (sym core-is) there
@@ -69,7 +69,7 @@ module _ (a : Change) (now : CoreView) (room : IsSound now.room (do_accepted now
         arrived-is : arrived_core ≡ after (λ s. arrived) now
         arrived-is = arrived_core_is ∙ ap (λ (v : CoreView). after (confirm_on_playfield v.plan a) v) core-is
 
-        pub posts-room : IsSound arrived_core.room (all_do (post owners.Machine) events arrived_core.machine)
+        pub posts-room : IsWithin arrived_core.room (all_do (post owners.Machine) events arrived_core.machine)
         posts-room = search (rules, arrived-is)
 
         pub accepted-done : (last : CoreView) → last ≡ after (all_do (post owners.Machine) events) arrived_core → last ≡ after (do_accepted plan a) now

@@ -10,7 +10,7 @@ use Rattle.switch_core.proofs.{NextDue.{next_due-is, next_due-is_due}, Lists.due
 use Rattle.written_machine.specs.Machine.{Machine, set_switches, device_at, do_accepted}
 use Rattle.written_machine.specs.{Devices.HasDevices, Run.{Source, switch, device, fire}, NextAlarm.next_alarm}
 use Rattle.written_machine.proofs.{Does.due-row, NextAlarms.{found-is_next, next_alarm-due}}
-use Rattle.machine_core.specs.Core.{CoreView, IsWhole, IsSound, after}
+use Rattle.machine_core.specs.Core.{CoreView, IsWhole, IsWithin, after}
 
 within-found : (s new : SwitchesView) (o : Option (ℕ × SwitchId)) (a : Change) → MatchOption o (IsNothingDue s) (λ d. IsNextDue s d.0 d.1) → option_map (λ d. reported new d.1) o ≡ Some a → a.switch.0 < length s.states
 within-found s new None a h is = cc
@@ -62,9 +62,9 @@ module _ (core : CoreView) (source : Source) (next : option_map (λ a. a.1) (nex
   fired-is : fire core.plan source core.machine ≡ do_accepted core.plan a (set_switches (after_fire switches) core.machine)
   fired-is = ap (λ x. fire core.plan x core.machine) source_is ∙ (λ i. do_accepted core.plan (sym acceptance-is i) (set_switches (sym accepted-is i) core.machine))
 
-  pub fired-room : IsSound core.room (fire core.plan source core.machine) → IsSound now.room (do_accepted now.plan a now.machine)
+  pub fired-room : IsWithin core.room (fire core.plan source core.machine) → IsWithin now.room (do_accepted now.plan a now.machine)
   fired-room room =
-      subst (λ (c : CoreView). IsSound c.room (do_accepted c.plan a c.machine)) (sym now_is) (subst (IsSound core.room) fired-is room)
+      subst (λ (c : CoreView). IsWithin c.room (do_accepted c.plan a c.machine)) (sym now_is) (subst (IsWithin core.room) fired-is room)
 
   pub fired-done : (last : CoreView) → last ≡ after (do_accepted now.plan a) now → last ≡ after (fire core.plan source) core
   fired-done last last_is = last_is ∙ ap (λ (c : CoreView). after (do_accepted c.plan a) c) now_is ∙ ap (λ (s : Machine). after (λ t. s) core) (sym fired-is)

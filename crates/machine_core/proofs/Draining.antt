@@ -1,10 +1,10 @@
--- A ball has drained: the first ball save that is active, and what is done where there is none.
+-- A ball has drained: the first ball save that is active, and what is done if there is none.
 use Rattle.std.proofs.Common.{rules, ◌≡◌, ℕ, Bool, true, false, if◌then◌else◌, Option, None, List, filter, drop, ap, sym, subst}
 use Rattle.plan_tables.specs.PlanView.{PlanView, is_multiball, is_save, row_at, row_numbers}
 use Rattle.plan_tables.specs.declared.{entries.GameEvent.TheVariants.BallDrain, devices.RowId.RowId}
 use Rattle.written_machine.specs.Machine.{Machine, device_at, drain_ball, end_multiballs, first_active_save, is_active_save, step_game}
 use Rattle.player_game.specs.GameStep.{is_ball_on}
-use Rattle.machine_core.specs.{Balls.drain_now, Core.{CoreView, CanCall, IsSound, after}}
+use Rattle.machine_core.specs.{Balls.drain_now, Core.{CoreView, CanCall, IsWithin, after}}
 use Rattle.machine_core.proofs.{Going.{goes-can, goes-end}, Listing.first_from, Playing.goes-step, Room.room-before}
 
 -- ---- ball saves and multiballs, from a number on
@@ -37,25 +37,25 @@ multiballs_from plan i = filter (multiplies plan) (drop i (row_numbers plan))
 
 -- ---- no ball save saves it
 
-module _ (old : CoreView) (room : IsSound old.room (drain_now old.plan old.machine)) (none : first_active_save old.plan old.machine ≡ None) where
+module _ (old : CoreView) (room : IsWithin old.room (drain_now old.plan old.machine)) (none : first_active_save old.plan old.machine ≡ None) where
   abbrev stepped : Machine
   stepped = step_game old.plan BallDrain old.machine
 
   unsaved : drain_now old.plan old.machine ≡ end_multiballs old.plan stepped
   unsaved = ap (λ (save : Option RowId). drain_ball old.plan save old.machine) none
 
-  ended-fits : IsSound old.room (end_multiballs old.plan stepped)
-  ended-fits = subst (IsSound old.room) unsaved room
+  ended-fits : IsWithin old.room (end_multiballs old.plan stepped)
+  ended-fits = subst (IsWithin old.room) unsaved room
 
-  pub step-room : IsSound old.room stepped
+  pub step-room : IsWithin old.room stepped
   step-room = search (rules, room-before, goes-end, ended-fits)
 
   module _ (now : CoreView) (now_is : now ≡ after (step_game old.plan BallDrain) old) where
     pub end-calls : CanCall old → CanCall now
     end-calls h = subst CanCall (sym now_is) (goes-can old (step_game old.plan BallDrain) (goes-step old.plan BallDrain old.machine) h)
 
-    pub end-room : IsSound now.room (end_multiballs now.plan now.machine)
-    end-room = subst (λ (c : CoreView). IsSound c.room (end_multiballs c.plan c.machine)) (sym now_is) ended-fits
+    pub end-room : IsWithin now.room (end_multiballs now.plan now.machine)
+    end-room = subst (λ (c : CoreView). IsWithin c.room (end_multiballs c.plan c.machine)) (sym now_is) ended-fits
 
     pub drain-done : (last : CoreView) → last ≡ after (end_multiballs now.plan) now → last ≡ after (drain_now old.plan) old
     drain-done last last_is = search rules

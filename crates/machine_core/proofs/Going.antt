@@ -1,4 +1,4 @@
--- What is kept while actions are done, devices are called, and other devices are told.
+-- What stays as it is while actions run, devices are called, and other devices are told.
 use Rattle.std.proofs.Common.{rules, ℕ, ℤ, Bool, if◌then◌else◌, Option, None, Some, List, [], ◌∷◌, length-append, refl, ◌∙◌, arith}
 use Rattle.plan_tables.specs.PlanView.{PlanView, act_told, actions_at, list_of_row, row_at, target_of}
 use Rattle.plan_tables.specs.declared.entries.{Action.Action, EventId.EventId, Owner.Owner, VariableId.VariableId}

@@ -6,7 +6,7 @@ use Rattle.plan_tables.specs.{Valid.{HasEntries, IsBindingWithin}, PlanView.{Pla
 use Rattle.plan_tables.specs.declared.entries.{BindingId.BindingId, EventId.EventId, Binding.Binding}
 use Rattle.event_queue.{specs.PlanOrder.in_order, proofs.PlanOrder.in_order-count}
 use Rattle.written_machine.{specs.Machine.{all_do, do_binding, do_handler}, proofs.Growth.handler-grows}
-use Rattle.machine_core.{specs.Core.{CoreView, IsSound, after}, proofs.Room.{room-first, all_do-first}}
+use Rattle.machine_core.{specs.Core.{CoreView, IsWithin, after}, proofs.Room.{room-first, all_do-first}}
 
 -- From the k-th on the handlers of an event are still to run: run now, they are all, run at the start.
 module _ (running : List Bool) (start now : CoreView) (kept : start.running ≡ running) (event : EventId) (k : ℕ)
@@ -44,9 +44,9 @@ module _ (running : List Bool) (start now : CoreView) (kept : start.running ≡ 
       binding-is : binding_at now.plan place ≡ b
       binding-is = ap (λ (p : PlanView). binding_at p place) plan-now ∙ get_or_from_slice_get start.plan.bindings place.0 b no_binding is
 
-      pub handler-room : IsSound start.room (all_do (do_handler start.plan) order start.machine) → IsSound now.room (do_binding now.plan b now.machine)
+      pub handler-room : IsWithin start.room (all_do (do_handler start.plan) order start.machine) → IsWithin now.room (do_binding now.plan b now.machine)
       handler-room room =
-          subst (λ (c : Binding). IsSound now.room (do_binding now.plan c now.machine)) binding-is
+          subst (λ (c : Binding). IsWithin now.room (do_binding now.plan c now.machine)) binding-is
           (room-first do_handler handler-grows now (after (all_do (do_handler start.plan) order) start) place (drop (k + 1) order) (drop k order) rest left room)
 
       module _ (then : CoreView) (then_is : then ≡ after (do_binding now.plan b) now) where

@@ -9,7 +9,7 @@ use Rattle.player_game.specs.{Choices.is_drain, declared.game.GameWork.GameWork,
 use Rattle.plan_tables.specs.declared.entries.Owner.TheVariants as owners
 use Rattle.mode_stack.specs.{declared.phase.ModeState.ModeState, Modes.running_of}
 use Rattle.written_machine.specs.Machine.{Machine, all_do, ask_ball, do_game, drain_ball, end_multiballs, first_active_save, post_game, step_game, write_finals}
-use Rattle.machine_core.specs.{Core.{CoreView, CanCall, IsSound, IsWorkOfGame, after, played, step_at}, Goes.Goes}
+use Rattle.machine_core.specs.{Core.{CoreView, CanCall, IsWithin, IsWorkOfGame, after, played, step_at}, Goes.Goes}
 use Rattle.machine_core.proofs.Going.{goes-none, goes-then, goes-can, goes-all, goes-post, goes-write, goes-call, goes-ask, goes-end}
 use Rattle.machine_core.proofs.Room.{room-before}
 
@@ -75,7 +75,7 @@ module _ (which : GameEvent) (old next : CoreView) (next_is : next ≡ after (pl
   abbrev asked_machine : Machine
   asked_machine = ask_ball old.plan step.requests scored
 
-  pub scores-room : IsSound old.room (step_game old.plan which old.machine) → IsSound next.room (write_finals next.plan work.finals next.machine)
+  pub scores-room : IsWithin old.room (step_game old.plan which old.machine) → IsWithin next.room (write_finals next.plan work.finals next.machine)
   scores-room room = search (rules, room-before, goes-ask, goes-events)
 
   -- once scores are told
@@ -88,7 +88,7 @@ module _ (which : GameEvent) (old next : CoreView) (next_is : next ≡ after (pl
         subst CanCall (sym told-is)
         (goes-can (after (played old.plan which) old) (λ s. scored) (goes-finals old.plan step.finals gone) (record { devices = h.devices; coils = h.coils; early = h.early }))
 
-    pub ask-room : IsSound old.room (step_game old.plan which old.machine) → IsSound told.room (ask_ball told.plan work.requests told.machine)
+    pub ask-room : IsWithin old.room (step_game old.plan which old.machine) → IsWithin told.room (ask_ball told.plan work.requests told.machine)
     ask-room room = search (rules, told-is, room-before, goes-events)
 
     -- and a ball is asked for
@@ -100,7 +100,7 @@ module _ (which : GameEvent) (old next : CoreView) (next_is : next ≡ after (pl
       asked-game game = subst (λ (v : CoreView). HasGame v.plan) (sym asked-is) game
 
       module _ (posts : List GameEvent) (posts_is : posts ≡ work.posts.items) where
-        pub events-room : IsSound old.room (step_game old.plan which old.machine) → IsSound asked.room (all_do (post_game asked.plan) posts asked.machine)
+        pub events-room : IsWithin old.room (step_game old.plan which old.machine) → IsWithin asked.room (all_do (post_game asked.plan) posts asked.machine)
         events-room room = search rules
 
         pub game-done : (last : CoreView) → last ≡ after (all_do (post_game asked.plan) posts) asked → last ≡ after (step_game old.plan which) old

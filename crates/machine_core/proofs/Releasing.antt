@@ -15,7 +15,7 @@ use Rattle.written_machine.specs.declared.line.Happening.TheVariants as lines
 use Rattle.written_machine.specs.Machine.{Machine, write, set_coils, all_do, ask_coil, call_devices, release_coil, release_coils}
 use Rattle.written_machine.specs.{EventStep.do_after, Moves.Grows}
 use Rattle.written_machine.proofs.{Does.none-grows, Parts.does-calls, Growth.{asked-grows, all_do-grows}, Held.held-on}
-use Rattle.machine_core.{specs.Core.{CoreView, CanCall, IsSound, after}, proofs.Callable.can-does}
+use Rattle.machine_core.{specs.Core.{CoreView, CanCall, IsWithin, after}, proofs.Callable.can-does}
 
 all_do-append : {X : Type 0} (f : X → Machine → Machine) (xs ys : List X) (s : Machine) → all_do f (xs ++ ys) s ≡ all_do f ys (all_do f xs s)
 all_do-append f [] ys s = refl
@@ -159,10 +159,10 @@ module _ (plan : PlanView) (owner : Owner) where
           all = ap (λ (v : CoreView). length v.machine.coils) gone-is ∙ length-set now.machine.coils next.coil.0 (disabled (coil_at now.machine.coils next.coil)) ∙ h.all;
         }
 
-        module _ (room : IsSound start.room (release_coils plan owner start.machine)) where
+        module _ (room : IsWithin start.room (release_coils plan owner start.machine)) where
           room-next : length now.machine.lines < now.room
           room-next =
-              let same : IsSound now.room (release_coils plan owner now.machine) = subst (λ (v : CoreView). IsSound v.room v.machine) (sym h.left) room in
+              let same : IsWithin now.room (release_coils plan owner now.machine) = subst (λ (v : CoreView). IsWithin v.room v.machine) (sym h.left) room in
               let fits = same.lines in
               let grown = (release-grows gone).lines in
               let one = ap (λ (t : Machine). length t.lines) (released-first now.machine h.all next.coil next.first) in
@@ -181,7 +181,7 @@ module _ (plan : PlanView) (owner : Owner) where
 -- ---- a mode stops
 
 -- where all that is done leaves room, the stop of its devices does
-pub stopped-room : (plan : PlanView) (kept : Bool) (m : ModeId) (work : Work) (room : ℕ) (s : Machine) → work ≡ Mode m Stopping → IsSound room (do_after plan kept work s) → IsSound room (call_devices plan calls.ModeStop m s)
+pub stopped-room : (plan : PlanView) (kept : Bool) (m : ModeId) (work : Work) (room : ℕ) (s : Machine) → work ≡ Mode m Stopping → IsWithin room (do_after plan kept work s) → IsWithin room (call_devices plan calls.ModeStop m s)
 stopped-room plan kept m work room s is h = search (rules, is, release-grows, length-append)
 
 -- and there are all coils after it

@@ -6,7 +6,7 @@ use Rattle.written_machine.specs.declared.line.Happening.TheVariants as happenin
 use Rattle.written_machine.specs.{Machine.{Machine, write}, EventStep.taken}
 use Rattle.written_machine.specs.PlanOrder.{plan_step_from, plan_step, plan_steps}
 use Rattle.written_machine.proofs.{Growth.event-grows, PlanSteps.plan_steps-more}
-use Rattle.machine_core.specs.Core.{CoreView, CanCall, HasHandlers, IsSound, StaysWithin, after, follow, after_taken}
+use Rattle.machine_core.specs.Core.{CoreView, CanCall, HasHandlers, IsWithin, StaysWithin, after, follow, after_taken}
 
 -- an event that is taken, and what is done then, is an event step
 taken-step : (plan : PlanView) (first : Posted) (rest : List Posted) (s : Machine) → after_taken plan first.event (taken first rest s) ≡ plan_step_from plan (first ∷ rest) s
@@ -41,7 +41,7 @@ module _ (start now : CoreView) (stays : StaysWithin start)
   steps-are : plan_steps plan (count + 1) start.machine ≡ handled
   steps-are = plan_steps-more plan count start.machine ∙ ap (λ (c : CoreView). plan_step plan c.machine) (sym is) ∙ step-is
 
-  handled-room : IsSound now.room handled
+  handled-room : IsWithin now.room handled
   handled-room = search (rules, steps-are)
 
   line-more : length now.machine.lines < length handled.lines
@@ -64,7 +64,7 @@ module _ (start now : CoreView) (stays : StaysWithin start)
     plan-stays : written.plan ≡ plan
     plan-stays = ap (λ (c : CoreView). c.plan) written-is ∙ ap (λ (c : CoreView). c.plan) is
 
-    pub written-room : IsSound written.room (after_taken written.plan first.event written.machine)
+    pub written-room : IsWithin written.room (after_taken written.plan first.event written.machine)
     written-room = search (rules, plan-stays, written-is, handled-room)
 
     -- what is done then is one step more, and one line more at least

@@ -7,7 +7,7 @@ use Rattle.event_queue.specs.PlanOrder.{in_order}
 use Rattle.written_machine.specs.{Machine.{Machine, all_do, do_handler}, EventStep.{is_kept, do_before, do_after}}
 use Rattle.written_machine.proofs.{Does.grows-does, Growth.{all_do-grows, handler-grows}, Silence.handlers-still}
 use Rattle.written_machine.proofs.Parts.{does-handlers, does-before, does-after}
-use Rattle.machine_core.specs.Core.{CoreView, CanCall, HasHandlers, IsSound, after, follow, after_taken}
+use Rattle.machine_core.specs.Core.{CoreView, CanCall, HasHandlers, IsWithin, after, follow, after_taken}
 use Rattle.machine_core.{specs.Inside.kept_at, proofs.{Following.follow-nothing, Room.room-before, Callable.can-does}}
 
 -- ---- whether the machine has work at an event
@@ -53,7 +53,7 @@ module _ (event : EventId) where
   abbrev whole : PlanView → Work → Bool → Machine → Machine
   whole plan work kept s = do_after plan kept work (handled plan (do_before plan work s))
 
-  module _ (old : CoreView) (room : IsSound old.room (after_taken old.plan event old.machine)) (work : Work) (work_is : work ≡ work_of old.plan event)
+  module _ (old : CoreView) (room : IsWithin old.room (after_taken old.plan event old.machine)) (work : Work) (work_is : work ≡ work_of old.plan event)
       (ready : CoreView) (ready_is : ready ≡ follow (do_before old.plan work) old) where
     pub ready-handles : HasHandlers ready
     ready-handles = subst HasHandlers (sym ready_is) refl
@@ -62,16 +62,16 @@ module _ (event : EventId) where
       whole-is : whole old.plan work kept old.machine ≡ after_taken old.plan event old.machine
       whole-is = search rules
 
-      room-handled : IsSound old.room (handled old.plan (do_before old.plan work old.machine))
+      room-handled : IsWithin old.room (handled old.plan (do_before old.plan work old.machine))
       room-handled = search (rules, room-before, grows-does, does-after, whole-is)
 
-      pub before-room : IsSound old.room (do_before old.plan work old.machine)
+      pub before-room : IsWithin old.room (do_before old.plan work old.machine)
       before-room =
           let opened = do_before old.plan work old.machine in
           room-before old.room opened (handled old.plan opened) (all_do-grows (do_handler old.plan) (handler-grows old.plan) (in_order old.plan (running_of opened.modes) event) opened) room-handled
 
-      pub ready-room : IsSound ready.room (handled ready.plan ready.machine)
-      ready-room = subst (λ (c : CoreView). IsSound c.room (handled c.plan c.machine)) (sym ready_is) room-handled
+      pub ready-room : IsWithin ready.room (handled ready.plan ready.machine)
+      ready-room = subst (λ (c : CoreView). IsWithin c.room (handled c.plan c.machine)) (sym ready_is) room-handled
 
       module _ (then : CoreView) (then_is : then ≡ after (all_do (do_handler ready.plan) (in_order ready.plan (running_of ready.machine.modes) event)) ready) where
         pub then-handles : HasHandlers then
@@ -83,7 +83,7 @@ module _ (event : EventId) where
         then-work : work ≡ work_of then.plan event
         then-work = work_is ∙ ap (λ (p : PlanView). work_of p event) (sym then-plan)
 
-        pub then-room : IsSound then.room (do_after then.plan kept (work_of then.plan event) then.machine)
+        pub then-room : IsWithin then.room (do_after then.plan kept (work_of then.plan event) then.machine)
         then-room = search rules
 
         work-is : (last : CoreView) → last ≡ follow (do_after then.plan kept work) then → last ≡ follow (after_taken old.plan event) old

@@ -89,15 +89,15 @@ IsPlayable c (Alarm at source) = (at < 2 ^ 40) × (next_alarm c.machine ≡ Some
 IsPlayable c (Wait at) = at < 2 ^ 40
 
 -- what waits and what was written fits, no booking was left out, and fewer than 2^32 balls are known
-pub record IsSound (room : ℕ) (s : Machine) : Type 0 where
+pub record IsWithin (room : ℕ) (s : Machine) : Type 0 where
   pub waiting : length s.waiting ≤ room
   pub lines : length s.lines ≤ room
   pub kept : s.bookings_left_out ≡ 0
   pub few : s.ledger.known < 2 ^ 32
 
--- the machine is sound after each number of event steps in plan order
+-- the machine stays within these bounds after each number of event steps in plan order
 abbrev pub StaysWithin : CoreView → Type 0
-StaysWithin c = (n : ℕ) → IsSound c.room (plan_steps c.plan n c.machine)
+StaysWithin c = (n : ℕ) → IsWithin c.room (plan_steps c.plan n c.machine)
 
 -- so many event steps in plan order that nothing waits any more
 pub record HasSettled (old new : CoreView) : Type 0 where

@@ -1,4 +1,4 @@
--- What is kept while another device is told of an action, or not.
+-- What stays as it is while actions run, whether they tell another device or nobody.
 use Rattle.std.specs.Prelude.{◌≡◌, length}
 use Rattle.plan_tables.specs.{PlanView.PlanView, declared.devices.Telling.Telling}
 use Rattle.written_machine.specs.{Devices.HasDevices, Machine.Machine, Moves.Grows}

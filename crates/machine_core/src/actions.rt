@@ -1,11 +1,11 @@
-//! The actions of effect lists, where another device is told of them, or not.
+//! The actions of effect lists. A parameter says whether they may tell another device.
 
 ghost use Rattle.std.specs.Prelude.{◌≡◌, ◌<◌, true, length};
 ghost use Rattle.plan_tables.specs.Valid.{HasGame, IsActionWithin, IsTargetThere};
 ghost use Rattle.plan_tables.specs.PlanView.{target_of};
 ghost use Rattle.written_machine.specs.Machine.{add_balls, do_action_by, drain_if, enter_ball};
 ghost use Rattle.machine_core.specs.Balls.{IsTellingThere};
-ghost use Rattle.machine_core.specs.Core.{CanCall, IsSound, after};
+ghost use Rattle.machine_core.specs.Core.{CanCall, IsWithin, after};
 ghost use Rattle.machine_core.specs.Goes.{AlwaysGoes, Tell};
 ghost use Rattle.machine_core.specs.Inside.{IsRare};
 
@@ -23,7 +23,7 @@ pub(crate) trait Tells {
     fn tell<D: Device>(core: &mut Core<'_, D>, telling: Telling)
         requires there { IsTellingThere (length core.old.plan.rows) telling }
         requires calls { CanCall core.old }
-        requires room { IsSound core.old.room (tell core.old.plan telling core.old.machine) }
+        requires room { IsWithin core.old.room (tell core.old.plan telling core.old.machine) }
         ensures { core.new ≡ after (tell core.old.plan telling) core.old };
 }
 
@@ -33,7 +33,7 @@ pub(crate) fn run_by<D: Device, T: Tells>(core: &mut Core<'_, D>, owner: Owner, 
     requires action { IsActionWithin core.old.plan action.now }
     requires goes { AlwaysGoes T.tell }
     requires calls { CanCall core.old }
-    requires room { IsSound core.old.room (do_action_by core.old.plan (T.tell core.old.plan) owner action.now core.old.machine) }
+    requires room { IsWithin core.old.room (do_action_by core.old.plan (T.tell core.old.plan) owner action.now core.old.machine) }
     ensures { core.new ≡ after (do_action_by core.old.plan (T.tell core.old.plan) owner action.now) core.old }
 {
     match *action {
@@ -57,7 +57,7 @@ fn run_rare_by<D: Device, T: Tells>(core: &mut Core<'_, D>, owner: Owner, action
     requires action { IsActionWithin core.old.plan action.now }
     requires goes { AlwaysGoes T.tell }
     requires calls { CanCall core.old }
-    requires room { IsSound core.old.room (do_action_by core.old.plan (T.tell core.old.plan) owner action.now core.old.machine) }
+    requires room { IsWithin core.old.room (do_action_by core.old.plan (T.tell core.old.plan) owner action.now core.old.machine) }
     ensures { core.new ≡ after (do_action_by core.old.plan (T.tell core.old.plan) owner action.now) core.old }
 {
     match *action {
@@ -97,7 +97,7 @@ fn enter<D: Device, T: Tells>(
     requires game { drain ≡ true → HasGame core.old.plan }
     requires goes { AlwaysGoes T.tell }
     requires calls { CanCall core.old }
-    requires room { IsSound core.old.room (enter_ball core.old.plan (T.tell core.old.plan) owner device event drain core.old.machine) }
+    requires room { IsWithin core.old.room (enter_ball core.old.plan (T.tell core.old.plan) owner device event drain core.old.machine) }
     ensures { core.new ≡ after (enter_ball core.old.plan (T.tell core.old.plan) owner device event drain) core.old }
 {
     let awaited = core.awaits(device);
@@ -113,7 +113,7 @@ fn enter<D: Device, T: Tells>(
 /// The event of a ball that drains is posted, where that is to be and a ball is on.
 fn post_drain<D: Device>(core: &mut Core<'_, D>, owner: Owner, drain: bool)
     requires game { drain ≡ true → HasGame core.old.plan }
-    requires room { IsSound core.old.room (drain_if core.old.plan owner drain core.old.machine) }
+    requires room { IsWithin core.old.room (drain_if core.old.plan owner drain core.old.machine) }
     ensures { core.new ≡ after (drain_if core.old.plan owner drain) core.old }
 {
     if drain && core.is_ball_on() {
@@ -126,7 +126,7 @@ fn post_drain<D: Device>(core: &mut Core<'_, D>, owner: Owner, drain: bool)
 /// wanted.
 fn add_balls<D: Device, T: Tells>(core: &mut Core<'_, D>, balls: u8)
     requires calls { CanCall core.old }
-    requires room { IsSound core.old.room (add_balls (T.tell core.old.plan) balls core.old.machine) }
+    requires room { IsWithin core.old.room (add_balls (T.tell core.old.plan) balls core.old.machine) }
     ensures { core.new ≡ after (add_balls (T.tell core.old.plan) balls) core.old }
 {
     let missing = core.add_balls(balls);

@@ -6,7 +6,7 @@ ghost use Rattle.plan_tables.specs.Valid.{IsActionWithin};
 ghost use Rattle.device_objects.specs.declared.state.DeviceState.{DeviceState as DeviceStateValue};
 ghost use Rattle.device_objects.specs.Laws.{MayCome};
 ghost use Rattle.written_machine.specs.Machine.{all_do, device_at, do_action, call_device, call_devices};
-ghost use Rattle.machine_core.specs.Core.{CanCall, IsSound, after};
+ghost use Rattle.machine_core.specs.Core.{CanCall, IsWithin, after};
 
 use crate::actions::Tells;
 use crate::core_state::Core;
@@ -20,7 +20,7 @@ pub(crate) fn call_devices<D: Device>(core: &mut Core<'_, D>, mode: ModeId, call
     requires mode { mode.0 < length core.old.plan.modes }
     requires call { (state : DeviceStateValue) → MayCome call state }
     requires calls { CanCall core.old }
-    requires room { IsSound core.old.room (call_devices core.old.plan call mode core.old.machine) }
+    requires room { IsWithin core.old.room (call_devices core.old.plan call mode core.old.machine) }
     ensures { core.new ≡ after (call_devices core.old.plan call mode) core.old }
 {
     let rows = core.plan().rows_of_mode(mode);
@@ -34,7 +34,7 @@ pub(crate) fn call_device<D: Device>(core: &mut Core<'_, D>, row: RowId, call: C
     requires row { row.0 < length core.old.plan.rows }
     requires may { MayCome call (device_at core.old.machine row) }
     requires calls { CanCall core.old }
-    requires room { IsSound core.old.room (call_device core.old.plan call row core.old.machine) }
+    requires room { IsWithin core.old.room (call_device core.old.plan call row core.old.machine) }
     ensures { core.new ≡ after (call_device core.old.plan call row) core.old }
 {
     call_by::<D, TellsFirst>(core, row, call);
@@ -57,7 +57,7 @@ impl Tells for TellsFirst {
 pub(crate) fn run_actions<D: Device>(core: &mut Core<'_, D>, owner: Owner, actions: &[Action])
     requires actions { All (IsActionWithin core.old.plan) actions.now }
     requires calls { CanCall core.old }
-    requires room { IsSound core.old.room (all_do (do_action core.old.plan owner) actions.now core.old.machine) }
+    requires room { IsWithin core.old.room (all_do (do_action core.old.plan owner) actions.now core.old.machine) }
     ensures { core.new ≡ after (all_do (do_action core.old.plan owner) actions.now) core.old }
 {
     actions_by::<D, TellsFirst>(core, owner, actions);

@@ -25,7 +25,7 @@ ghost use Rattle.machine_core.specs.Balls.{IsThere, ledger_call};
 ghost use Rattle.machine_core.specs.Core.{played, IsWorkOfGame};
 ghost use Rattle.written_machine.specs.NextAlarm.{next_alarm, is_due_by, first_of};
 ghost use Rattle.written_machine.specs.Run.{switch as of_switch, device as of_device};
-ghost use Rattle.machine_core.specs.Core.{IsSound, IsWhole, TakesFirst, after};
+ghost use Rattle.machine_core.specs.Core.{IsWithin, IsWhole, TakesFirst, after};
 ghost use Rattle.machine_core.specs.Stimuli.{alarm_view};
 ghost use Rattle.machine_core.specs.Stopping.{stopped_state};
 
@@ -457,7 +457,7 @@ impl<'p, D: Device> Core<'p, D> {
         event: EventId,
     )
         requires variable { variable.0 < length self.old.plan.variables }
-        requires room { IsSound self.old.room (change_variable self.old.plan owner variable action number event self.old.machine) }
+        requires room { IsWithin self.old.room (change_variable self.old.plan owner variable action number event self.old.machine) }
         ensures { self.new ≡ after (change_variable self.old.plan owner variable action number event) self.old }
     {
         let player = self.players.current();
@@ -470,7 +470,7 @@ impl<'p, D: Device> Core<'p, D> {
     /// The ledger books this, which it may, and the line of it is written.
     pub(crate) fn book(&mut self, owner: Owner, call: BallCall)
         requires there { IsThere (length self.old.plan.rows) (ledger_call call) }
-        requires room { IsSound self.old.room (book owner (ledger_call call) self.old.machine) }
+        requires room { IsWithin self.old.room (book owner (ledger_call call) self.old.machine) }
         ensures { self.new ≡ after (book owner (ledger_call call)) self.old }
     {
         let booking = book(&mut self.ledger, call);

@@ -1,4 +1,4 @@
-//! What is done where a ball has drained.
+//! What is done when a ball has drained.
 
 ghost use Rattle.std.specs.Prelude.{◌≡◌, ◌<◌, ◌&&◌, IfSome, length};
 ghost use Rattle.plan_tables.specs.PlanView.{is_save, multiball_rows, row_at};
@@ -7,7 +7,7 @@ ghost use Rattle.plan_tables.specs.declared.devices.Act.TheVariants.{End};
 ghost use Rattle.device_objects.specs.declared.device.Call.TheVariants as calls;
 ghost use Rattle.written_machine.specs.Machine.{all_do, call_device, device_at, end_multiballs, first_active_save, is_active_save};
 ghost use Rattle.written_machine.specs.Devices.{HasDevices};
-ghost use Rattle.machine_core.specs.Core.{CanCall, IsSound, after};
+ghost use Rattle.machine_core.specs.Core.{CanCall, IsWithin, after};
 ghost use Rattle.machine_core.specs.Balls.{drain_now};
 
 use crate::calls::call_device;
@@ -21,7 +21,7 @@ use plan_tables::{Act, GameEvent, RowId};
 pub(crate) fn drain_ball<D: Device>(core: &mut Core<'_, D>)
     requires game { HasGame core.old.plan }
     requires calls { CanCall core.old }
-    requires room { IsSound core.old.room (drain_now core.old.plan core.old.machine) }
+    requires room { IsWithin core.old.room (drain_now core.old.plan core.old.machine) }
     ensures { core.new ≡ after (drain_now core.old.plan) core.old }
 {
     match first_active_save(core) {
@@ -75,7 +75,7 @@ fn is_active_save(state: &DeviceState) -> bool
 /// Where only one ball is left in play, the multiballs end.
 fn end_multiballs<D: Device>(core: &mut Core<'_, D>)
     requires calls { CanCall core.old }
-    requires room { IsSound core.old.room (end_multiballs core.old.plan core.old.machine) }
+    requires room { IsWithin core.old.room (end_multiballs core.old.plan core.old.machine) }
     ensures { core.new ≡ after (end_multiballs core.old.plan) core.old }
 {
     if core.in_play() == 1 {
@@ -86,7 +86,7 @@ fn end_multiballs<D: Device>(core: &mut Core<'_, D>)
 /// Each multiball ends, in the order of the rows.
 fn end_each<D: Device>(core: &mut Core<'_, D>)
     requires calls { CanCall core.old }
-    requires room { IsSound core.old.room (all_do (call_device core.old.plan (calls.Act End)) (multiball_rows core.old.plan) core.old.machine) }
+    requires room { IsWithin core.old.room (all_do (call_device core.old.plan (calls.Act End)) (multiball_rows core.old.plan) core.old.machine) }
     ensures { core.new ≡ after (all_do (call_device core.old.plan (calls.Act End)) (multiball_rows core.old.plan)) core.old }
 {
     let plan = core.plan();

@@ -3,7 +3,7 @@
 ghost use Rattle.std.specs.Prelude.{◌≡◌};
 ghost use Rattle.plan_tables.specs.Valid.{HasGame};
 ghost use Rattle.written_machine.specs.Machine.{all_do, ask_ball, post_game, step_game, write_finals};
-ghost use Rattle.machine_core.specs.Core.{CanCall, IsSound, after};
+ghost use Rattle.machine_core.specs.Core.{CanCall, IsWithin, after};
 
 use crate::core_state::Core;
 use crate::tellings::tell;
@@ -14,7 +14,7 @@ use plan_tables::{GameEvent, Owner, Telling};
 pub(crate) fn step_game<D: Device>(core: &mut Core<'_, D>, event: GameEvent)
     requires game { HasGame core.old.plan }
     requires calls { CanCall core.old }
-    requires room { IsSound core.old.room (step_game core.old.plan event core.old.machine) }
+    requires room { IsWithin core.old.room (step_game core.old.plan event core.old.machine) }
     ensures { core.new ≡ after (step_game core.old.plan event) core.old }
 {
     let work = core.play(event);
@@ -26,7 +26,7 @@ pub(crate) fn step_game<D: Device>(core: &mut Core<'_, D>, event: GameEvent)
 /// One ball more is wanted, where that is so.
 fn ask_ball<D: Device>(core: &mut Core<'_, D>, asks: bool)
     requires calls { CanCall core.old }
-    requires room { IsSound core.old.room (ask_ball core.old.plan asks core.old.machine) }
+    requires room { IsWithin core.old.room (ask_ball core.old.plan asks core.old.machine) }
     ensures { core.new ≡ after (ask_ball core.old.plan asks) core.old }
 {
     if asks {
@@ -36,7 +36,7 @@ fn ask_ball<D: Device>(core: &mut Core<'_, D>, asks: bool)
 
 /// The scores of all players are told, where that is so.
 fn tell_scores<D: Device>(core: &mut Core<'_, D>, tells: bool)
-    requires { IsSound core.old.room (write_finals core.old.plan tells core.old.machine) }
+    requires { IsWithin core.old.room (write_finals core.old.plan tells core.old.machine) }
     ensures { core.new ≡ after (write_finals core.old.plan tells) core.old }
 {
     if !tells {
@@ -50,7 +50,7 @@ fn tell_scores<D: Device>(core: &mut Core<'_, D>, tells: bool)
 /// The machine posts these events of the game.
 fn post_game<D: Device>(core: &mut Core<'_, D>, events: &[GameEvent])
     requires game { HasGame core.old.plan }
-    requires room { IsSound core.old.room (all_do (post_game core.old.plan) events.now core.old.machine) }
+    requires room { IsWithin core.old.room (all_do (post_game core.old.plan) events.now core.old.machine) }
     ensures { core.new ≡ after (all_do (post_game core.old.plan) events.now) core.old }
 {
     let plan = core.plan();

@@ -1,4 +1,4 @@
-//! The effect lists that a device answers to a call, where another device is told of them, or not.
+//! The effect lists that a device answers to a call. A parameter says whether they may tell another device.
 
 ghost use Rattle.std.specs.Prelude.{◌≡◌, ◌<◌, length};
 ghost use Rattle.std.specs.List.{All};
@@ -7,7 +7,7 @@ ghost use Rattle.plan_tables.specs.PlanView.{row_at};
 ghost use Rattle.plan_tables.specs.Valid.{IsActionWithin};
 ghost use Rattle.device_objects.specs.Laws.{MayCome};
 ghost use Rattle.written_machine.specs.Machine.{all_do, call_device_by, device_at, do_action_by, do_answer_by};
-ghost use Rattle.machine_core.specs.Core.{CanCall, IsSound, after};
+ghost use Rattle.machine_core.specs.Core.{CanCall, IsWithin, after};
 ghost use Rattle.machine_core.specs.Goes.{AlwaysGoes};
 
 use crate::actions::{Tells, run_by};
@@ -21,7 +21,7 @@ pub(crate) fn call_by<D: Device, T: Tells>(core: &mut Core<'_, D>, row: RowId, c
     requires may { MayCome call (device_at core.old.machine row) }
     requires goes { AlwaysGoes T.tell }
     requires calls { CanCall core.old }
-    requires room { IsSound core.old.room (call_device_by core.old.plan (T.tell core.old.plan) call row core.old.machine) }
+    requires room { IsWithin core.old.room (call_device_by core.old.plan (T.tell core.old.plan) call row core.old.machine) }
     ensures { core.new ≡ after (call_device_by core.old.plan (T.tell core.old.plan) call row) core.old }
 {
     let lists = core.call(row, call);
@@ -34,7 +34,7 @@ fn lists_by<D: Device, T: Tells>(core: &mut Core<'_, D>, row: RowId, lists: &[u1
     requires lists { All (λ list. list < list_count (row_at core.old.plan row).settings) lists.now }
     requires goes { AlwaysGoes T.tell }
     requires calls { CanCall core.old }
-    requires room { IsSound core.old.room (do_answer_by core.old.plan (T.tell core.old.plan) row lists.now core.old.machine) }
+    requires room { IsWithin core.old.room (do_answer_by core.old.plan (T.tell core.old.plan) row lists.now core.old.machine) }
     ensures { core.new ≡ after (do_answer_by core.old.plan (T.tell core.old.plan) row lists.now) core.old }
 {
     let plan = core.plan();
@@ -53,7 +53,7 @@ pub(crate) fn actions_by<D: Device, T: Tells>(
     requires actions { All (IsActionWithin core.old.plan) actions.now }
     requires goes { AlwaysGoes T.tell }
     requires calls { CanCall core.old }
-    requires room { IsSound core.old.room (all_do (do_action_by core.old.plan (T.tell core.old.plan) owner) actions.now core.old.machine) }
+    requires room { IsWithin core.old.room (all_do (do_action_by core.old.plan (T.tell core.old.plan) owner) actions.now core.old.machine) }
     ensures { core.new ≡ after (all_do (do_action_by core.old.plan (T.tell core.old.plan) owner) actions.now) core.old }
 {
     for action in actions {

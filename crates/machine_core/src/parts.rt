@@ -12,7 +12,7 @@ ghost use Rattle.written_machine.specs.Machine.{all_do, post, post_if, release_b
 ghost use Rattle.written_machine.specs.EventStep.{is_kept, do_before, do_after};
 ghost use Rattle.written_machine.specs.Run.{begin as begun, fire as fired};
 ghost use Rattle.written_machine.specs.NextAlarm.{next_alarm};
-ghost use Rattle.machine_core.specs.Core.{IsWhole, CanCall, HasHandlers, IsWorkOf, IsPlayable, IsSound, StaysWithin, HasSettled, after, follow, after_taken};
+ghost use Rattle.machine_core.specs.Core.{IsWhole, CanCall, HasHandlers, IsWorkOf, IsPlayable, IsWithin, StaysWithin, HasSettled, after, follow, after_taken};
 ghost use Rattle.machine_core.specs.Inside.{kept_at};
 ghost use Rattle.machine_core.specs.Stimuli.{source_view, stimulus_view};
 
@@ -37,11 +37,12 @@ use written_machine::Happening;
 /// before that of the latest stimulus, or past an alarm.
 ///
 /// There has to be room for what it leaves: the events that wait and the lines. Those of the latest
-/// stimulus are gone, and the lines are those of this one.
+/// stimulus are gone, and the lines are those of this one. It has to leave no booking out, and to
+/// leave fewer than 2^32 balls known.
 pub fn begin<D: Device>(core: &mut Core<'_, D>, stimulus: Stimulus)
     requires core { IsWhole core.old }
     requires playable { IsPlayable core.old (stimulus_view stimulus) }
-    requires room { IsSound core.old.room (begun core.old.plan (stimulus_view stimulus) core.old.machine) }
+    requires room { IsWithin core.old.room (begun core.old.plan (stimulus_view stimulus) core.old.machine) }
     ensures { core.new ≡ after (begun core.old.plan (stimulus_view stimulus)) core.old }
 {
     core.arrive(stimulus.moment());
@@ -58,7 +59,7 @@ fn change<D: Device>(core: &mut Core<'_, D>, at: u64, switch: SwitchId, level: b
     requires moment { core.old.machine.moment < 2 ^ 40 }
     requires switch { switch.0 < length core.old.plan.switches }
     requires core { IsWhole core.old }
-    requires room { IsSound core.old.room (change_switch core.old.plan at switch level core.old.machine) }
+    requires room { IsWithin core.old.room (change_switch core.old.plan at switch level core.old.machine) }
     ensures { core.new ≡ after (change_switch core.old.plan at switch level) core.old }
 {
     if let Some(change) = core.change(at, switch, level) {
@@ -71,7 +72,7 @@ fn fire<D: Device>(core: &mut Core<'_, D>, source: Source)
     requires core { IsWhole core.old }
     requires moment { core.old.machine.moment < 2 ^ 40 }
     requires next { option_map (λ a. a.1) (next_alarm core.old.machine) ≡ Some (source_view source) }
-    requires room { IsSound core.old.room (fired core.old.plan (source_view source) core.old.machine) }
+    requires room { IsWithin core.old.room (fired core.old.plan (source_view source) core.old.machine) }
     ensures { core.new ≡ after (fired core.old.plan (source_view source)) core.old }
 {
     match source {
@@ -88,7 +89,7 @@ fn fire<D: Device>(core: &mut Core<'_, D>, source: Source)
 fn run_accepted<D: Device>(core: &mut Core<'_, D>, change: Change)
     requires switch { change.switch.0 < length core.old.plan.switches }
     requires calls { CanCall core.old }
-    requires room { IsSound core.old.room (do_accepted core.old.plan change core.old.machine) }
+    requires room { IsWithin core.old.room (do_accepted core.old.plan change core.old.machine) }
     ensures { core.new ≡ after (do_accepted core.old.plan change) core.old }
 {
     let Change { switch, active } = change;
@@ -103,7 +104,7 @@ fn run_accepted<D: Device>(core: &mut Core<'_, D>, change: Change)
 fn tell_listeners<D: Device>(core: &mut Core<'_, D>, active: bool, listeners: &[Listener])
     requires listeners { All (IsListenerWithin (length core.old.plan.rows)) listeners.now }
     requires calls { CanCall core.old }
-    requires room { IsSound core.old.room (all_do (tell_listener core.old.plan active) listeners.now core.old.machine) }
+    requires room { IsWithin core.old.room (all_do (tell_listener core.old.plan active) listeners.now core.old.machine) }
     ensures { core.new ≡ after (all_do (tell_listener core.old.plan active) listeners.now) core.old }
 {
     for listener in listeners {
@@ -115,7 +116,7 @@ fn tell_listeners<D: Device>(core: &mut Core<'_, D>, active: bool, listeners: &[
 fn confirm_on_playfield<D: Device>(core: &mut Core<'_, D>, change: Change)
     requires switch { change.switch.0 < length core.old.plan.switches }
     requires calls { CanCall core.old }
-    requires room { IsSound core.old.room (confirm_on_playfield core.old.plan change core.old.machine) }
+    requires room { IsWithin core.old.room (confirm_on_playfield core.old.plan change core.old.machine) }
     ensures { core.new ≡ after (confirm_on_playfield core.old.plan change) core.old }
 {
     if change.active && core.plan().confirms_playfield(change.switch) {
@@ -124,7 +125,7 @@ fn confirm_on_playfield<D: Device>(core: &mut Core<'_, D>, change: Change)
 }
 
 fn post_each<D: Device>(core: &mut Core<'_, D>, owner: Owner, events: &[EventId])
-    requires { IsSound core.old.room (all_do (post owner) events.now core.old.machine) }
+    requires { IsWithin core.old.room (all_do (post owner) events.now core.old.machine) }
     ensures { core.new ≡ after (all_do (post owner) events.now) core.old }
 {
     for event in events {
@@ -134,7 +135,7 @@ fn post_each<D: Device>(core: &mut Core<'_, D>, owner: Owner, events: &[EventId]
 
 /// Takes event steps, in plan order, as long as an event waits. The core has the handlers of the
 /// modes that run, and its devices can be called. There has to be room for what each number of steps
-/// leaves.
+/// leaves, and each has to leave no booking out, and fewer than 2^32 balls known.
 ///
 /// No event waits then. The core again has the handlers of the modes that run, and its devices can
 /// be called.
@@ -157,7 +158,7 @@ pub fn settle<D: Device>(core: &mut Core<'_, D>)
 fn take_step<D: Device>(core: &mut Core<'_, D>, event: EventId)
     requires handlers { HasHandlers core.old }
     requires calls { CanCall core.old }
-    requires room { IsSound core.old.room (after_taken core.old.plan event core.old.machine) }
+    requires room { IsWithin core.old.room (after_taken core.old.plan event core.old.machine) }
     ensures { core.new ≡ follow (after_taken core.old.plan event) core.old }
 {
     let kept = work_before(core, event);
@@ -183,7 +184,7 @@ fn work_of(plan: &Plan, event: EventId) -> Work
 fn work_before<D: Device>(core: &mut Core<'_, D>, event: EventId) -> Option<bool>
     requires handlers { HasHandlers core.old }
     requires calls { CanCall core.old }
-    requires room { IsSound core.old.room (do_before core.old.plan (work_of core.old.plan event) core.old.machine) }
+    requires room { IsWithin core.old.room (do_before core.old.plan (work_of core.old.plan event) core.old.machine) }
     ensures done { core.new ≡ follow (do_before core.old.plan (work_of core.old.plan event)) core.old }
     ensures kept { result ≡ kept_at (work_of core.old.plan event) core.old.machine }
 {
@@ -200,7 +201,7 @@ fn mode_before<D: Device>(core: &mut Core<'_, D>, mode: ModeId, which: ModeEvent
     requires mode { mode.0 < length core.old.plan.modes }
     requires handlers { HasHandlers core.old }
     requires calls { CanCall core.old }
-    requires room { IsSound core.old.room (do_before core.old.plan (works.Mode mode which) core.old.machine) }
+    requires room { IsWithin core.old.room (do_before core.old.plan (works.Mode mode which) core.old.machine) }
     ensures done { core.new ≡ follow (do_before core.old.plan (works.Mode mode which)) core.old }
     ensures kept { result ≡ is_kept (works.Mode mode which) core.old.machine }
 {
@@ -218,7 +219,7 @@ fn mode_before<D: Device>(core: &mut Core<'_, D>, mode: ModeId, which: ModeEvent
 fn work_after<D: Device>(core: &mut Core<'_, D>, kept: bool, event: EventId)
     requires handlers { HasHandlers core.old }
     requires calls { CanCall core.old }
-    requires room { IsSound core.old.room (do_after core.old.plan kept (work_of core.old.plan event) core.old.machine) }
+    requires room { IsWithin core.old.room (do_after core.old.plan kept (work_of core.old.plan event) core.old.machine) }
     ensures { core.new ≡ follow (do_after core.old.plan kept (work_of core.old.plan event)) core.old }
 {
     match work_of(core.plan(), event) {
@@ -233,7 +234,7 @@ fn mode_after<D: Device>(core: &mut Core<'_, D>, kept: bool, mode: ModeId, which
     requires mode { mode.0 < length core.old.plan.modes }
     requires handlers { HasHandlers core.old }
     requires calls { CanCall core.old }
-    requires room { IsSound core.old.room (do_after core.old.plan kept (works.Mode mode which) core.old.machine) }
+    requires room { IsWithin core.old.room (do_after core.old.plan kept (works.Mode mode which) core.old.machine) }
     ensures { core.new ≡ follow (do_after core.old.plan kept (works.Mode mode which)) core.old }
 {
     let events = core.plan().mode(mode).events;
@@ -259,7 +260,7 @@ fn mode_after<D: Device>(core: &mut Core<'_, D>, kept: bool, mode: ModeId, which
 fn play<D: Device>(core: &mut Core<'_, D>, event: GameEvent)
     requires game { HasGame core.old.plan }
     requires calls { CanCall core.old }
-    requires room { IsSound core.old.room (do_game core.old.plan event core.old.machine) }
+    requires room { IsWithin core.old.room (do_game core.old.plan event core.old.machine) }
     ensures { core.new ≡ after (do_game core.old.plan event) core.old }
 {
     if is_drain(event) {
@@ -274,7 +275,7 @@ fn play<D: Device>(core: &mut Core<'_, D>, event: GameEvent)
 fn handle<D: Device>(core: &mut Core<'_, D>, event: EventId)
     requires handlers { HasHandlers core.old }
     requires calls { CanCall core.old }
-    requires room { IsSound core.old.room (all_do (do_handler core.old.plan) (in_order core.old.plan (running_of core.old.machine.modes) event) core.old.machine) }
+    requires room { IsWithin core.old.room (all_do (do_handler core.old.plan) (in_order core.old.plan (running_of core.old.machine.modes) event) core.old.machine) }
     ensures { core.new ≡ after (all_do (do_handler core.old.plan) (in_order core.old.plan (running_of core.old.machine.modes) event)) core.old }
 {
     let plan = core.plan();
@@ -289,7 +290,7 @@ fn handle<D: Device>(core: &mut Core<'_, D>, event: EventId)
 fn run_binding<D: Device>(core: &mut Core<'_, D>, binding: Binding)
     requires binding { IsBindingWithin core.old.plan binding }
     requires calls { CanCall core.old }
-    requires room { IsSound core.old.room (do_binding core.old.plan binding core.old.machine) }
+    requires room { IsWithin core.old.room (do_binding core.old.plan binding core.old.machine) }
     ensures { core.new ≡ after (do_binding core.old.plan binding) core.old }
 {
     if core.meets(binding.condition) {
@@ -300,7 +301,7 @@ fn run_binding<D: Device>(core: &mut Core<'_, D>, binding: Binding)
 fn run_target<D: Device>(core: &mut Core<'_, D>, owner: Owner, target: Target)
     requires target { IsTargetWithin core.old.plan target }
     requires calls { CanCall core.old }
-    requires room { IsSound core.old.room (do_target core.old.plan owner target core.old.machine) }
+    requires room { IsWithin core.old.room (do_target core.old.plan owner target core.old.machine) }
     ensures { core.new ≡ after (do_target core.old.plan owner target) core.old }
 {
     match target {
@@ -317,7 +318,7 @@ fn run_target<D: Device>(core: &mut Core<'_, D>, owner: Owner, target: Target)
 /// A mode is told to start.
 fn start<D: Device>(core: &mut Core<'_, D>, mode: ModeId)
     requires mode { mode.0 < length core.old.plan.modes }
-    requires room { IsSound core.old.room (start_mode core.old.plan mode core.old.machine) }
+    requires room { IsWithin core.old.room (start_mode core.old.plan mode core.old.machine) }
     ensures { core.new ≡ after (start_mode core.old.plan mode) core.old }
 {
     let plan = core.plan();
@@ -331,7 +332,7 @@ fn start<D: Device>(core: &mut Core<'_, D>, mode: ModeId)
 /// A mode has stopped, and lets go of the end of the ball, which then may end.
 fn release_ball_end<D: Device>(core: &mut Core<'_, D>, mode: ModeId)
     requires mode { mode.0 < length core.old.plan.modes }
-    requires room { IsSound core.old.room (release_ball_end core.old.plan mode core.old.machine) }
+    requires room { IsWithin core.old.room (release_ball_end core.old.plan mode core.old.machine) }
     ensures { core.new ≡ after (release_ball_end core.old.plan mode) core.old }
 {
     let plan = core.plan();
@@ -345,7 +346,7 @@ fn release_ball_end<D: Device>(core: &mut Core<'_, D>, mode: ModeId)
 /// A mode is told to stop.
 fn stop<D: Device>(core: &mut Core<'_, D>, mode: ModeId)
     requires mode { mode.0 < length core.old.plan.modes }
-    requires room { IsSound core.old.room (stop_mode core.old.plan mode core.old.machine) }
+    requires room { IsWithin core.old.room (stop_mode core.old.plan mode core.old.machine) }
     ensures { core.new ≡ after (stop_mode core.old.plan mode) core.old }
 {
     let events = core.plan().mode(mode).events;
@@ -355,7 +356,7 @@ fn stop<D: Device>(core: &mut Core<'_, D>, mode: ModeId)
 
 /// The machine posts the event, where that is so.
 fn post_if<D: Device>(core: &mut Core<'_, D>, posts: bool, event: EventId)
-    requires { IsSound core.old.room (post_if posts event core.old.machine) }
+    requires { IsWithin core.old.room (post_if posts event core.old.machine) }
     ensures { core.new ≡ after (post_if posts event) core.old }
 {
     if posts {
@@ -366,7 +367,7 @@ fn post_if<D: Device>(core: &mut Core<'_, D>, posts: bool, event: EventId)
 /// The coils that an owner holds are put off, in the order of their numbers.
 fn release_coils<D: Device>(core: &mut Core<'_, D>, owner: Owner)
     requires coils { length core.old.machine.coils ≡ length core.old.plan.coils }
-    requires room { IsSound core.old.room (release_coils core.old.plan owner core.old.machine) }
+    requires room { IsWithin core.old.room (release_coils core.old.plan owner core.old.machine) }
     ensures { core.new ≡ after (release_coils core.old.plan owner) core.old }
 {
     while let Some(command) = core.release(owner) {

@@ -1,11 +1,11 @@
-//! What ball devices are told of what happens elsewhere in the machine.
+//! What ball devices are told about the rest of the machine.
 
 ghost use Rattle.std.specs.Prelude.{◌≡◌, ◌<◌, IfSome, length};
 ghost use Rattle.plan_tables.specs.Valid.{IsTargetThere};
 ghost use Rattle.written_machine.specs.Machine.{device_at, first_away, is_device_away, tell_first, told_device};
 ghost use Rattle.written_machine.specs.Devices.{HasDevices};
 ghost use Rattle.machine_core.specs.Balls.{IsTellingThere};
-ghost use Rattle.machine_core.specs.Core.{CanCall, IsSound, after};
+ghost use Rattle.machine_core.specs.Core.{CanCall, IsWithin, after};
 
 use crate::actions::Tells;
 use crate::core_state::Core;
@@ -17,7 +17,7 @@ use plan_tables::{BallTarget, RowId, Telling};
 pub(crate) fn tell<D: Device>(core: &mut Core<'_, D>, telling: Telling)
     requires there { IsTellingThere (length core.old.plan.rows) telling }
     requires calls { CanCall core.old }
-    requires room { IsSound core.old.room (tell_first core.old.plan telling core.old.machine) }
+    requires room { IsWithin core.old.room (tell_first core.old.plan telling core.old.machine) }
     ensures { core.new ≡ after (tell_first core.old.plan telling) core.old }
 {
     if let Some(row) = told_device(core, telling) {

@@ -2,7 +2,7 @@
 //! `WORD QUESTION => ANSWER`. An empty line ends it. In a case `«N TEXT»` is the text N times, with
 //! `#` for the numbers from 1 to N, and `~` for those from N to 1.
 //!
-//! Answers are written with a pen, which needs no `?`: that is slow to prove. Where an allocation is refused, the answer
+//! Answers are written with a pen, which needs no `?`: that is slow to prove. If an allocation is refused, the answer
 //! is `no memory`.
 
 use crate::asserts::assert_text;

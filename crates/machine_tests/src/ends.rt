@@ -15,7 +15,7 @@ use std::cell::Cell;
 use std::rc::Rc;
 use worked_rows::Pen;
 
-/// A counter that notes how many commands the board has taken when it is stopped.
+/// A counter that notes how many commands the board had taken when it was stopped first.
 #[derive(Drop)]
 struct Witness {
     counter: Counter,
@@ -55,7 +55,7 @@ impl Device for Witness {
     }
 
     fn stop(&mut self, now: u64, world: World) -> Outcome {
-        self.seen.set(count_of(&self.taken));
+        self.seen.set(self.seen.get().min(count_of(&self.taken)));
         self.counter.stop(now, world)
     }
 

@@ -1,4 +1,4 @@
--- The first line of a text, without the blanks at its end, and what stands behind it.
+-- The first line of a text, without the blanks at its end, and what comes after it.
 use Rattle.std.proofs.Common.{rules, ◌≡◌, ℕ, ◌==◌, Bool, true, false, ◌&&◌, ◌||◌, List, [], ◌∷◌, ◌++◌, Option, unwrap_or, refl, sym, ap, subst, ◌∙◌, inl, inr}
 use Rattle.std.proofs.lemmas.{Bool.eqb-true, Slice.Eq.bytes_eq-Decides}
 use Rattle.yaml_bytes.specs.{Lines.{begins_lf, ends_line}, Scanning.trimmed}

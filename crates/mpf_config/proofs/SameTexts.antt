@@ -1,4 +1,4 @@
--- Texts that are read as they are reached, where the names of those before are kept in a set.
+-- Texts that are read one after the other, while the names of those before are kept in a set.
 use Rattle.std.proofs.Common.{rules, ◌≡◌, ℕ, ◌+◌, ◌<◌, Bool, true, false, not, ◌||◌, if◌then◌else◌, List, [], ◌∷◌, length, drop, get_or, add-one, Option, Result, Ok, refl, sym, ap, ◌∙◌}
 use Rattle.std.{specs.Str.bytes_eq, proofs.{Math.Seq.drop-cons, lemmas.Bool.not-true}}
 use Rattle.yaml_subset.specs.Keys.{is_among}

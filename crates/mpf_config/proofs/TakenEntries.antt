@@ -1,4 +1,4 @@
--- Entries that are taken one after the other, where the keys of those before are kept in a set.
+-- Entries that are taken one after the other, while the keys of those before are kept in a set.
 use Rattle.std.proofs.Common.{rules, ◌≡◌, ℕ, Bool, true, false, not, ◌||◌, if◌then◌else◌, List, [], ◌∷◌, ◌++◌, map, Result, Ok, Err, refl, sym, ap, ◌∙◌}
 use Rattle.std.{specs.Str.bytes_eq, proofs.{lemmas.{List.map-append, Bool.not-true}, Math.Bool.or_assoc}}
 use Rattle.yaml_subset.specs.Keys.{is_among}

@@ -1,4 +1,4 @@
-//! How names and keys are printed: no byte of theirs makes a line of the output.
+//! How names and keys are printed, so that none of their bytes begins a line of the output.
 
 ghost use Rattle.std.specs.Prelude.{◌≡◌, ◌<◌, ℕ, List, false, OnOk};
 ghost use Rattle.std.specs.List.{All, list_any};

@@ -48,8 +48,8 @@ fn read_mode(
     })
 }
 
-/// The same, once none of its entries is taken; or Duplicate at the first that is. They are taken
-/// then, and those of the machine text before.
+/// The same, if none of its entries is taken. The fault is Duplicate at the first that is. They are
+/// taken then, and those of the machine text before.
 #[tactic(auto, unfolding(crate::specs::Reading::new_mode_at))]
 fn read_new_mode(
     alloc: Global,

@@ -33,8 +33,8 @@ const MACHINE_OWNER: &[u8] = b"machine";
 /// The setting that says at what events a mode starts.
 const START_EVENTS: &[u8] = b"start_events";
 
-// Sees that no mode has the name of the machine, or that of an earlier mode; or BadValue at the
-// list, or Duplicate at the later mode.
+// Compares the names of modes. The fault is BadValue at the list if one is the machine's name, and
+// Duplicate at the later of two modes of one name.
 fn compare_modes(alloc: Global, spot: Spot<'_>, modes: &[Name]) -> Result<(), ConfigFault>
     ensures { Passes result (modes_all_new spot.entry modes.now) }
 {
@@ -147,7 +147,7 @@ fn starts_spot<'a>(text: &'a [u8], entry: &(Key, Tree)) -> Spot<'a>
     }
 }
 
-// The section of a key in a text of this kind; or UnknownSection, or the first fault in it.
+// The section of a key in a text of this kind. The fault is UnknownSection, or the first one in it.
 #[tactic(auto, unfolding(crate::specs::Reading::section_at))]
 fn section(
     alloc: Global,
@@ -170,7 +170,7 @@ fn section(
     Ok(Section { name, content })
 }
 
-/// The sections that a tree of the text of this name has; or BadValue where it is no mapping.
+/// The sections that a tree of the text of this name has. The fault is BadValue if it is no mapping.
 #[tactic(auto, unfolding(crate::specs::Reading::sections_in))]
 pub fn sections_in<'a, 't: 'a>(
     alloc: Global,

@@ -1,4 +1,4 @@
-//! Lines where faults stand.
+//! The lines of faults.
 
 ghost use Rattle.std.specs.Prelude.{◌≡◌};
 ghost use Rattle.config_faults.specs.Faults.{spot_view};

@@ -54,7 +54,7 @@ fn take_entry(
     Ok(fresh)
 }
 
-/// Takes the entries of a section; or Duplicate at the first that is not new.
+/// Takes the entries of a section. The fault is Duplicate at the first that is not new.
 fn take_section(
     alloc: Global,
     text: &[u8],
@@ -81,7 +81,7 @@ fn take_section(
     Ok(())
 }
 
-/// Takes the entries of the sections of this text; or Duplicate at the first that is not new.
+/// Takes the entries of the sections of this text. The fault is Duplicate at the first that is not new.
 fn take_entries(
     alloc: Global,
     text: &[u8],
@@ -121,8 +121,8 @@ fn have_entries(sections: &[Section]) -> bool
     false
 }
 
-/// Takes the entries of the text of a mode, which has these sections; or Duplicate at the first that
-/// is not new. Those of the machine text are taken before, once a mode has entries.
+/// Takes the entries of the text of a mode, which has these sections. The fault is Duplicate at the
+/// first that is not new. Those of the machine text are taken before, once a mode has entries.
 pub fn take_beside(
     alloc: Global,
     text: &[u8],

@@ -68,8 +68,8 @@ fn line_ends(front: &[u8]) -> usize
     memchr_iter(b'\n', front).count()
 }
 
-/// The text of a piece of the bundle, which comes after this front of it; or Bundle at the line where
-/// the piece begins. Lines are counted only then.
+/// The text of a piece of the bundle, which comes after this front of it. The fault is Bundle at the
+/// line where the piece begins. Lines are counted only then.
 #[tactic(auto, unfolding(crate::specs::Reading::text_at))]
 fn text_of<'a>(alloc: Global, front: &[u8], piece: &'a [u8]) -> Result<Text<'a>, ConfigFault>
     requires { length front.now ≤ 2 ^ 23 }
@@ -88,8 +88,8 @@ fn text_of<'a>(alloc: Global, front: &[u8], piece: &'a [u8]) -> Result<Text<'a>,
     Ok(Text { name, text })
 }
 
-/// The texts of a bundle, in its order; or Bundle at the first line that is to be `@ NAME` and
-/// is not: the first one, or one that begins with `@`. An empty bundle has no texts.
+/// The texts of a bundle, in its order. The fault is Bundle at the first line that has to be `@ NAME`
+/// and is not: the first one, or one that begins with `@`. An empty bundle has no texts.
 pub fn texts(alloc: Global, bundle: &[u8]) -> Result<Vec<Text<'_>>, ConfigFault>
     requires { length bundle.now ≤ 2 ^ 23 }
     ensures { GivesTexts result (texts_at bundle.now) }
@@ -106,7 +106,7 @@ pub fn texts(alloc: Global, bundle: &[u8]) -> Result<Vec<Text<'_>>, ConfigFault>
     Ok(texts)
 }
 
-/// The machine text, wherever it stands among the texts; or Bundle.
+/// The machine text, wherever it is among the texts. The fault is Bundle if it is not there.
 pub fn machine_text<'a>(alloc: Global, texts: &[Text<'a>]) -> Result<&'a [u8], ConfigFault>
     ensures { GivesBytes result (machine_text_in texts.now) }
 {

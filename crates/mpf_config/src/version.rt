@@ -43,7 +43,7 @@ fn has_version(text: &[u8]) -> bool
     trimmed(line) == VERSION_LINE
 }
 
-/// The tree of the text of this name; or Version, or Yaml with its kind as the key.
+/// The tree of the text of this name. The fault is Version, or Yaml with its kind as the key.
 #[tactic(auto, unfolding(crate::specs::Reading::text_tree_at))]
 pub fn tree_of<'a>(
     alloc: Global,

@@ -1,4 +1,4 @@
--- First uses: each name stands among them once.
+-- First uses: each name is among them once.
 use Rattle.std.proofs.Common.{rules, ◌≡◌, ◌≢◌, ℕ, zero, suc, Bool, true, false, cond, not, List, [], ◌∷◌, filter, sym, ◌∙◌, ap, true≢false, arith}
 use Rattle.std.{specs.{Str.bytes_eq, List.{All, AllPairs}}, proofs.lemmas.Slice.Eq.bytes_eq-Decides}
 use Rattle.std.proofs.lemmas.List.Elements.{All-cons, All-head, All-tail, All-weaker, All-filter, filter_passes}

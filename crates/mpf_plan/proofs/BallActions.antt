@@ -1,4 +1,4 @@
--- What happens with balls is of a row that is there, and a ball may have drained only where there is a game.
+-- What happens with balls is of a row that is there, and a ball may have drained only if there is a game.
 use Rattle.std.proofs.Common.{rules, ◌≡◌, ℕ, ◌+◌, ◌-◌, ◌<◌, ◌≤◌, Bool, true, false, ◌||◌, List, [], ◌∷◌, ◌++◌, length, fold, replicate, refl, sym, ◌∙◌, ap, subst, arith}
 use Rattle.std.specs.{Prelude.{Option, None, option_map, IfSome, is_some}, List.{All, list_any}}
 use Rattle.std.proofs.lemmas.List.{length_push}

@@ -1,4 +1,4 @@
--- What holds of each event that a switch posts and of each action: where it holds of those of contributions, it holds in
+-- What holds of each event that a switch posts and of each action: if it holds of those of contributions, it holds in
 -- their plan.
 use Rattle.std.{proofs.Common.{ℕ, ◌+◌, ◌-◌, List, [], ◌∷◌, ◌++◌, length, fold, replicate, sym, subst}, specs.List.All}
 use Rattle.std.proofs.lemmas.List.Elements.{All-nil, All-push, All-append, All-replicate, All-map, All-head, All-tail, All-from_get_or}

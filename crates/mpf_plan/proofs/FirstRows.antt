@@ -1,4 +1,4 @@
--- Where the first rows use too many events, all rows do.
+-- If the first rows use too many events, all rows do.
 use Rattle.std.proofs.Common.{rules, ◌≡◌, ℕ, true, List, ◌++◌, length, take, drop, nat_lt, Some, sym, ◌∙◌, ap, arith}
 use Rattle.std.proofs.lemmas.{Bool.{lt-ltb, ltb-true}, Grind.flat_map-append, List.{map-append, take-append-drop}}
 use Rattle.mpf_sections.specs.Rows.{SectionRows}

@@ -1,4 +1,4 @@
--- Names noted in turn, each where it comes first.
+-- Names noted in turn, each when it comes first.
 use Rattle.std.proofs.Common.{rules, ◌≡◌, ℕ, Bool, true, false, cond, not, ◌&&◌, ◌||◌, List, [], ◌∷◌, ◌++◌, filter, fold, refl, sym, ◌∙◌, ap}
 use Rattle.std.{specs.{Str.bytes_eq, List.list_any}, proofs.lemmas.Cmp.nat_list_eq_equiv}
 use Rattle.std.proofs.lemmas.List.{append_assoc, append-nil, Folds.list_any-append, Sums.fold-append}

@@ -1,4 +1,4 @@
--- The first table that is above its limit, and the plan where there is none.
+-- The first table that is above its limit, and the plan if there is none.
 use Rattle.std.proofs.Common.{rules, ◌≡◌, ◌<◌, ◌≤◌, ◌⊎◌, inl, ℕ, ◌+◌, ◌==◌, Bool, true, false, cond, not, List, [], ◌∷◌, ◌&&◌, ◌||◌, length, nat_lt, Option, Some, None, refl, sym, ◌∙◌, ap, arith}
 use Rattle.std.{specs.Prelude.{Result, Ok, Err, find}, proofs.lemmas.Bool.{le-ltb, cases_lt, eqb-true, and_parts}}
 use Rattle.std.proofs.lemmas.List.{Elements.All-weaker, Folds.list_any_none}

@@ -1,4 +1,4 @@
--- What each coil of a plan may be sent: what a contribution says of its name last, where each name is given.
+-- What each coil of a plan may be sent: what the last contribution of its name says, if each name is given.
 use Rattle.std.proofs.Common.{rules, ◌≡◌, ℕ, ◌<◌, ◌⊎◌, inl, inr, Bool, true, false, if◌then◌else◌, ◌||◌, List, [], ◌∷◌, length, map, fold, get_or, Option, None, Some, refl, sym, ◌∙◌, ap, true≢false, arith}
 use Rattle.std.specs.{Prelude.unwrap_or, Str.bytes_eq, List.{All, flat_map, list_any}}
 use Rattle.std.proofs.lemmas.List.{length-map, Elements.{All-head, All-tail}, Folds.list_any-append}

@@ -1,4 +1,4 @@
--- Names stand at their numbers.
+-- Each name is at its number.
 use Rattle.std.proofs.Common.{rules, ◌≡◌, ℕ, suc, ◌+◌, ◌<◌, ◌≤◌, ◌⊎◌, inl, inr, Bool, true, false, cond, not, List, [], ◌∷◌, length, get_or, slice_index_or, refl, sym, ap, arith}
 use Rattle.std.specs.{Str.bytes_eq, List.{list_any, position_or_len}}
 use Rattle.std.proofs.lemmas.{Bool.cases_lt, List.Folds.list_any_at, Slice.Eq.bytes_eq-Decides}

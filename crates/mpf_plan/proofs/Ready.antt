@@ -1,5 +1,5 @@
--- Where a contribution speaks of an event whose name it does not use, another contribution uses that name; and what is said
--- of the game is within its limits.
+-- If a contribution speaks of an event whose name it does not use, another one uses that name. What is said of the game
+-- is within its limits.
 use Rattle.std.proofs.Common.{rules, ◌≡◌, ℕ, suc, ◌+◌, ◌<◌, ◌≤◌, Bool, true, false, if◌then◌else◌, List, [], ◌∷◌, ◌++◌, length, map, get_or, codes, refl, ◌∙◌, ap, arith}
 use Rattle.std.specs.{Prelude.{Option, None, Some}, Str.bytes_eq, List.{All, flat_map, list_any}}
 use Rattle.std.proofs.lemmas.{Bool.{or_left, or_right}, Grind.flat_map-append}

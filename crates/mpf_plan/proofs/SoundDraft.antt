@@ -1,4 +1,4 @@
--- What contributions make has entries for all its numbers, where a mode came before what is of one.
+-- What contributions make has entries for all its numbers, if a mode came before what belongs to one.
 use Rattle.std.proofs.Common.{rules, ◌≡◌, ℕ, ◌+◌, ◌-◌, ◌<◌, ◌≤◌, ◌⊎◌, inl, inr, Bool, true, List, [], ◌∷◌, ◌++◌, length, map, fold, get_or, slice_index_or, refl, sym, ◌∙◌, ap, subst, arith}
 use Rattle.std.specs.{Prelude.{Option, None, Some, IfSome, unwrap_or}, List.{All, list_any}}
 use Rattle.std.proofs.lemmas.{Bool.cases_lt, List.Elements.{All-nil, All-push, All-weaker, All-head, All-tail}}

@@ -1,4 +1,4 @@
--- What stands in a plan that is being made, where so many contributions have come.
+-- What is in a plan that is being made, after so many contributions.
 use Rattle.std.proofs.Common.{rules, ◌≡◌, ℕ, ◌+◌, ◌-◌, List, [], ◌∷◌, ◌++◌, length, fold, set, get_or, replicate, Option, None, Some, refl, sym, ◌∙◌, ap, subst, arith}
 use Rattle.std.specs.{Prelude.unwrap_or, List.{flat_map, last_or}}
 use Rattle.std.proofs.lemmas.{Grind.flat_map-append, List.Sums.{sum_by-cons, sum_by_push}}

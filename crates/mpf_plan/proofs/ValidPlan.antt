@@ -1,4 +1,4 @@
--- The plan of rows is valid where its tables are within their limits.
+-- The plan of rows is valid if its tables are within their limits.
 use Rattle.std.proofs.Common.{rules, ◌≡◌, ◌≢◌, ℕ, suc, ◌+◌, ◌-◌, ◌<◌, ◌≤◌, ◌==◌, ◌⊎◌, inl, inr, if◌then◌else◌, Bool, true, false, List, [], ◌∷◌, ◌++◌, length, Option, None, Some, fold, set, get_or, replicate, slice_index_or, refl, sym, ◌∙◌, ap, subst, arith}
 use Rattle.std.specs.{Prelude.Ok, Str.bytes_eq, List.{All, AllPairs, flat_map}}
 use Rattle.std.proofs.lemmas.Bool.{cases_lt, eqb-true, eqb-false}

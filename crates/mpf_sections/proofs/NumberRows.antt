@@ -1,4 +1,4 @@
--- A number or a time of a setting is within the bounds of its table, where its default is.
+-- A number or a time of a setting is within the bounds of its table, if its default is.
 use Rattle.std.proofs.Common.{rules, ◌≡◌, ℕ, ◌^◌, ◌≤◌, nat_lt, nat_le, pos, Bool, true, false, ◌&&◌, Option, Some, None}
 use Rattle.std.proofs.lemmas.Bool.{leb-true, and_parts}
 use Rattle.section_tables.specs.{Rows.Value, EntryOf.within}

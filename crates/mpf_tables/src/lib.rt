@@ -1,4 +1,4 @@
-//! The table of each section: its settings with their kinds, and what holds where a setting is not
+//! The table of each section: its settings with their kinds, and what holds if a setting is not
 //! written.
 //!
 //! [`shape_of`] gives the table of a section in a text of the machine or of a mode.

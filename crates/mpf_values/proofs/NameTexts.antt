@@ -1,4 +1,4 @@
--- Names are told from other texts.
+-- Which texts are names.
 use Rattle.std.proofs.{Common.{rules, ◌≡◌, ℕ, true, false, List, Some, refl, sym}, lemmas.Option.cond_some}
 use Rattle.std.proofs.lemmas.Bool.{and_parts, and_from, eqb-false, ne_eqb, leb-true, le-leb, not-true, not_from_false, both_ways}
 use Rattle.mpf_values.specs.{Names.IsName, Reading.{is_name, name_at}}

@@ -5,7 +5,7 @@ ghost use Rattle.mpf_values.specs.View.{Gives};
 
 use crate::fault::BadValue;
 
-/// The number that a text of digits writes, below 2^64; or BadValue.
+/// The number that a text of digits writes, if it is below 2^64.
 pub fn number(text: &[u8]) -> Result<u64, BadValue>
     ensures { Gives (λ n. n) result (number_at text.now) }
 {

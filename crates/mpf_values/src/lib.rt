@@ -1,6 +1,6 @@
 //! The values of settings: what the text of a setting says.
 //!
-//! Each reader takes the bytes of one scalar and gives its value, or [`BadValue`] exactly where there
+//! Each reader takes the bytes of one scalar and gives its value, or [`BadValue`] exactly if there
 //! is none. The files of `specs/` define what the value of a text is, one for each kind of value. No
 //! reader but [`list`] takes memory.
 #![tactic(auto)]

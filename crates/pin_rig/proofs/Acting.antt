@@ -12,7 +12,7 @@ use Rattle.written_machine.proofs.Reached.{reached-next, reached-within, reached
 use Rattle.written_machine.proofs.Alarms.{has_states-begin, moment-begin, moment-after}
 use Rattle.coil_driver.specs.{Board.after_lines, Driver.{DriverView, IsSendable, HasSent, HasStopped}, Agrees.Agrees}
 use Rattle.coil_driver.proofs.Sending.{cascade-agrees, sent-sendable}
-use Rattle.machine_core.specs.Core.{CoreView, IsWhole, CanCall, HasHandlers, IsPlayable, IsSound, StaysWithin, HasSettled, after}
+use Rattle.machine_core.specs.Core.{CoreView, IsWhole, CanCall, HasHandlers, IsPlayable, IsWithin, StaysWithin, HasSettled, after}
 use Rattle.machine_core.proofs.{Settling.follows-handles, Room.drop-found}
 use Rattle.pin_rig.specs.{declared.input.Input.Input, Inside.IsHeld}
 use Rattle.pin_rig.specs.Rig.{RigView, stimulus_at, RigCascade, RigStep, RigHalt}
@@ -55,7 +55,7 @@ module _ (c : CheckedView) (core : CoreView) (driver : DriverView) (shown : ℕ)
   abbrev begun_core : CoreView
   begun_core = after (begin c.plan stimulus) core
 
-  begun-room : (n : ℕ) → IsSound core.room (plan_steps c.plan n begun)
+  begun-room : (n : ℕ) → IsWithin core.room (plan_steps c.plan n begun)
   begun-room n =
       let within = reached-within c held.accepted held.reached.0 core.machine held.reached.1 stimulus allowed n in
       let room = held.room in
@@ -67,7 +67,7 @@ module _ (c : CheckedView) (core : CoreView) (driver : DriverView) (shown : ℕ)
       }
 
   begun-stays : StaysWithin begun_core
-  begun-stays n = subst (λ (p : PlanView). IsSound core.room (plan_steps p n begun)) (sym held.plan_is) (begun-room n)
+  begun-stays n = subst (λ (p : PlanView). IsWithin core.room (plan_steps p n begun)) (sym held.plan_is) (begun-room n)
 
   -- the same modes run as before
   begun-handles : HasHandlers begun_core
@@ -182,8 +182,8 @@ module _ (c : CheckedView) (core : CoreView) (driver : DriverView) (shown : ℕ)
             held-on (omega (arith, within)) (λ none. absurd (none-some (coil_of part.fault.command) (sym none ∙ part.fault.fault.faulted)))
 
   -- the same, of the core that there is then
-  pub begin-room : IsSound core.room (begin core.plan stimulus core.machine)
-  begin-room = subst (λ (p : PlanView). IsSound core.room (begin p stimulus core.machine)) (sym held.plan_is) (begun-room 0)
+  pub begin-room : IsWithin core.room (begin core.plan stimulus core.machine)
+  begin-room = subst (λ (p : PlanView). IsWithin core.room (begin p stimulus core.machine)) (sym held.plan_is) (begun-room 0)
 
   module _ (now : CoreView) (now_is : now ≡ after (begin core.plan stimulus) core) where
     now-is : now ≡ begun_core

@@ -1,4 +1,4 @@
--- On a board that tells its answers there is one play of a log.
+-- On a board that reports its answers there is one play of a log.
 use Rattle.std.proofs.Common.{rules, ◌≡◌, ◌⊎◌, ℕ, zero, suc, ◌+◌, ◌-◌, ◌<◌, ◌≤◌, Bool, true, false, Option, Some, IsSome, IfSome, List, [], ◌∷◌, ◌++◌, length, take, drop, inl, inr, refl, ap, sym, ◌∙◌, subst, arith, append_assoc, length-append}
 use Rattle.std.{specs.{Str.Lines.lines, Io.KnownBytes.Appends}, proofs.lemmas.Bool.{cases_lt, false≢true}}
 use Rattle.plan_tables.specs.{PlanView.PlanView, declared.entries.CoilId.CoilId}

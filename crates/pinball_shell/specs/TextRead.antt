@@ -1,4 +1,4 @@
--- What contracts say of texts that are read, where their readers tell what they have, and of what is written for them.
+-- What contracts say of texts that are read, if their readers report their bytes, and of what is written for them.
 use Rattle.std.specs.{Prelude.{ℕ, ◌<◌, ◌≤◌, IfSome, Option, List, length}, Io.KnownBytes.Appends}
 
 -- the text has at most so many bytes

@@ -1,4 +1,4 @@
-//! Where a ball device ejects its balls to.
+//! The target of a ball device.
 
 /// Where a ball device ejects its balls to.
 #[derive(Clone, Copy)]

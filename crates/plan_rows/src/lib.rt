@@ -1,7 +1,7 @@
 //! The rows of a configuration in plan order: entries, shots with their seats, groups with what is known of
-//! their shots, ball devices with where they eject their balls to, entries of players, and modes.
+//! their shots, ball devices with their targets, entries of players, and modes.
 //!
-//! A row has all that it needs of other entries, so that what it gives to a plan is by the row alone.
+//! A row has all that it needs of other entries, so that what it gives to a plan follows from the row alone.
 #![tactic(auto)]
 
 pub mod destination;

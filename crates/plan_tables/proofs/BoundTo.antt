@@ -1,4 +1,4 @@
--- The places of what is bound to an event: what stands at them is what is bound to it, in plan order.
+-- The places of what is bound to an event: what is at them is bound to it, in plan order.
 use Rattle.std.proofs.Common.{rules, ◌≡◌, ℕ, suc, ◌+◌, ◌<◌, Bool, true, false, cond, ◌==◌, List, [], ◌∷◌, ◌++◌, length, map, filter, get_or, refl, ◌∙◌, ap, arith}
 use Rattle.std.{specs.List.{All, range_with_len}, proofs.lemmas.{Bool.eqb-true, Simd.map-map}}
 use Rattle.std.proofs.lemmas.List.{map-append, FromFn.{length-range_with_len, get_or-range_with_len}}

@@ -1,4 +1,4 @@
--- What follows where a ball drains, and where balls are added.
+-- What follows when a ball drains, and when balls are added.
 use Rattle.std.proofs.Common.{◌≡◌, ℕ, ◌-◌, ◌==◌, Bool, true, false, if◌then◌else◌, Option, None, Some, [], ◌∷◌, refl, arith}
 use Rattle.std.proofs.lemmas.Bool.{eqb-true}
 use Rattle.plan_tables.specs.PlanView.{PlanView}

@@ -1,4 +1,4 @@
-//! Tables of cases. A row is `TEXT => ANSWER`. In both `¶` stands for LF, and `«N PART»` for the part N
+//! Tables of cases. A row is `TEXT => ANSWER`. In both `¶` is LF, and `«N PART»` for the part N
 //! times: `№` in it for the numbers from 1 to N, and `␣` for as many blanks as there are parts before.
 //!
 //! With an allocation refused, by `rt try --test --fail-alloc N`, a test fails with `no memory`. If it shows a row,

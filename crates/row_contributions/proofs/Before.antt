@@ -1,4 +1,4 @@
--- What holds of contributions, and still where others come before them.
+-- What holds of contributions, and still holds if others come before them.
 use Rattle.std.proofs.Common.{rules, List, [], ◌∷◌, ◌++◌, map, get_or, sym, subst}
 use Rattle.std.specs.{Prelude.{Option, IfSome}, List.{All, flat_map}}
 use Rattle.std.proofs.lemmas.List.{append_assoc, Elements.All-cons}

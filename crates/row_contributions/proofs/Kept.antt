@@ -1,5 +1,5 @@
--- What holds of no contributions, and still where the contributions of one more row come first, holds of all contributions
--- of a configuration.
+-- What holds of no contributions, and still holds if the contributions of one more row come first, holds of all
+-- contributions of a configuration.
 use Rattle.std.proofs.Common.{rules, ◌≡◌, ℕ, zero, suc, ◌+◌, ◌-◌, ◌≤◌, Bool, true, false, if◌then◌else◌, List, [], ◌∷◌, ◌++◌, length, map, get_or, sym, subst, refl, ap, ◌∙◌, codes, arith, length-append}
 use Rattle.std.specs.{Prelude.{Option, None, Some, IfSome, slice_get}, Str.bytes_eq, List.{All, flat_map}}
 use Rattle.std.proofs.lemmas.{List.{append_assoc, append-nil}, Grind.flat_map-append}

@@ -1,5 +1,5 @@
--- What contributions tell that only some of them tell: where none but a coil's and a row's tells any of it, it is the
--- coils and the rows that are told.
+-- A function that gives a list for each contribution, and an empty one for all but coils and rows: what it gives for
+-- all contributions is what it gives for the coils and the rows.
 use Rattle.std.proofs.Common.{rules, ◌≡◌, ℕ, suc, Bool, true, false, if◌then◌else◌, List, [], ◌∷◌, ◌++◌, Option, None, Some, map, refl, ◌∙◌, ap}
 use Rattle.std.{specs.{Str.bytes_eq, List.flat_map}, proofs.lemmas.{Grind.flat_map-append, List.append-nil}}
 use Rattle.mpf_values.specs.Events.{Condition, Event}

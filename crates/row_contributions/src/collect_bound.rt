@@ -1,4 +1,4 @@
-//! What a handled event gives to a plan: a binding, and its condition where it has one.
+//! What a handled event gives to a plan: a binding, and its condition if it has one.
 
 ghost use Rattle.std.specs.Prelude.{OnOk};
 ghost use Rattle.plan_contributions.specs.Gains.{Gains};

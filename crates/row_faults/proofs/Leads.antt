@@ -1,4 +1,4 @@
--- Ball devices by their places lead where they do by their names.
+-- Ball devices lead to the same targets by their places as by their names.
 use Rattle.std.proofs.Common.{rules, ◌≡◌, ◌⊎◌, ℕ, zero, suc, ◌+◌, ◌<◌, ◌==◌, Bool, true, false, cond, ◌||◌, List, length, map, get_or, Option, Some, None, IfSome, unwrap_or, option_map, refl, ap, ◌∙◌, inl, inr, arith}
 use Rattle.std.specs.{List.slice_get, Str.bytes_eq}
 use Rattle.std.proofs.lemmas.{Bool.{eq-eqb, ne_eqb}, List.length-map, Simd.map-map}

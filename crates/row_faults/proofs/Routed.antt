@@ -1,4 +1,4 @@
--- Where nothing is wrong with the ways of balls, they lead to the playfield, and each ball switch is of one device.
+-- If nothing is wrong with the ways of balls, they lead to the playfield, and each ball switch is of one device.
 use Rattle.std.proofs.Common.{rules, ◌≡◌, ◌≢◌, ℕ, suc, ◌≤◌, Bool, false, List, [], ◌∷◌, ◌++◌, sym, ◌∙◌, true≢false, arith}
 use Rattle.std.specs.{List.{All, AllPairs, flat_map}, Str.bytes_eq}
 use Rattle.std.proofs.lemmas.List.{Elements.{All-nil, All-cons, All-weaker}, Kept.AllPairs-cons}

@@ -1,4 +1,4 @@
--- Where a text has no groups, nothing asks for the shots that it defines.
+-- If a text has no groups, nothing asks for the shots that it defines.
 use Rattle.std.proofs.Common.{rules, ◌≡◌, ◌⊎◌, ℕ, Bool, List, [], ◌∷◌, ◌++◌, map, refl, ap, sym, ◌∙◌}
 use Rattle.std.specs.List.{filter, flat_map}
 use Rattle.mpf_sections.specs.{Rows.{Written, SectionRows}, TypedShots.{shots_in, shot_groups_in}}

@@ -1,7 +1,7 @@
 //! Where ball devices send their balls.
 //!
-//! Here a ball device goes by its place among them, from 0. The number after the last place is that
-//! of the playfield, and one more stands for names that no entry defines.
+//! Here the number of a ball device is its place among them, from 0. The number after the last place is
+//! the playfield, and the next one is every name that no entry defines.
 
 ghost use Rattle.std.specs.Prelude.{◌≡◌, ◌<◌, ◌==◌, length, map, get_or, IfOk};
 ghost use Rattle.row_faults.specs.Routes.{leads_to_playfield};

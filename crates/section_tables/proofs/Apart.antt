@@ -1,4 +1,4 @@
--- Names of which none stands twice.
+-- Names of which none comes twice.
 use Rattle.std.proofs.Common.{rules, ◌≡◌, ◌≢◌, ℕ, ◌+◌, ◌-◌, ◌<◌, Bool, true, false, ◌&&◌, ◌||◌, not, List, [], ◌∷◌, length, map, take, drop, length-drop, get_or, refl, sym, ap, ◌∙◌, arith}
 use Rattle.std.specs.{List.{AllPairs, AllByRecursion, IsDistinct, list_any}, Str.bytes_eq}
 use Rattle.std.proofs.lemmas.List.{take_all, drop_more, Elements.All-from_recursion, Folds.list_any_none}

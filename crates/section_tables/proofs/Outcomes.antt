@@ -1,4 +1,4 @@
--- Readings that give what is said, but where it is above the limits.
+-- Readings that give what is said, unless it is above the limits.
 use Rattle.std.{proofs.Common.{rules, ◌≡◌, List, [], ◌∷◌, Result, Ok, refl, subst, inl}, specs.List.AllZip}
 use Rattle.config_faults.specs.Faults.{RowsFault}
 use Rattle.section_tables.specs.Reading.{IsReadOr, ◌>>=◌, each_read}

@@ -1,4 +1,4 @@
--- What stands below a key.
+-- What is below a key.
 use Rattle.std.specs.{Prelude.{ℕ, Bool, List, [], ◌∷◌, Option, Some, None, codes}, List.list_any, Str.bytes_eq}
 use Rattle.yaml_subset.specs.{Node.{Node, Pair}, View.{text_in, items_in, pairs_in}}
 use Rattle.mpf_values.specs.Events.{Event}

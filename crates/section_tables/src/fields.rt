@@ -73,7 +73,7 @@ impl Others {
     }
 }
 
-// Puts the value of a pair into a row; or UnknownSetting, or BadValue.
+// Puts the value of a pair into a row. The fault is UnknownSetting or BadValue.
 fn put(
     alloc: Global,
     spot: Spot<'_>,

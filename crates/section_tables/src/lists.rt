@@ -99,7 +99,7 @@ fn text_items<'a>(
     Ok(items)
 }
 
-// The item that a node of a YAML list is; or BadValue at the spot.
+// The item that a node of a YAML list is. The fault is BadValue at the spot.
 // Inlined like `item_name`.
 #[inline(always)]
 fn node_item<'a>(alloc: Global, spot: Spot<'_>, node: &'a Tree) -> Result<Item<'a>, ConfigFault>
@@ -114,7 +114,7 @@ fn node_item<'a>(alloc: Global, spot: Spot<'_>, node: &'a Tree) -> Result<Item<'
     }
 }
 
-// The name that an item of a list is; or BadValue at the spot.
+// The name that an item of a list is. The fault is BadValue at the spot.
 // Inlined: it is done for each item of a list, and what it answers is large.
 #[inline(always)]
 #[tactic(auto, unfolding(crate::specs::Reading::written_in))]
@@ -128,7 +128,7 @@ fn item_name(alloc: Global, spot: Spot<'_>, item: Item<'_>) -> Result<Name, Conf
     Ok(name)
 }
 
-// The handled event that an item of a list is; or BadValue at the spot.
+// The handled event that an item of a list is. The fault is BadValue at the spot.
 // Inlined like `item_name`.
 #[inline(always)]
 #[tactic(auto, unfolding(crate::specs::Reading::handled_in))]

@@ -1,10 +1,9 @@
-//! What stands below a key: the pairs of a mapping, or the nodes of a YAML list.
+//! What is below a key: the pairs of a mapping, or the nodes of a YAML list.
 //!
-//! A reader that expects a mapping asks [`pairs`] for its pairs, or [`few_pairs`] where it counts as
-//! a list, and one that expects a YAML list asks [`nodes`] for its nodes. Each gets them, or the fault
-//! to report at the key: `BadValue` where the node is something else, and `Limit` where a list is too
-//! long. The empty text, as where nothing is written behind a key, is taken for a mapping without
-//! pairs and for a list without nodes.
+//! A reader that expects a mapping asks [`pairs`] for its pairs, or [`few_pairs`] if it counts as a
+//! list. One that expects a YAML list asks [`nodes`] for its nodes. Each gets them, or the fault to
+//! report at the key: `BadValue` if the node is something else, and `Limit` if a list is too long. If
+//! nothing is written after a key, that is a mapping without pairs and a list without nodes.
 
 ghost use Rattle.std.specs.Prelude.{◌≡◌, [], map};
 ghost use Rattle.yaml_subset.specs.View.{node_view, pair_view, option_slice};
@@ -72,7 +71,7 @@ fn nodes_of<'a, 't: 'a>(tree: &'a Tree<'t>) -> Option<&'a [Tree<'t>]>
     }
 }
 
-/// The pairs of a mapping; or BadValue at the spot.
+/// The pairs of a mapping. The fault is BadValue at the spot.
 pub fn pairs<'a, 't: 'a>(
     alloc: Global,
     spot: Spot<'_>,
@@ -107,7 +106,7 @@ pub fn few_pairs<'a, 't: 'a>(
     Ok(below)
 }
 
-/// The nodes of a YAML list; or BadValue at the spot where it is none, or a fault of their number.
+/// The nodes of a YAML list. The fault is BadValue at the spot if it is none, or that of their number.
 #[tactic(auto, unfolding(crate::specs::Reading::list_nodes_at))]
 pub fn nodes<'a, 't: 'a>(
     alloc: Global,

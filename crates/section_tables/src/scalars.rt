@@ -134,7 +134,7 @@ pub fn scalar(
     }
 }
 
-/// What a node says that is a text; or BadValue at the spot.
+/// What a node says that is a text. The fault is BadValue at the spot.
 #[tactic(auto, unfolding(crate::specs::Reading::plain_at))]
 pub fn plain(alloc: Global, spot: Spot<'_>, kind: Scalar, tree: &Tree) -> Result<Plain, ConfigFault>
     ensures { GivesPlain result (read_plain spot.entry kind tree.now) }

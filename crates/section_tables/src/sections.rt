@@ -34,7 +34,7 @@ fn own_row(
     Ok(Rc::new(alloc, row)?)
 }
 
-// The row of an entry in which nothing is written; or Missing at the spot.
+// The row of an entry in which nothing is written. The fault is Missing at the spot.
 #[tactic(auto, unfolding(crate::specs::Reading::row_at))]
 fn shared_row(alloc: Global, spot: Spot<'_>, bare: &Bare) -> Result<Rc<EntryRow>, ConfigFault>
     ensures order { IfOk result (λ row. (rc_value row).order.items ≡ []) }
@@ -86,7 +86,7 @@ fn read_entry(
     Ok(Entry { name, row })
 }
 
-// The same, under another name than these; or BadValue, or the first fault.
+// The same, under another name than these. The fault is BadValue, or the first one of the entry.
 #[tactic(auto, unfolding(crate::specs::Reading::other_entry_at))]
 fn read_other_entry(
     alloc: Global,

@@ -225,8 +225,8 @@ pub fn value(alloc: Global, spot: Spot<'_>, kind: Kind, tree: &Tree) -> Result<V
     }
 }
 
-// Adds the value of a pair and its place in the table to what is written; or UnknownSetting, or the
-// fault of the value.
+// Adds the value of a pair and its place in the table to what is written. The fault is UnknownSetting,
+// or that of the value.
 fn put(
     alloc: Global,
     spot: Spot<'_>,

@@ -1,4 +1,4 @@
--- The switches that wait: the soonest of them is what is due next, and where a switch's due moment is set, it is taken
+-- The switches that wait: the soonest of them is what is due next, and when a switch's due moment is set, it is taken
 -- out at its place, or put in there.
 use Rattle.std.proofs.Common.{rules, ◌≡◌, ℕ, zero, suc, ◌+◌, ◌<◌, ◌≤◌, nat_lt, Bool, true, false, true≢false, if◌then◌else◌, Option, MatchOption, option_map, is_some, List, [], ◌∷◌, ◌++◌, length, map, take, drop, get_or, slice_set, refl, ap, ap₂, sym, subst, ◌∙◌, inl, inr, arith}
 use Rattle.std.specs.List.{All, insert, remove, Sorted.{IsPartitionedBy, IsPartitionPoint}}

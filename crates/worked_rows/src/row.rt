@@ -5,8 +5,8 @@
 //!
 //! - `--- check`, `--- verify` or `--- play`: what is done, with this bundle;
 //! - `--- certificate` or `--- log`: what is verified or played on it;
-//! - `--- board`: how the board faults, where it does;
-//! - `--- writer`: how the writer fails, where it does (`Sink::of`);
+//! - `--- board`: how the board faults, if it does;
+//! - `--- writer`: how the writer fails, if it does (`Sink::of`);
 //! - `=> Yes`, `=> Refused` or a fault: the answer, with all that is printed.
 //!
 //! A text is written line by line. A `\` at the end of a line takes the line end away, as in every

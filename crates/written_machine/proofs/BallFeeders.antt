@@ -1,4 +1,4 @@
--- How many of the rows that pass one test pass another: where one row changes, and where there is one.
+-- How many of the rows that pass one test pass another: when one row changes, and if there is one.
 use Rattle.std.proofs.Common.{rules, ◌≡◌, ℕ, zero, suc, ◌+◌, ◌<◌, ◌≤◌, ◌==◌, inl, inr, Bool, true, false, cond, if◌then◌else◌, Option, None, Some, List, [], ◌∷◌, ◌&&◌, map, refl, sym, ap, ap₂, subst, arith}
 use Rattle.std.specs.{Prelude.{filter, find}, List.{All, count_by, range_with_len}}
 use Rattle.std.proofs.lemmas.{Bool.{cases_eq, eq-eqb, ne_eqb}, Option.{none-some, same_Some}}

@@ -1,4 +1,4 @@
--- In every run all that the ledger books stands in the trace, with the counts that follow from it.
+-- In every run all that the ledger books is in the trace, with the counts that follow from it.
 use Rattle.std.proofs.Common.{rules, ◌≡◌, ℕ, ◌<◌, ◌⊎◌, inl, inr, true, List, [], ◌∷◌, ◌++◌, length, length-append, get_or, drop, refl, sym, ap, ◌∙◌, subst, append_assoc, arith}
 use Rattle.std.proofs.lemmas.List.{append-nil, length-replicate, Concat.flat_map-append}
 use Rattle.plan_tables.specs.{PlanView.{PlanView, work_of}, declared.{devices.RowId.RowId, entries.Owner.Owner}}

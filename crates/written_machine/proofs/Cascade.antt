@@ -1,4 +1,4 @@
--- Where weights fit, no event step raises the potential. So each cascade ends within the bound.
+-- If weights fit, no event step raises the potential. So each cascade ends within the bound.
 use Rattle.std.proofs.Common.{rules, ◌≡◌, ℕ, zero, suc, ◌+◌, ◌≤◌, ◌<◌, Bool, if◌then◌else◌, Some, None, List, [], ◌∷◌, length, refl, ap, sym, subst, arith, length-append}
 use Rattle.plan_tables.specs.{PlanView.{PlanView, work_of}, Valid.{HasEntries, IsValid}}
 use Rattle.plan_tables.specs.declared.entries.{EventId.EventId, SwitchId.SwitchId}

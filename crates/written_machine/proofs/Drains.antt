@@ -1,4 +1,4 @@
--- What the game's own step leads to where a ball has drained.
+-- What the game's own step leads to when a ball has drained.
 use Rattle.std.proofs.Common.{rules, ◌≡◌, ◌==◌, true, List, [], ◌∷◌, refl, ◌∙◌, ap}
 use Rattle.plan_tables.specs.{PlanView.PlanView, declared.entries.GameEvent.{GameEvent, TheVariants.BallDrain}}
 use Rattle.player_game.{specs.GameStep.in_play, proofs.Draining.{tested-left, drain-requests, drain-finals}}

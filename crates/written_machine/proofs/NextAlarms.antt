@@ -1,4 +1,4 @@
--- The next alarm that is computed is the next alarm, and nothing is due by a moment just where it is computed so.
+-- The next alarm that is computed is the next alarm, and nothing is due by a moment exactly if it is computed so.
 use Rattle.std.proofs.Common.{rules, ◌≡◌, ℕ, ◌<◌, ◌≤◌, ◌⊎◌, inl, inr, true, false, nat_le, Option, Some, None, option_map, List, map, refl, ap, sym, subst, ◌∙◌, arith}
 use Rattle.std.specs.Option.{option_map_or}
 use Rattle.std.proofs.lemmas.Bool.{cases_lt, cond_both, cond-true, leb-true, leb-false, le-leb, lt-leb}

@@ -1,4 +1,4 @@
--- What things cost in a state is within what they cost in any, where each device has a state of its shape.
+-- What things cost in a state is within what they cost in any, if each device has a state of its shape.
 use Rattle.std.proofs.Common.{rules, ◌≡◌, ℕ, ℤ, ◌+◌, ◌<◌, ◌≤◌, Bool, true, false, if◌then◌else◌, cond, filter, Option, None, Some, List, [], ◌∷◌, length, refl, ap, sym, subst, arith, ◌==◌}
 use Rattle.std.specs.{Prelude.{◌&&◌, IsSome, Contains}, List.{All, list_any}}
 use Rattle.std.proofs.lemmas.{Bool.cases_lt, List.{get_or_past, FromFn.length-range_with_len}}

@@ -1,5 +1,5 @@
--- What holds of a mode at every moment of a run: which of its events wait, and that nothing of it waits to be written where
--- it must not be heard.
+-- What holds of a mode at every moment of a run: which of its events wait, and that nothing of it waits to be written
+-- when it must not be heard.
 use Rattle.std.proofs.Common.{◌≡◌, ◌&&◌, ℕ, ◌<◌, inl, inr, Bool, true, false, cond, if◌then◌else◌, List, [], ◌∷◌, ◌++◌, length, refl, ap, sym, subst, ◌∙◌, append_assoc, arith, rules}
 use Rattle.std.{specs.List.AllByRecursion, proofs.lemmas.Bool.{cases_eq, eq-eqb, ne_eqb}}
 use Rattle.std.proofs.lemmas.List.{append-nil, get_or-set_same, get_or-set_other, get_or-map, length-set}

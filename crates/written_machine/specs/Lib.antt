@@ -19,5 +19,5 @@ pub mod FreePosts
 pub mod Accepted
 pub mod AcceptedRuns
 pub mod GuardRuns
--- what lemmas say of steps: only proofs cite it
+-- what lemmas say of steps
 pub mod Moves

@@ -1,4 +1,4 @@
--- What handlers and works do, one change of the machine after another, and which changes are theirs to make.
+-- What handlers and works do, one change of the machine after another, and which changes each may make.
 use Rattle.std.specs.{Prelude.{◌≡◌, ℕ, ℤ, ◌≤◌, ◌<◌, ◌⊎◌, Option, true, length}, List.list_any}
 use Rattle.plan_tables.specs.PlanView.{PlanView, actions_of, is_enable_of, mode_event, row_at, work_of}
 use Rattle.plan_tables.specs.Valid.{HasEntries, IsValid}

@@ -1,4 +1,4 @@
--- A line has no blemish where it is UTF-8 without a forbidden character.
+-- A line has no blemish if it is UTF-8 without a forbidden character.
 use Rattle.std.proofs.Common.{rules, ◌≡◌, ℕ, zero, suc, ◌+◌, ◌-◌, ◌≤◌, ◌<◌, ltb, Bool, true, false, cond, List, [], ◌∷◌, length, take, drop, get_or, Option, Some, None, refl, sym, ap, subst, ◌∙◌, inl, inr, arith, length-take-le}
 use Rattle.std.specs.{Char.len_utf8, List.{All, AllByRecursion, list_all}}
 use Rattle.std.specs.Str.{IsUtf8, is_utf8, chars, encode_utf8_all, Lossy.{utf8_valid_len, valid_len_up_to}}

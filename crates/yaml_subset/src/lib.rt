@@ -7,7 +7,7 @@
 //! - a mapping: lines `KEY: VALUE` or `KEY:` at one indentation, with keys that differ,
 //! - or one line with a value.
 //!
-//! Where no value is on the line, it is the block of the deeper lines below, for an entry also the
+//! If no value is on the line, it is the block of the deeper lines below, for an entry also the
 //! items at its own indentation, or else the empty text. `- KEY: ..` begins a mapping at the column
 //! of KEY. A value on a line is a text without quotes or in single or double quotes, a list `[a, b]`
 //! or a mapping `{k: v}`; a key is a text. A comment may follow. Everything else of YAML is refused:

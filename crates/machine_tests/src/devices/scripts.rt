@@ -1,7 +1,7 @@
 //! Devices by short scripts.
 //!
 //! A word of a script is a call, `=`, and what it answers: its lists, each one more than the list, with commas;
-//! 0 where it answers none; 999 where it may not be made, since nothing is due. Only the first letter of a word
+//! 0 if it answers none; 999 if it may not be made, since nothing is due. Only the first letter of a word
 //! counts (`calls::call_of`), and its number. After each call 10 ms pass. These words are no calls:
 //!
 //! - `New=N` makes the device of this number (`settings_of`), in game 1 of player 1, at moment 0;

@@ -2,8 +2,8 @@
 //! game, against plain models and in whole games, and the guard of coils, against a model that keeps the
 //! whole past and in short scripts. And boards.
 //!
-//! Tables are texts that are read byte by byte: arrays, and texts that are split, are slow to prove. Where memory is
-//! out, what is read or walked is not right.
+//! Tables are texts that are read byte by byte: arrays, and texts that are split, are slow to prove. If memory is
+//! out, the answers are wrong, and the test fails.
 
 mod boards;
 mod coil_walks;

@@ -1,6 +1,6 @@
 //! The guard by short scripts.
 //!
-//! A line is a moment, a call with its numbers, `=`, and 1 where it sends what it asks for; 0 where it sends
+//! A line is a moment, a call with its numbers, `=`, and 1 if it sends what it asks for; 0 if it sends
 //! nothing. A release answers one more than the coil that it disables, and `on` one more than the lowest coil
 //! that is on. The numbers are the coil, the milliseconds and the power of a `pulse`; the coil, the power and the
 //! owner of an `enable`; the coil of a `disable`; and the owner of a `release`.

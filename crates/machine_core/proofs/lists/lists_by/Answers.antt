@@ -3,7 +3,7 @@ use Rattle.std.proofs.lemmas.List.{drop_more, Elements.All-get_or}
 use Rattle.plan_tables.specs.PlanView.{PlanView, actions_at, list_of_row, row_at}
 use Rattle.plan_tables.specs.declared.{entries.{Action.Action, Owner.Owner}, devices.DeviceRow.DeviceRow}
 use Rattle.written_machine.specs.Machine.{Machine, all_do, do_action_by, do_answer_by, do_list_by}
-use Rattle.machine_core.{specs.Core.{CoreView, CanCall, IsSound, after}, proofs.Room.{room-first, all_do-first}}
+use Rattle.machine_core.{specs.Core.{CoreView, CanCall, IsWithin, after}, proofs.Room.{room-first, all_do-first}}
 use Rattle.machine_core.proofs.{Callable.actions-within, Going.{goes-can, goes-list_by}}
 use Rattle.machine_core.proofs.lists.lists_by.Goals as goal
 
@@ -31,8 +31,8 @@ actions_by-requires-clause-room g c =
     let list_is : c.list.result.now ≡ actions_at core.plan (list_of_row core.plan r k) = c.list.ensures.actions ∙ ap (actions_at plan) c.list_of_row.ensures.list ∙ ap (λ (p : PlanView). actions_at p (list_of_row p r k)) is in
     let owner_is : c.row-owner.result.owner ≡ (row_at core.plan r).owner = ap (λ (row : DeviceRow). row.owner) c.row-owner.ensures.row ∙ ap (λ (p : PlanView). (row_at p r).owner) is in
     let run = λ (p : PlanView) (n : ℕ). do_list_by p (g.T.Tells.tell p) (row_at p r).owner (list_of_row p r n) in
-    subst (λ (actions : List Action). IsSound core.room (all_do (do_action_by core.plan (g.T.Tells.tell core.plan) c.row-owner.result.owner) actions core.machine)) (sym list_is)
-    (subst (λ (o : Owner). IsSound core.room (all_do (do_action_by core.plan (g.T.Tells.tell core.plan) o) (actions_at core.plan (list_of_row core.plan r k)) core.machine)) (sym owner_is)
+    subst (λ (actions : List Action). IsWithin core.room (all_do (do_action_by core.plan (g.T.Tells.tell core.plan) c.row-owner.result.owner) actions core.machine)) (sym list_is)
+    (subst (λ (o : Owner). IsWithin core.room (all_do (do_action_by core.plan (g.T.Tells.tell core.plan) o) (actions_at core.plan (list_of_row core.plan r k)) core.machine)) (sym owner_is)
     (room-first run (λ (p : PlanView) (n : ℕ) (s : Machine). (goes-list_by p (g.T.Tells.tell p) (c.requires.goes p) r n s).grows) core (after (do_answer_by c.args.core.now.plan (g.T.Tells.tell c.args.core.now.plan) r lists) c.args.core.now)
     k (drop (i + 1) lists) (drop i lists) (drop_more lists i 0 c.loop-list-test.true) c.loop-list.invariant.0 c.requires.room))
 

@@ -4,7 +4,7 @@ use Rattle.plan_tables.specs.PlanView.{PlanView, act_of_listener}
 use Rattle.plan_tables.specs.declared.{devices.Act.Act, entries.Listener.Listener}
 use Rattle.device_objects.specs.declared.device.Call.TheVariants as calls
 use Rattle.written_machine.specs.Machine.{Machine, all_do, call_device, tell_listener}
-use Rattle.machine_core.specs.Core.{IsSound, after}
+use Rattle.machine_core.specs.Core.{IsWithin, after}
 use Rattle.machine_core.proofs.{Going.goes-call, Listing.call-calls, Room.{room-first, all_do-first}}
 use Rattle.machine_core.proofs.parts.tell_listeners.Goals as goal
 
@@ -26,7 +26,7 @@ call_device-requires-clause-room g c =
     let i = c.loop-listener.listener-index in
     let l = get_or listeners i none in
     let core = c.loop-listener.core in
-    subst (λ (a : Act). IsSound core.room (call_device core.plan (calls.Act a) l.row core.machine)) (sym c.act.ensures)
+    subst (λ (a : Act). IsWithin core.room (call_device core.plan (calls.Act a) l.row core.machine)) (sym c.act.ensures)
     (room-first (λ (p : PlanView). tell_listener p active) (λ (p : PlanView) (x : Listener) (s : Machine). (goes-call p (calls.Act (act_of_listener active x)) x.row s).grows) core
     (after (all_do (tell_listener c.args.core.now.plan active) listeners) c.args.core.now) l (drop (i + 1) listeners) (drop i listeners) (drop_more listeners i none c.loop-listener-test.true) c.loop-listener.invariant.0 c.requires.room)
 
