@@ -5,3 +5,4 @@ mod Told
 mod BoardLaws
 pub mod Following
 pub mod Lawful
+mod Slower

@@ -7,6 +7,7 @@ pub mod SentCommands
 pub mod Asked
 pub mod Calls
 pub mod Laws
+pub mod Slower
 pub mod Follows
 pub mod Boards
 pub mod Inside

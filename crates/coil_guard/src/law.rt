@@ -2,6 +2,7 @@
 
 ghost use Rattle.coil_guard.specs.Laws.{CommandsAreWithinLimits, StretchesAreWithinLimits, AnswersAreByCommands, StatesSayWhatIsOn, StatesSayWhoHolds, LowestIsOn, LowestIsReleased};
 ghost use Rattle.coil_guard.specs.Follows.{NewFollows, CallsFollow, LaterFollows, FollowersSendWhatIsDue};
+ghost use Rattle.coil_guard.specs.Slower.{LimitsHoldOnSlowerClock};
 ghost use Rattle.coil_guard.specs.Boards.{MemoryKeepsLatest, MemoryTellsAll, FuseFaultsFromKth};
 
 /// The law of what `Coils` sends. It is about every list of calls on a new guard whose moments do
@@ -15,6 +16,19 @@ ghost use Rattle.coil_guard.specs.Boards.{MemoryKeepsLatest, MemoryTellsAll, Fus
 pub fn commands_are_within_limits()
     ensures commands { CommandsAreWithinLimits }
     ensures stretches { StretchesAreWithinLimits }
+{}
+
+/// The law of commands that are carried out late, for the same lists of calls. Let the sent commands be
+/// carried out in order, each at least as long after the one before it as it was sent after that, and
+/// let each pulse end by itself. Then a coil that may not be held is on for no longer than its greatest
+/// pulse by these moments too.
+///
+/// So a clock may stop while a command is late, and go on from where it was. It must not go faster
+/// between two commands than the time by which they are carried out.
+///
+/// It does nothing: its contract is the law, over the steps that the calls take.
+pub fn limits_hold_on_a_slower_clock()
+    ensures { LimitsHoldOnSlowerClock }
 {}
 
 /// The law of what `Coils` skips and finds, for the same lists of calls.

@@ -17,7 +17,7 @@ pub use command::{Answer, Command};
 pub use fuse_board::{FuseBoard, Taken};
 pub use law::{
     answers_are_by_commands, commands_are_within_limits, fuse_board_faults_from_kth,
-    guard_follows_commands, memory_board_keeps_latest,
+    guard_follows_commands, limits_hold_on_a_slower_clock, memory_board_keeps_latest,
 };
 pub use memory_board::MemoryBoard;
 pub use state::CoilState;

@@ -11,7 +11,7 @@ use clap::{Arg, ArgAction, ArgMatches, Command, Error};
 use std::alloc::{AllocError, Global};
 
 /// What `--version` shows after the name of the program.
-const VERSION: &str = "0.1.0";
+pub(crate) const VERSION: &str = "0.1.0";
 /// What the help of the program ends with.
 const STATUSES_AND_EXAMPLES: &str = "\
 Exit status:
@@ -171,7 +171,7 @@ fn folder_argument<'a>(alloc: Global) -> Arg<'a>
         .action(ArgAction::Set)
 }
 
-fn path_argument<'a>(alloc: Global, value_name: &'a str, help: &'a str) -> Arg<'a>
+pub(crate) fn path_argument<'a>(alloc: Global, value_name: &'a str, help: &'a str) -> Arg<'a>
     ensures rule { rule_of result ≡ path_rule }
     ensures local { result.global ≡ false }
 {
@@ -232,14 +232,14 @@ fn copied(alloc: Global, text: Option<&str>) -> Result<Option<String>, AllocErro
     }
 }
 
-fn not_understood(alloc: Global) -> AskFault {
+pub(crate) fn not_understood(alloc: Global) -> AskFault {
     match String::from_str(alloc, "error: the words are not understood\n") {
         Ok(text) => AskFault::Usage(text),
         Err(_) => AskFault::NoMemory,
     }
 }
 
-fn fault_of(alloc: Global, error: &Error) -> AskFault
+pub(crate) fn fault_of(alloc: Global, error: &Error) -> AskFault
     ensures { kind_of error.now ≡ ErrorKind.OutOfMemory → result ≡ AskFault.NoMemory }
 {
     if error.kind() == ErrorKind::OutOfMemory {

@@ -2,5 +2,7 @@
 #![tactic(auto)]
 
 pub mod ask;
+pub mod live;
 
 pub use ask::{Ask, AskFault, command};
+pub use live::live_command;

@@ -109,15 +109,15 @@ module _ (plan : PlanView) (bound : ℕ) where
   any-append (Traced l ∷ xs) ys = any-append xs ys
   any-append _ ys = refl
 
-  verdict-append : (xs ys : List Printed) → worse_of (log_verdict xs) (log_verdict ys) ≡ log_verdict (xs ++ ys)
+  pub verdict-append : (xs ys : List Printed) → worse_of (log_verdict xs) (log_verdict ys) ≡ log_verdict (xs ++ ys)
   verdict-append xs ys = search (rules, any-append)
 
   -- one line more
-  after-push : (xs : List (List ℕ)) (line : List ℕ) (s : Machine) → after_log_lines plan bound (xs ++ line ∷ []) s ≡ after_line plan bound (after_log_lines plan bound xs s) (given_by_line plan (after_log_lines plan bound xs s).moment (said line))
+  pub after-push : (xs : List (List ℕ)) (line : List ℕ) (s : Machine) → after_log_lines plan bound (xs ++ line ∷ []) s ≡ after_line plan bound (after_log_lines plan bound xs s) (given_by_line plan (after_log_lines plan bound xs s).moment (said line))
   after-push [] line s = refl
   after-push (x ∷ xs) line s = after-push xs line (after_line plan bound s (given_by_line plan s.moment (said x)))
 
-  printed-push : (xs : List (List ℕ)) (line : List ℕ) (n m : ℕ) (s t : Machine) → m ≡ length xs + n → t ≡ after_log_lines plan bound xs s
+  pub printed-push : (xs : List (List ℕ)) (line : List ℕ) (n m : ℕ) (s t : Machine) → m ≡ length xs + n → t ≡ after_log_lines plan bound xs s
       → printed_for_lines plan bound n (xs ++ line ∷ []) s ≡ printed_for_lines plan bound n xs s ++ printed_for_line plan bound m t (given_by_line plan t.moment (said line))
   printed-push [] line n m s t is at =
       let here : m ≡ n = omega (arith, is) in

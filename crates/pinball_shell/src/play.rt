@@ -35,7 +35,7 @@ pub const LOG_LIMIT: usize = 16_777_216;
 
 /// Why playing does not go on.
 #[derive(Clone, Copy)]
-pub(crate) enum Stop {
+pub enum Stop {
     /// A writer failed.
     Write,
     /// The board has not taken a command, and the rig is halted.
@@ -135,7 +135,7 @@ fn play_log<D: Device, B: Board, W: Write>(
 
 /// Shuts the rig of a plan down, and writes which coils were put off. Gives the board back. Fails
 /// only by the writer.
-fn shut_down<D: Device, B: Board, W: Write>(
+pub fn shut_down<D: Device, B: Board, W: Write>(
     plan: &PrintedPlan<'_>,
     rig: Rig<'_, D, B>,
     writer: &mut W,
@@ -184,7 +184,7 @@ fn play_lines<D: Device, B: Board, W: Write>(
 
 /// Puts on the page that the line of this number is refused, since the board has not taken a command.
 /// Fails only by the writer.
-fn refuse_for_board<W: Write>(
+pub fn refuse_for_board<W: Write>(
     number: usize,
     page: &mut Page,
     writer: &mut W,
@@ -198,7 +198,7 @@ fn refuse_for_board<W: Write>(
 }
 
 /// Refused where either is.
-fn worse(before: Verdict, line: Verdict) -> Verdict
+pub fn worse(before: Verdict, line: Verdict) -> Verdict
     ensures { result ≡ worse_of before line }
 {
     match line {
@@ -208,7 +208,7 @@ fn worse(before: Verdict, line: Verdict) -> Verdict
 }
 
 /// Plays a line that has this number, unless it is refused.
-fn play_line<D: Device, B: Board, W: Write>(
+pub fn play_line<D: Device, B: Board, W: Write>(
     plan: &PrintedPlan<'_>,
     rig: &mut Rig<'_, D, B>,
     number: usize,
