@@ -18,6 +18,7 @@ from .texts import MACHINE, Log, read_texts, write_texts
 from .ways import Cure
 
 ABOUT = "Helps with the answers of pinball: it calls the program and reads what it says. It proves nothing."
+MORE = "docs/builders_bench.md has examples, and says what the exit statuses mean."
 NO_PROOF = "These are hints, and nothing here is proved. The answer that counts is that of `pinball check`."
 
 LINE_NUMBERS = (
@@ -206,7 +207,7 @@ def pattern(text: str) -> str:
 
 
 def parser() -> argparse.ArgumentParser:
-    top = argparse.ArgumentParser(prog="pinball-help", description=ABOUT, epilog="docs/builders_bench.md has examples.")
+    top = argparse.ArgumentParser(prog="pinball-help", description=ABOUT, epilog=MORE)
     top.add_argument("--program", metavar="PATH", help="the program `pinball`, if not the proved one")
     commands = top.add_subparsers(required=True, metavar="COMMAND")
     one = commands.add_parser("errors", help="all errors and faults of a machine at once")
