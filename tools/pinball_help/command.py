@@ -18,6 +18,7 @@ from .texts import MACHINE, Log, read_texts, write_texts
 from .ways import Cure
 
 ABOUT = "Helps with the answers of pinball: it calls the program and reads what it says. It proves nothing."
+MORE = "docs/builders_bench.md has examples, and says what the exit statuses mean."
 NO_PROOF = "These are hints, and nothing here is proved. The answer that counts is that of `pinball check`."
 
 LINE_NUMBERS = (
@@ -206,18 +207,19 @@ def pattern(text: str) -> str:
 
 
 def parser() -> argparse.ArgumentParser:
-    top = argparse.ArgumentParser(prog="pinball-help", description=ABOUT, epilog="docs/builders_bench.md has examples.")
+    top = argparse.ArgumentParser(prog="pinball-help", description=ABOUT, epilog=MORE)
     top.add_argument("--program", metavar="PATH", help="the program `pinball`, if not the proved one")
     commands = top.add_subparsers(required=True, metavar="COMMAND")
     one = commands.add_parser("errors", help="all errors and faults of a machine at once")
-    one.add_argument("dir", metavar="DIR")
+    one.add_argument("dir", metavar="DIR", help="the folder of the machine")
     one.add_argument("--json", action="store_true", help="for editors")
-    one.add_argument("--full", action="store_true", help="each finding with its lines, also if there are many")
+    one.add_argument("--full", action="store_true", help="each error with its lines, even if there are many")
     one.add_argument(
         "--keep", metavar="COPY", help="writes a folder in which all that is refused is left out, with comments"
     )
     one.add_argument(
-        "--within", type=float, default=errors.WITHIN, metavar="SECONDS", help="stops to look after so much own work"
+        "--within", type=float, default=errors.WITHIN, metavar="SECONDS",
+        help=f"stops looking after so many seconds of its own work ({errors.WITHIN:g})",
     )
     with_program(one)
     one.set_defaults(run=write_errors)
@@ -229,8 +231,8 @@ def parser() -> argparse.ArgumentParser:
     one = commands.add_parser(
         "unused", help="what a machine has and nothing uses: events, switches, coils, shots, modes"
     )
-    one.add_argument("dir", metavar="DIR")
-    one.add_argument("--json", action="store_true")
+    one.add_argument("dir", metavar="DIR", help="the folder of the machine")
+    one.add_argument("--json", action="store_true", help="for editors")
     with_program(one)
     one.set_defaults(run=write_unused)
     add_views(commands)
@@ -239,15 +241,19 @@ def parser() -> argparse.ArgumentParser:
 
 def add_views(commands: "argparse._SubParsersAction[argparse.ArgumentParser]") -> None:
     """Adds the subcommands that show what a machine does, and that help to write it."""
-    one = commands.add_parser("trace", help="a filter for what `pinball play` writes")
+    one = commands.add_parser("trace", help="a filter: what `pinball play` writes, easy to read")
     one.add_argument("--owner", default="", help="only what this mode does, or `machine`")
     one.add_argument("--device", default="", help="only lines that name this switch, coil, counter, shot ..")
-    one.add_argument("--event", default="", metavar="PATTERN", type=pattern, help="only events with this expression")
-    one.add_argument("--from", dest="start", default="0", metavar="TIME", help="as 0:05.250, 5.25s or 5250")
-    one.add_argument("--to", dest="end", default="", metavar="TIME")
+    one.add_argument(
+        "--event", default="", metavar="PATTERN", type=pattern, help="only events that this regular expression matches"
+    )
+    one.add_argument(
+        "--from", dest="start", default="0", metavar="TIME", help="from this moment on: 0:05.250, 5.25s or 5250"
+    )
+    one.add_argument("--to", dest="end", default="", metavar="TIME", help="up to this moment")
     one.set_defaults(run=write_trace)
-    one = commands.add_parser("picture", help="a page with the graph of what posts what, and the timeline of a play")
-    one.add_argument("dir", metavar="DIR")
+    one = commands.add_parser("picture", help="a page: a graph of which event posts which, and the timeline of a play")
+    one.add_argument("dir", metavar="DIR", help="the folder of the machine")
     one.add_argument("--log", metavar="LOG", help="plays this log, and draws it")
     one.add_argument("-o", "--output", default="-", metavar="FILE", help="where the page goes; else standard output")
     with_program(one)

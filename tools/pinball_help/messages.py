@@ -127,7 +127,7 @@ MESSAGES = {
     ),
     "fault 9 Bound": Message(
         "Some event, or some switch change, causes more than 100,000 lines.",
-        "Let the dearest events post less.",
+        "Let the events with the greatest weights post less.",
         "`fault 9 Bound",
     ),
     "fault 10 Certificate Line": Message(

@@ -106,7 +106,7 @@ def of_bound(scene: Scenery, complaint: Complaint) -> Cure:
         weights = graph.weights()
     except CycleError:
         return Cure()
-    says = ["A weight is how many lines an event can cause. The dearest, as weighed here:"]
+    says = ["A weight is how many lines an event can cause. The greatest, as weighed here:"]
     for event in sorted(weights, key=lambda it: -weights[it])[:DEAREST]:
         places = [it for it in graph.posts if it.event == event and it.entry]
         where = f" ({scene.where(places[0].text, places[0].line)})" if places else ""

@@ -15,12 +15,13 @@ from .running import Result, refused, run, unreadable
 from .script import BadLine
 from .tested import Refused, read_tested
 
-ABOUT = "Plays the tests of a machine's rules, and says which fail. docs/rules_as_tests.md has the language."
+ABOUT = "Plays the tests of a machine's rules, and says which fail."
+MORE = "docs/rules_as_tests.md has the language, and says what the exit statuses mean."
 HOW = "docs/rules_as_tests.md says how to write one"
 
 
 def parser() -> argparse.ArgumentParser:
-    top = argparse.ArgumentParser(prog="pinball-test", description=ABOUT)
+    top = argparse.ArgumentParser(prog="pinball-test", description=ABOUT, epilog=MORE)
     top.add_argument("dir", metavar="DIR", help="the folder of the machine, the one that has `config/` in it")
     top.add_argument("tests", metavar="TEST", nargs="*", help="a file of tests, or its name in DIR/tests; else all")
     top.add_argument("--tap", action="store_true", help="writes the Test Anything Protocol")
