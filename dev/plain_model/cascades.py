@@ -2,8 +2,8 @@
 
 Each is a bundle with up to two switches, two modes and two coils, and events that post each other. Some have a tower: a
 weight, or the bound, that is the limit, or near to it. `check` has to print the bound, the costs of the switches, and
-the least weights of the model, or `fault 9 Bound` if one of these is above the limit, or a cycle of the model if there is
-one. Then one weight is made greater or less, perhaps the bound and the costs with it, and `verify` has to say what
+the least weights of the model, or `fault 9 Bound` if one of these is above the limit, or a cycle of the model if there
+is one. Then one weight is made greater or less, perhaps the bound and the costs with it, and `verify` has to say what
 follows from the rules. This model knows what a machine does from the drawing, and never reads its text.
 """
 import random
