@@ -59,7 +59,7 @@ class Machine:
         return sum(self.stimuli.values(), [])
 
     def cost_of(self, posted: list[str]) -> int:
-        """What a change costs that posts these, by the least weights; 1 where there are none."""
+        """What a change costs that posts these, by the least weights; 1 if there are none."""
         least = self.least()
         return 1 if least is None else 1 + sum(least[name] for name in posted)
 
@@ -234,7 +234,7 @@ def is_cycle(machine: Machine, events: list[str]) -> bool:
 
 
 def compare(ask: Ask, machine: Machine) -> list[str]:
-    """The kinds of the answers. Raises AssertionError or ValueError where one is not that of the model."""
+    """The kinds of the answers. Raises AssertionError or ValueError if one is not that of the model."""
     bundle = machine.bundle.encode()
     said = ask("check", bundle, b"").decode()
     least = machine.least()

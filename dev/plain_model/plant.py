@@ -215,7 +215,7 @@ class Planter:
             self.many_events(table, missing)
 
     def counts(self) -> dict[str, int]:
-        """What each table has by now, or about that where faults are planted already."""
+        """What each table has by now, or about that if faults are planted already."""
         try:
             config = read_bundle(self.drawn.bundle(random.Random(0)))
         except ConfigFault:

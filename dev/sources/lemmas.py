@@ -122,7 +122,7 @@ def searches_in(text: str) -> list[list[str]]:
 
 
 def with_searches(line: str, change: Callable[[list[str]], list[str]]) -> str:
-    """A line, where its searches that cite something cite what `change` makes of that."""
+    """A line in which each search that cites something cites what `change` makes of that."""
     for names in searches_in(line):
         line = line.replace(search_by(names), search_by(change(names)))
     return line
@@ -139,7 +139,7 @@ class Trial:
                refuse: Callable[[list[Owner]], int]) -> bool:
         """Checks the lines of `shown` until all is proved. `refuse` gets the owners of the refused lines.
 
-        It says how many things it changes. Where it changes nothing more, the texts stay as they were."""
+        It says how many things it changes. If it changes nothing more, the texts stay as they were."""
         while True:
             files = shown()
             texts = {name: "\n".join(line for line, _ in lines) + "\n" for name, lines in files.items()}
