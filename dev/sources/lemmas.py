@@ -1,7 +1,7 @@
 """Reads files of lemmas, and tries changes of them on the prover, in rounds.
 
-A crate is checked in a room of its own, over what the gate built in this checkout (`tools/test`, or `rt ci CRATE ..`).
-Each round is one check, so a large crate takes many minutes."""
+A crate is checked in a room of its own, over the libraries that `dev/check_all` or the gate (`tools/test`) built in this
+checkout. Each round is one check, so a large crate takes many minutes."""
 import argparse
 import re
 import subprocess
