@@ -7,7 +7,7 @@ from texts import VERSION
 
 SWITCHES = 10
 LINES = 100_000
-# So many actions are carried out at each change. Every fifth changes its variable; the others set it to what it is.
+# So many actions are carried out at each change. Every fifth changes its variable; the others set it to the value that it has.
 ACTIONS = 100
 EVERY = 5
 SUMS = range(EVERY, ACTIONS, EVERY)

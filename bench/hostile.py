@@ -1,4 +1,4 @@
-"""hostile.py PROGRAM COMPLETE: dear texts, sizes that double, and long plays, each against its bar. bench/hostile
+"""hostile.py PROGRAM COMPLETE: hostile texts, sizes that double, and long plays, each against its bar. bench/hostile
 starts it.
 
 PROGRAM is pinball, proved: of an unproved build valgrind reports no count. COMPLETE is the folder of examples/complete.
@@ -131,7 +131,7 @@ def long_plays(program: str, room: pathlib.Path, complete: pathlib.Path, bars: B
 
 def played(program: str, bundle: pathlib.Path, logs: list[pathlib.Path]) -> list[Cost]:
     """The median time and the greatest memory of plays of these logs. Each is played once, and then all of them again:
-    so where the machine's speed changes, it changes for all."""
+    so if the machine's speed changes, it changes for all."""
     results = [[used([program, "play", str(log)], bundle) for log in logs] for _ in range(RUNS)]
     costs = []
     for runs in zip(*results):

@@ -58,7 +58,7 @@ class Both:
     cost: Cost
 
     def show(self, what: str, size: int, base: "Both | None" = None) -> None:
-        """A line of the table, with ratios to another line where that is given."""
+        """A line of the table, with ratios to another line, if one is given."""
         of_instructions, of_time = " " * 7, " " * 7
         if base:
             of_instructions = f"{self.instructions / base.instructions:7.2f}"

@@ -7,7 +7,7 @@ from collections.abc import Iterator
 from measuring import MIB
 
 VERSION = "#config_version=6\n"
-# What stands in an ordinary configuration of 1 MiB beside the lights, which fill it.
+# What an ordinary configuration of 1 MiB has besides the lights that fill it.
 SWITCHES = 250
 PLAYERS = 2400
 EFFECTS = 600  # the events that the event players post

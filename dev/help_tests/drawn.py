@@ -178,7 +178,7 @@ def draw_section(draw: random.Random, section: Section) -> Tree | str:
 def draw_both(
     draw: random.Random, mistake: str, section: Section | None, setting: Setting | None, wrong: str
 ) -> tuple[Tree | str | None, Tree | str | None]:
-    """A section without the mistake, and with it; none where there is to be no such section."""
+    """A section without the mistake, and with it; none if there is to be no such section."""
     if section is None:
         return None, {}
     settings = settings_of(section)

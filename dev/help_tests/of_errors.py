@@ -104,7 +104,7 @@ def two_mistakes_in_one_line_are_both_found() -> None:
 
 # what a cure means
 
-CONDITIONS = {  # a handled event, and what is written in its place; nothing where none means the same
+CONDITIONS = {  # a handled event, and what is written in its place; nothing if none means the same
     "player_score{value >= 1000}": ["player_score{current_player.score >= 1000}"],
     "player_score{value == 5 and current_player.x == 2}": [
         "player_score{current_player.score == 5}: player_score_and_2", "player_score_and_2{current_player.x == 2}"],

@@ -1,4 +1,4 @@
-"""The page of `picture`: what is in it, and, where chromium is installed, what a browser makes of it."""
+"""The page of `picture`: what is in it, and, if chromium is installed, what a browser makes of it."""
 import json
 import re
 import shutil

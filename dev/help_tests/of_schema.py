@@ -1,5 +1,5 @@
 """The schemas: that they are those of the tables and of docs/profile.md, and what Debian's python3-jsonschema makes of
-them. The last tests are skipped where that is not installed."""
+them. The last tests are skipped if that is not installed."""
 import io
 import json
 import random
@@ -89,7 +89,7 @@ def words_of_kind(kind: Call) -> str:
 
 
 def words_of_default(without: Call) -> str | None:
-    """What holds where nothing is written, in the words of the page; none where the page says it in its own."""
+    """What holds if nothing is written, in the words of the page; none if the page says it in its own."""
     inner = without.values[0] if without.name == "Without::One" else without
     if inner.name == "Absent::Required":
         return "required"
@@ -202,7 +202,7 @@ def an_editor_finds_the_schemas_where_the_page_says() -> None:
 
 @cache
 def python_with_jsonschema() -> str:
-    """The Python that has the package: this one, or Debian's. Raises NotTried where none has it."""
+    """The Python that has the package: this one, or Debian's. Raises NotTried if none has it."""
     for path in (sys.executable, "/usr/bin/python3"):
         try:
             if subprocess.run([path, "-c", "import jsonschema"], capture_output=True).returncode == 0:
@@ -301,7 +301,7 @@ def drawn_texts_with_one_mistake_are_refused() -> None:
 
 
 def error_of(drawn: Drawn, text: str) -> str:
-    """The error that the program answers with, by its name; the empty text where it has none."""
+    """The error that the program answers with, by its name; the empty text if it has none."""
     bundle = f"@ {MACHINE}\n{text}"
     if drawn.is_mode:
         bundle = f"@ {MACHINE}\n#config_version=6\nmodes: m\n@ {mode_text('m')}\n{text}"

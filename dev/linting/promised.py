@@ -3,7 +3,8 @@
 docs/promises.md or docs/layers.md has to name each, as code: `CRATE::NAME`, `TYPE::NAME`, or NAME alone in a paragraph,
 an item or a row that also names its crate, its type or its module. One path may have several names, as in
 `Rig::{now, state}`, and a star stands for all names that fit, as in `Plan::*` or `mpf_sections::as_*`. Crates of tests
-promise nothing. A fault is `FILE: CALL`. A path in a page that begins with a crate has to name something in its code."""
+promise nothing. A path in a page that begins with a crate has to name something in its code. A fault is
+`FILE: CALL`."""
 import re
 from collections.abc import Iterable, Iterator
 from fnmatch import fnmatchcase

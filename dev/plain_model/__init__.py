@@ -2,7 +2,7 @@
 
 It was written from the description of the profile alone, without a look at the code in crates/, and in the shortest way
 that says what has to come out: it reads each text as a whole, keeps everything in lists, and computes each thing anew
-where it is wanted. A module is one subject:
+when it is wanted. A module is one subject:
 
     yaml_text   the YAML subset: a text and its tree
     values      names, numbers, times, powers, lists, handled events

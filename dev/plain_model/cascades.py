@@ -2,8 +2,8 @@
 
 Each is a bundle with up to two switches, two modes and two coils, and events that post each other. Some have a tower: a
 weight, or the bound, that is the limit, or near to it. `check` has to print the bound, the costs of the switches, and
-the least weights of the model, or `fault 9 Bound` if one of these is above the limit, or a cycle of the model if there is
-one. Then one weight is made greater or less, perhaps the bound and the costs with it, and `verify` has to say what
+the least weights of the model, or `fault 9 Bound` if one of these is above the limit, or a cycle of the model if there
+is one. Then one weight is made greater or less, perhaps the bound and the costs with it, and `verify` has to say what
 follows from the rules. This model knows what a machine does from the drawing, and never reads its text.
 """
 import random
@@ -59,7 +59,7 @@ class Machine:
         return sum(self.stimuli.values(), [])
 
     def cost_of(self, posted: list[str]) -> int:
-        """What a change costs that posts these, by the least weights; 1 where there are none."""
+        """What a change costs that posts these, by the least weights; 1 if there are none."""
         least = self.least()
         return 1 if least is None else 1 + sum(least[name] for name in posted)
 
@@ -234,7 +234,7 @@ def is_cycle(machine: Machine, events: list[str]) -> bool:
 
 
 def compare(ask: Ask, machine: Machine) -> list[str]:
-    """The kinds of the answers. Raises AssertionError or ValueError where one is not that of the model."""
+    """The kinds of the answers. Raises AssertionError or ValueError if one is not that of the model."""
     bundle = machine.bundle.encode()
     said = ask("check", bundle, b"").decode()
     least = machine.least()

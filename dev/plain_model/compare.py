@@ -124,7 +124,7 @@ def lines_of(output: bytes) -> list[str]:
 
 
 def right_certificate(drawing: random.Random, judged: Judged) -> bytes:
-    """The certificate of a plan; that of any weights where there are none that are right."""
+    """The certificate of a plan; that of any weights if there are none that are right."""
     if isinstance(judged.least, dict):
         return judged.certificate().encode()
     weights = {event: drawing.choice([1, 2, 5, 50]) for event in judged.plan.events}
@@ -241,7 +241,7 @@ class Comparison:
                 self.count(*{kind_of_cycle(word) for word in words[3:]} - {""})
 
     def cost(self, costs: Costs, weights: Weights) -> None:
-        """Counts what a drained ball costs most by, and where the bound is that of a save's alarm."""
+        """Counts what a drained ball costs most by, and when the bound is that of a save's alarm."""
         dearest = costs.dearest_drain(weights)
         self.count(*([f"dearest of a drain: {dearest}"] if dearest else []), *costs.bounds_of_saves(weights))
 

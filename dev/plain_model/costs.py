@@ -150,7 +150,7 @@ class Costs:
         }
 
     def dearest_drain(self, weights: Weights) -> str | None:
-        """What a drained ball costs most by; None in a machine where it can only be the last ball."""
+        """What a drained ball costs most by; None in a machine in which it can only be the last ball."""
         if not self.plan.has_game or not any(isinstance(row, BallSave | Multiball) for row in self.plan.rows):
             return None
         return max(self.drains, key=lambda what: self.drains[what].value(weights))

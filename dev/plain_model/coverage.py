@@ -2,7 +2,7 @@
 from . import cascades
 from .compare import CASCADES, Found
 
-# About how often things come up with 100 machines. They are too rare where they come up less than a fifth of that.
+# About how often things come up with 100 machines. They are too rare if they come up less than a fifth of that.
 SHARES: dict[float, str] = {
     100: """check: yes | check: no | play | damaged bundle | line: event | line: switch active | line: switch inactive
         | line: balls | line: coil pulse | ball device, alarm | ball device, list 0 | ball not awaited | a game""",

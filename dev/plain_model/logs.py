@@ -65,7 +65,7 @@ class Log:
             self.later(*MIDDLE, 600, 1_000)
 
     def fill(self) -> None:
-        """Balls come into the last device, where a trough often is."""
+        """Balls come into the last device, which often is a trough."""
         for switch in self.drawn.balls[[*self.drawn.balls][-1]] if self.drawn.balls else []:
             self.turn(switch, True)
         self.later(500, 600, 1_000)

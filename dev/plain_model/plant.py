@@ -215,7 +215,7 @@ class Planter:
             self.many_events(table, missing)
 
     def counts(self) -> dict[str, int]:
-        """What each table has by now, or about that where faults are planted already."""
+        """What each table has by now, or about that if faults are planted already."""
         try:
             config = read_bundle(self.drawn.bundle(random.Random(0)))
         except ConfigFault:
@@ -382,8 +382,8 @@ class Planter:
 KINDS = """save_cycle wrong_name unknown_member reserved_post reserved_variable group pulse power hold timer route
     cycle bound limit wait_queue depth size version inner_setting modes texts setting missing long_list twice bad_name
     section junk""".split()
-SHARES = {"limit": 2.0, "wait_queue": 0.3, "version": 0.3, "depth": 0.7, "size": 0.3, "texts": 0.4, "inner_setting": 0.5}
-SHARES |= {"section": 0.5, "long_list": 0.7, "junk": 1.5, "twice": 2.0, "missing": 1.5}
+SHARES = {"limit": 2.0, "wait_queue": 0.3, "version": 0.3, "depth": 0.7, "size": 0.3, "texts": 0.4}
+SHARES |= {"inner_setting": 0.5, "section": 0.5, "long_list": 0.7, "junk": 1.5, "twice": 2.0, "missing": 1.5}
 SHARES |= {"save_cycle": 1.2, "cycle": 1.5, "bound": 3.0, "hold": 1.5, "timer": 1.5, "pulse": 1.5, "route": 1.5}
 
 

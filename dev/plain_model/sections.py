@@ -149,7 +149,7 @@ def judged(read: Callable[[Node], Any], node: Node, line: int, key: str) -> Any:
 def settings(
     entries: list[tuple[Scalar, Node]], table: dict[str, Setting], line: int, ignored: list[str] | None
 ) -> dict[str, Any]:
-    """The values of written settings, and the defaults. Where `ignored` is None, all other keys are ignored."""
+    """The values of written settings, and the defaults. If `ignored` is None, all other keys are ignored."""
     found = {}
     for key, node in entries:
         if key.text in table:

@@ -1,4 +1,4 @@
-"""The values of settings. A reader takes a node, and raises BadValue where it holds no such value."""
+"""The values of settings. A reader takes a node, and raises BadValue if it holds no such value."""
 import re
 from collections.abc import Callable
 from dataclasses import dataclass

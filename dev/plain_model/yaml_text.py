@@ -250,7 +250,7 @@ class Blocks:
         return line
 
     def next_at(self, column: int) -> Line | None:
-        """The next line of a block at a column. None where the block has ended. A deeper line is at fault."""
+        """The next line of a block at a column. None if the block has ended. A deeper line is at fault."""
         line = self.line()
         if line and line.column > column:
             raise YamlFault("Indent", line.number, line.column)

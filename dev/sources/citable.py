@@ -149,7 +149,7 @@ def items_of(file: Path) -> tuple[Item, ...]:
             found[-1] = found[-1]._replace(text=f"{found[-1].text}\n{line}")
     modules, names = passed_on(file.parents[1])
     return tuple(it._replace(text=f"{it.text}\n{imports_in(it.text, imports)}") for it in found
-                 if file.stem in modules or it.of in names)
+                 if file.stem in modules | {"lib"} or it.of in names)
 
 
 def named_by(words: set[str], items: Iterable[Item]) -> set[Item]:

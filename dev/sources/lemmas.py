@@ -1,7 +1,7 @@
 """Reads files of lemmas, and tries changes of them on the prover, in rounds.
 
-A crate is checked in a room of its own, over what the gate built in this checkout (`tools/test`, or `rt ci CRATE ..`).
-Each round is one check, so a large crate takes many minutes."""
+A crate is checked in a room of its own, over the libraries that `dev/check_all` or the gate (`tools/test`) built in this
+checkout. Each round is one check, so a large crate takes many minutes."""
 import argparse
 import re
 import subprocess
@@ -122,7 +122,7 @@ def searches_in(text: str) -> list[list[str]]:
 
 
 def with_searches(line: str, change: Callable[[list[str]], list[str]]) -> str:
-    """A line, where its searches that cite something cite what `change` makes of that."""
+    """A line in which each search that cites something cites what `change` makes of that."""
     for names in searches_in(line):
         line = line.replace(search_by(names), search_by(change(names)))
     return line
@@ -139,7 +139,7 @@ class Trial:
                refuse: Callable[[list[Owner]], int]) -> bool:
         """Checks the lines of `shown` until all is proved. `refuse` gets the owners of the refused lines.
 
-        It says how many things it changes. Where it changes nothing more, the texts stay as they were."""
+        It says how many things it changes. If it changes nothing more, the texts stay as they were."""
         while True:
             files = shown()
             texts = {name: "\n".join(line for line, _ in lines) + "\n" for name, lines in files.items()}

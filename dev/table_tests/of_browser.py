@@ -1,4 +1,4 @@
-"""Tests of the page in headless Chromium. Not tried where it is not installed.
+"""Tests of the page in headless Chromium. Not tried if it is not installed.
 
 If the variable SHOTS has the name of a folder, pictures of the page are kept there, to be looked at."""
 import os
