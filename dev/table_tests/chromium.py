@@ -55,7 +55,8 @@ class Chromium:
         line = f'exec "$@" 3<&{out} 4>&{back} {out}<&- {back}>&-'
         self.process = subprocess.Popen(
             ["bash", "-c", line, "bash", *words], pass_fds=(out, back), stdin=subprocess.DEVNULL,
-            stdout=self.complaints, stderr=self.complaints, start_new_session=True)
+            stdout=self.complaints, stderr=self.complaints, start_new_session=True,
+            env={**os.environ, "TMPDIR": self.room.name})
         os.close(out)
         os.close(back)
         return inlet, outlet

@@ -4,10 +4,13 @@ import select
 import threading
 import time
 import tty
+from typing import Callable
 
 
 class FakeBoard:
-    """`on` has the coils that are held now, and `heard` all lines with their times. `is_silent` makes it hang."""
+    """`on` has the coils that are held now, and `heard` all lines with their times. `is_silent` makes it hang.
+
+    It has tripped if it heard nothing for its patience: then its coils are off, and it only hears `hello`."""
 
     def __init__(self, levels: dict[str, int] | None = None):
         self.master, slave = os.openpty()
@@ -52,9 +55,11 @@ class FakeBoard:
             for switch, level in self.levels.items():
                 self.say(f"switch {switch} {level}")
             self.say("ready")
+        elif self.has_tripped:
+            return
         elif word == "beat":
             self.say(line)
-        elif word == "hold" and not self.has_tripped:
+        elif word == "hold":
             self.on.add(rest[0])
         elif word == "off":
             self.on -= {*rest} if rest else {*self.on}
@@ -62,13 +67,12 @@ class FakeBoard:
     def say(self, line: str) -> None:
         os.write(self.master, line.encode() + b"\n")
 
-    def until(self, holds: object, seconds: float = 20.0) -> float:
-        """Waits until something holds, and gives how long that took."""
-        begun = time.monotonic()
-        while not holds():  # type: ignore[operator]
-            assert time.monotonic() - begun < seconds, f"not within {seconds:g} s; heard {self.heard[-5:]}"
-            time.sleep(0.002)
-        return time.monotonic() - begun
+    def until(self, holds: Callable[[], bool], seconds: float = 60.0) -> None:
+        """Waits until something holds."""
+        end = time.monotonic() + seconds
+        while not holds():
+            assert time.monotonic() < end, f"not within {seconds:g} s; heard {self.heard[-5:]}"
+            time.sleep(0.005)
 
     def has_heard(self, line: str) -> bool:
         return any(it == line for _, it in self.heard)

@@ -24,16 +24,22 @@ flippers:
 """
 
 
+MOST_STEPS = 200  # until something is so
+
+
 class PageHand:
-    """Plays by requests. The time stands still between them, and is fast while nobody can be late."""
+    """Plays by requests. The time stands still, and goes on step by step: so nobody can be late."""
 
     def __init__(self, table: Table):
         self.table = table
+        table.do("pause")
+        self.stays = {it["name"] for it in json.loads(table.get("/about"))["switches"] if it["stays"]}
 
     def tap(self, switch: str) -> None:
+        line = f" switch {switch} {'active' if switch in self.stays else 'inactive'}\n"
+        before = self.table.get("/trace").count(line)
         self.table.do("tap", switch=switch)
-        begun = self.table.state()["now"]
-        self.until("it is over", lambda it: it["now"] >= begun + 120)
+        self.until(f"{switch} was hit", lambda _: self.table.get("/trace").count(line) > before)
 
     def hold(self, switch: str) -> None:
         self.table.do("press", switch=switch, page="test")
@@ -45,10 +51,12 @@ class PageHand:
         self.table.do("drain")
 
     def until(self, what: str, holds: Callable[[dict[str, Any]], bool]) -> None:
-        self.table.do("speed", speed=10 if what in games.LONG else 1)
-        self.table.do("go")
-        self.table.until(holds)
-        self.table.do("pause")
+        for _ in range(MOST_STEPS):
+            if holds(state := self.table.state()):
+                return
+            status, said = self.table.request("POST", "/step", b"{}", X_Pinball="1")
+            assert status == 200, f"{what}: {said.decode()}"
+        raise AssertionError(f"not within {MOST_STEPS} steps: {what}: {state}")
 
 
 @test
@@ -308,7 +316,7 @@ def no_markup_of_a_name_is_sent_as_a_page() -> None:
 def a_machine_with_hostile_names_is_refused_by_the_program() -> None:
     with folder_of(f"switches: {{'{HOSTILE}': {{number: 1}}}}") as folder:
         try:
-            Table(folder).process.kill()
+            Table(folder).close()
         except AssertionError as said:
             assert "BadValue" in str(said) and "pinball-help errors" in str(said), said
         else:
