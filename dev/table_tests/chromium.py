@@ -12,6 +12,8 @@ import time
 from pathlib import Path
 from typing import Any
 
+from . import groups
+
 NAMES = ("chromium", "chromium-browser", "google-chrome")
 PATIENCE = 120.0  # s
 ABOVE = 10  # files of ours have numbers from here on while Chromium starts, so that 3 and 4 are free
@@ -53,10 +55,9 @@ class Chromium:
             f"--user-data-dir={self.room.name}/profile", f"--window-size={width},{height}", "about:blank"]
         # It reads from file 3 and writes to file 4. (Not by `sh`: dash knows no file of two digits.)
         line = f'exec "$@" 3<&{out} 4>&{back} {out}<&- {back}>&-'
-        self.process = subprocess.Popen(
+        self.process = groups.start(
             ["bash", "-c", line, "bash", *words], pass_fds=(out, back), stdin=subprocess.DEVNULL,
-            stdout=self.complaints, stderr=self.complaints, start_new_session=True,
-            env={**os.environ, "TMPDIR": self.room.name})
+            stdout=self.complaints, stderr=self.complaints, env={**os.environ, "TMPDIR": self.room.name})
         os.close(out)
         os.close(back)
         return inlet, outlet
@@ -68,8 +69,7 @@ class Chromium:
         self.close()
 
     def close(self) -> None:
-        os.killpg(self.process.pid, signal.SIGKILL)  # (also the processes that it has started)
-        self.process.wait()
+        groups.end(self.process)
         os.close(self.inlet)
         os.close(self.outlet)
         self.complaints.close()
@@ -141,6 +141,10 @@ class Chromium:
                 state = self.run("JSON.stringify(window.pinball)")
                 raise AssertionError(f"not within {seconds:g} s: {script}; {state}")
             time.sleep(0.02)
+
+    def frames(self) -> None:
+        """Waits until what has been done is shown."""
+        self.run("new Promise(done => requestAnimationFrame(() => requestAnimationFrame(() => done())))")
 
     def place(self, css: str) -> tuple[float, float]:
         """The middle of an element, after it has been scrolled into sight."""

@@ -17,6 +17,8 @@ from pinball_table.session import Session
 from pinball_table.settings import FILE, read_settings
 from pinball_table.smart_table import SmartTable
 
+from . import groups
+
 TOP = Path(__file__).resolve().parents[2]
 COMPLETE = TOP / "examples/complete"
 EXAMPLES = sorted(it.parent for it in (TOP / "examples").glob("*/expected-play"))
@@ -101,9 +103,9 @@ class Table:
         asked = ["--program", program or programs["pinball"], *(["--live", programs["live"]] if live else [])]
         # (what it has started may still write there for a moment)
         self.room = tempfile.TemporaryDirectory(prefix="test-table-", ignore_cleanup_errors=True)
-        self.process = subprocess.Popen(
+        self.process = groups.start(
             [sys.executable, str(TOP / "tools/pinball-table"), str(folder), "--port", "0", "--patience", str(patience),
-             *asked, *words], stdout=subprocess.PIPE, stderr=subprocess.STDOUT, text=True, start_new_session=True,
+             *asked, *words], stdout=subprocess.PIPE, stderr=subprocess.STDOUT, text=True,
             env={**os.environ, "TMPDIR": self.room.name})
         assert self.process.stdout
         self.address = self.process.stdout.readline().strip()
@@ -120,10 +122,7 @@ class Table:
         self.close()
 
     def close(self) -> None:
-        """Ends all processes of the group, if some are left."""
-        with contextlib.suppress(ProcessLookupError):
-            os.killpg(self.process.pid, signal.SIGKILL)
-        self.process.wait()
+        groups.end(self.process)
         assert self.process.stdout
         self.process.stdout.close()
         self.room.cleanup()

@@ -1,5 +1,8 @@
 """Tests of the answers, and of sessions by the log's time."""
 import random
+import subprocess
+import sys
+import tempfile
 from pathlib import Path
 from typing import Any, Callable
 
@@ -11,7 +14,7 @@ from pinball_table.smart_table import SmartTable
 from pinball_table.view import devices_of, game_of
 
 from . import games
-from .harness import COMPLETE, EXAMPLES, SLOW, TOP, equal, folder_of, played, programs, replayed, session_of, test
+from .harness import COMPLETE, EXAMPLES, SLOW, TOP, equal, folder_of, played, programs, replayed, session_of, test, without_notes
 
 LONG = 60_000  # ms of the log
 
@@ -74,6 +77,38 @@ def the_log_of_each_example_is_opened() -> None:
         wanted = (folder / "expected-play").read_text().splitlines()
         equal([line for line in session.trace if not line.startswith("#")], wanted)
         equal([it.moment for it in session.steps], sorted(it.moment for it in session.steps))
+
+
+@test
+def each_example_plays_without_a_table_yaml() -> None:
+    """If it has a trough, a ball comes to the playfield once a game has begun."""
+    for folder in EXAMPLES:
+        session, table = session_of(folder)
+        session.run_until(2000)
+        if button := session.machine.start_button():
+            table.tap(button, 2000)
+        session.run_until(6000)
+        equal((folder.name, table.loose), (folder.name, int(bool(session.machine.tagged("trough")))))
+        session.shut_down("the end")
+        equal(played(session.log(), folder), without_notes(session.trace))
+
+
+@test
+def a_folder_by_pinball_help_plays() -> None:
+    """What `errors --keep` leaves of a folder in which much is refused."""
+    with tempfile.TemporaryDirectory(prefix="test-table-") as room:
+        folder = Path(room) / "kept"
+        words = ["errors", str(TOP / "tools/pinball_help/planted"), "--keep", str(folder)]
+        command = [sys.executable, str(TOP / "tools/pinball-help"), *words, "--program", programs["pinball"]]
+        equal(subprocess.run(command, capture_output=True, timeout=SLOW).returncode, 1)
+        session, table = session_of(folder)
+        session.run_until(1000)
+        for switch in session.machine.switches:
+            table.tap(switch, session.moment)
+            session.run_until(session.moment + 200)
+        assert len(session.trace) > len(session.machine.switches), session.trace
+        session.shut_down("the end")
+        equal(played(session.log(), folder), without_notes(session.trace))
 
 
 @test

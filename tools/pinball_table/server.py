@@ -14,7 +14,7 @@ from typing import Any, Callable
 from urllib.parse import parse_qsl, urlsplit
 
 from . import layout
-from .answers import Refused
+from .answers import LATEST, Refused
 from .feed import Seen
 from .player import NotNow, Player
 from .record import record
@@ -92,7 +92,7 @@ def texts(words: dict[str, Any], key: str) -> list[str]:
 
 def number(words: dict[str, Any], key: str) -> float:
     value = words.get(key)
-    if isinstance(value, bool) or not isinstance(value, (int, float)) or not -1e12 < value < 1e12:
+    if isinstance(value, bool) or not isinstance(value, (int, float)) or not abs(value) <= LATEST:
         raise BadRequest(f"`{key}` has to be a number")
     return value
 
