@@ -175,7 +175,7 @@ def a_log_is_opened_in_the_page() -> None:
         file = page.ask("DOM.querySelector", nodeId=root, selector="#file")["nodeId"]
         page.ask("DOM.setFileInputFiles", files=[str(COMPLETE / "log")], nodeId=file)
         page.until("window.pinball.last === 27000 && window.pinball.paused && window.pinball.now === 0")
-        for moment, score in (27000, 13330), (8500, 3820), (3700, 10):
+        for moment, score in (27000, 38820), (8500, 3820), (3700, 10):
             page.run(f"(() => {{ const it = document.getElementById('moment'); it.value = {moment};"
                      " it.dispatchEvent(new Event('change')); })()")
             page.until(f"window.pinball.now === {moment} && window.pinball.players[1].score === {score}")

@@ -14,7 +14,8 @@ from pinball_table.smart_table import SmartTable
 from pinball_table.view import devices_of, game_of
 
 from . import games
-from .harness import COMPLETE, EXAMPLES, SLOW, TOP, equal, folder_of, played, programs, replayed, session_of, test, without_notes
+from .harness import COMPLETE, EXAMPLES, SLOW, TOP, equal, folder_of
+from .harness import played, programs, replayed, session_of, test, without_notes
 
 LONG = 60_000  # ms of the log
 
@@ -115,9 +116,10 @@ def a_folder_by_pinball_help_plays() -> None:
 def lines_that_are_refused_are_left_out() -> None:
     session, _ = session_of(TOP / "examples/first")
     bad = [
-        "9 s_nope 1", "4", "6 s_drain 2", "x", "7 s_drain 0 0", "٩ s_drain 1", " 6 s_drain 0", "6 s_drain 0 ", "6\xa0s_drain 0",
-        "  ", "0" * 21, f"{LATEST + 1}", f"{2**64} s_drain 0"]
-    log = ["# a log", "", "5 s_drain 1", *bad, "8\ts_drain   0", "00000000000000000009 s_drain 1", f"{LATEST} s_drain 0"]
+        "9 s_nope 1", "4", "6 s_drain 2", "x", "7 s_drain 0 0", "٩ s_drain 1", " 6 s_drain 0", "6 s_drain 0 ",
+        "6\xa0s_drain 0", "  ", "0" * 21, f"{LATEST + 1}", f"{2**64} s_drain 0"]
+    good = ["5 s_drain 1", "8\ts_drain   0", "00000000000000000009 s_drain 1", f"{LATEST} s_drain 0"]
+    log = ["# a log", "", *good[:1], *bad, *good[1:]]
     refused = [it for it in played(log, TOP / "examples/first") if it.startswith("refused")]
     equal(len(refused), len(bad))
     equal(session.load(log_lines("\r\n".join(log))), bad)
