@@ -5,6 +5,7 @@ import os
 import random
 import shutil
 import tempfile
+import threading
 import time
 import zlib
 from contextlib import contextmanager
@@ -23,6 +24,7 @@ WIDE, NARROW = (1280, 900), (390, 844)
 SHIFT = 8  # (the modifier of a mouse event)
 TARGET = 25  # px: the least height of a button
 QUICK, FAST = 3.16, 10  # speeds
+BROWSERS = threading.BoundedSemaphore(2)  # so many at once: each is a dozen processes
 AT_END = "(it => it.scrollTop + it.clientHeight > it.scrollHeight - 2)(document.getElementById('trace'))"
 LOOK = (
     "const text = id => document.getElementById(id).textContent;"
@@ -47,7 +49,7 @@ def browser() -> Iterator[Chromium]:
     program = chromium.find()
     if not program:
         raise Skipped("Chromium is not installed")
-    with Chromium(program, *WIDE) as page:
+    with BROWSERS, Chromium(program, *WIDE) as page:
         yield page
 
 

@@ -103,19 +103,20 @@ class Replay(Answers):
         self.ahead: list[str] = []  # those that follow, up to the moment `seen`
         self.seen = 0
         self.off: list[str] = []
-        self.play([])
+        self.play([], max(patience, LOADING))  # (so that a machine that is refused is not played)
 
-    def play(self, lines: list[str]) -> list[str]:
+    def play(self, lines: list[str], patience: float | None = None) -> list[str]:
         """The whole trace, without the coils that are put off at its end."""
+        patience = patience or self.patience
         with tempfile.NamedTemporaryFile("w", suffix=".log") as log:
             log.write("".join(f"{line}\n" for line in lines))
             log.flush()
             try:
                 ran = subprocess.run(
-                    [self.program, "play", log.name, str(self.folder)], capture_output=True, timeout=self.patience,
+                    [self.program, "play", log.name, str(self.folder)], capture_output=True, timeout=patience,
                     stdin=subprocess.DEVNULL)
             except subprocess.TimeoutExpired:
-                raise Gone(f"the program did not answer within {self.patience:g} s") from None
+                raise Gone(f"the program did not answer within {patience:g} s") from None
             except OSError as error:
                 raise Gone(f"the program does not run: {error.strerror}") from None
         written = ran.stdout.decode("utf-8", "replace").splitlines()
