@@ -10,7 +10,8 @@ from typing import Callable
 class FakeBoard:
     """`on` has the coils that are held now, and `heard` all lines with their times. `is_silent` makes it hang.
 
-    It has tripped if it heard nothing for its patience: then its coils are off, and it only hears `hello`."""
+    Once a test has set `patience`, the board trips if it hears nothing for so long: then its coils are off, and it only
+    hears `hello`. (That of `hello` would be over too early where all is slow.)"""
 
     def __init__(self, levels: dict[str, int] | None = None):
         self.master, slave = os.openpty()
@@ -20,7 +21,7 @@ class FakeBoard:
         self.levels = levels or {}
         self.heard: list[tuple[float, str]] = []
         self.on: set[str] = set()
-        self.patience = 10.0
+        self.patience: float | None = None  # s
         self.latest = time.monotonic()
         self.is_silent = self.has_tripped = self.is_over = False
         self.thread = threading.Thread(target=self.run, daemon=True)
@@ -41,7 +42,8 @@ class FakeBoard:
                     self.hear(line.decode())
             elif self.is_silent:
                 time.sleep(0.005)
-            if time.monotonic() - self.latest > self.patience and not self.has_tripped:
+            is_over = self.patience is not None and time.monotonic() - self.latest > self.patience
+            if is_over and not self.has_tripped:
                 self.has_tripped = True
                 self.on.clear()
 
@@ -50,7 +52,7 @@ class FakeBoard:
         self.heard.append((self.latest, line))
         word, *rest = line.split()
         if word == "hello":
-            self.patience, self.has_tripped = int(rest[1]) / 1000, False
+            self.has_tripped = False
             self.say("hello 1 fake")
             for switch, level in self.levels.items():
                 self.say(f"switch {switch} {level}")

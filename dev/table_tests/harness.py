@@ -24,7 +24,7 @@ COMPLETE = TOP / "examples/complete"
 EXAMPLES = sorted(it.parent for it in (TOP / "examples").glob("*/expected-play"))
 STAND_IN = Path(__file__).with_name("stand_in.py")
 SLOW = 150.0  # s: nothing takes so long, even with an unproved program on a busy computer
-SOON = 30.0  # s: far above what it takes on a quiet computer
+SOON = 60.0  # s: far above what it takes on a quiet computer
 
 TESTS: list[Callable[[], None]] = []
 programs = {"pinball": "", "live": str(STAND_IN)}

@@ -14,8 +14,8 @@ from .fake_board import FakeBoard
 from .harness import SLOW, SOON, TOP, Table, equal, folder_of, played, programs, said_of, test
 
 FLIPPERS = TOP / "examples/flippers"
-PATIENCE = 2.0  # s: for what happens when it is over
-LONG = 8.0  # s: it is not over, also on a loaded computer
+PATIENCE = 8.0  # s: far above what a loaded computer needs
+SHORT = 1.0  # s: of a board that hears nothing more
 
 
 @contextmanager
@@ -29,10 +29,10 @@ def board_of(levels: dict[str, int] | None = None) -> Iterator[FakeBoard]:
 
 @contextmanager
 def board_and_table(
-    patience: float = LONG, levels: dict[str, int] | None = None, of_program: float = SLOW
+    levels: dict[str, int] | None = None, of_program: float = SLOW
 ) -> Iterator[tuple[FakeBoard, Table]]:
     with board_of(levels) as board:
-        words = ["--board", board.path, "--board-patience", str(patience)]
+        words = ["--board", board.path, "--board-patience", str(PATIENCE)]
         with Table(FLIPPERS, *words, live=True, patience=of_program) as table:
             yield board, table
 
@@ -42,8 +42,7 @@ def hold_a_coil(board: FakeBoard, table: Table) -> None:
     board.say("switch 1 1")
     table.until(lambda it: "s_start" in it["active"])
     board.say("switch 3 1")
-    board.until(lambda: "2" in board.on or board.has_tripped, SLOW)
-    assert not board.has_tripped, "the board has heard nothing for its patience"
+    board.until(lambda: "2" in board.on, SLOW)
 
 
 @test
@@ -86,12 +85,13 @@ def with_a_board_the_time_is_that_of_the_wall() -> None:
 
 @test
 def a_board_that_does_not_answer() -> None:
-    with board_and_table(PATIENCE) as (board, table):
+    with board_and_table() as (board, table):
         hold_a_coil(board, table)
         board.is_silent = True
         state = table.until(lambda it: it["ended"] != "", SOON)
-        assert "did not answer within 2 s" in state["ended"], state["ended"]
+        assert "did not answer within 8 s" in state["ended"], state["ended"]
         equal(state["coils"]["c_left_hold"]["holder"], "")
+        board.patience = SHORT
         board.until(lambda: not board.on)  # (by its own patience)
         board.is_silent = False
         board.until(lambda: board.has_heard("off") or board.has_heard("off 2"))
@@ -102,12 +102,12 @@ def a_board_that_does_not_answer() -> None:
 def a_board_that_has_put_its_coils_off_is_noticed() -> None:
     """It answers no `beat` any more, so the machine does not play on with dead coils."""
     with board_of() as board:
-        link = SerialBoard(read_machine(FLIPPERS), board.path, patience=PATIENCE)
+        link = SerialBoard(read_machine(FLIPPERS), board.path, patience=SHORT)
         board.has_tripped = True
         try:
             board.until(lambda: link.poll(0) is not None, SOON)
         except BoardFailure as failure:
-            assert "did not answer within 2 s" in str(failure), failure
+            assert "did not answer within 1 s" in str(failure), failure
         link.close()
 
 
@@ -115,7 +115,7 @@ def a_board_that_has_put_its_coils_off_is_noticed() -> None:
 def a_board_that_is_gone_or_talks_nonsense() -> None:
     for line in "switch 77 1", "switch 3 2", "switch 3", "beat", "ouch", "hello 2 fake", "\x00\xff":
         with board_of() as board:
-            link = SerialBoard(read_machine(FLIPPERS), board.path, patience=LONG)
+            link = SerialBoard(read_machine(FLIPPERS), board.path, patience=PATIENCE)
             board.say(line)
             try:
                 board.until(lambda: link.poll(0) is not None, SOON)
@@ -133,9 +133,10 @@ def a_board_that_is_gone_or_talks_nonsense() -> None:
 def a_table_that_is_killed_or_stopped_leaves_no_coil_on() -> None:
     """The board's own patience helps."""
     for number in signal.SIGKILL, signal.SIGSTOP:
-        with board_and_table(PATIENCE) as (board, table):
+        with board_and_table() as (board, table):
             hold_a_coil(board, table)
             table.process.send_signal(number)
+            board.patience = SHORT
             board.until(lambda: not board.on)
             assert board.has_tripped
 
@@ -162,7 +163,7 @@ def a_program_that_is_killed_puts_the_coils_of_a_board_off() -> None:
 @test
 def a_program_that_hangs_puts_the_coils_of_a_board_off() -> None:
     """Though nothing happens meanwhile: it is asked again and again while a coil is held."""
-    with board_and_table(of_program=LONG) as (board, table):
+    with board_and_table(of_program=PATIENCE) as (board, table):
         hold_a_coil(board, table)
         program = table.child()
         os.kill(program, signal.SIGSTOP)
