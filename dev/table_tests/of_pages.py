@@ -338,7 +338,7 @@ def what_cannot_be_done_now_is_refused() -> None:
         for deed in "drain", "plunge":
             equal(table.request("POST", f"/{deed}", body, X_Pinball="1")[0], 409)
         table.do("shut_down")
-        for deed in "drain", "back", "go_to":
+        for deed in "drain", "step", "back", "go_to":
             words = b'{"moment": 0}'
             equal(table.request("POST", f"/{deed}", words, X_Pinball="1")[0], 409)
         table.do("start_over")

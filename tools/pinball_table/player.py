@@ -271,9 +271,10 @@ class Player:
         """Goes on to the next step in which something happens, and waits there."""
         self.by_hand()
         self.clock.pause(True)
-        session, now = self.session, self.clock.now()
-        count = self.count_to_last()
-        while (coming := session.next()) is not None and coming <= now + LONGEST_STEP:
+        session, now, count = self.session, self.clock.now(), self.count_to_last()
+        if session.ended:
+            raise NotNow("the machine is shut down")
+        while (coming := session.next()) is not None and (session.future or coming <= now + LONGEST_STEP):
             done = session.step()
             self.clock.go_on_from(max(coming, session.moment))
             if done and not is_idle(done):
