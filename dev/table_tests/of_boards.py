@@ -74,8 +74,8 @@ def with_a_board_the_time_is_that_of_the_wall() -> None:
         for deed, words in (
             ("pause", "{}"), ("go", "{}"), ("step", "{}"), ("back", "{}"), ("speed", '{"speed": 2}'),
             ("start_over", "{}"), ("go_to", '{"moment": 0}'), ("open", '{"log": ""}'),
-            ("drain", "{}"), ("plunge", "{}"), ("tap", '{"switch": "s_start"}'), ("press", '{"switch": "s_start", "page": "a"}'),
-            ("release", '{"switch": "s_start", "page": "a"}'),
+            ("drain", "{}"), ("plunge", "{}"), ("tap", '{"switch": "s_start"}'),
+            ("press", '{"switch": "s_start", "page": "a"}'), ("release", '{"switch": "s_start", "page": "a"}'),
         ):
             status, said = table.request("POST", f"/{deed}", words.encode(), X_Pinball="1")
             assert status == 409 and b"a board is attached" in said, (deed, status, said)
