@@ -162,6 +162,7 @@ def keys_are_shown_and_are_those_of_table_yaml() -> None:
             page.key("keyDown", "p")
             page.until("window.pinball.paused")
             page.click('[data-switch="s_start"]')
+            page.until("window.pinball.active.includes('s_start') && !window.pinball.held.length")
             before = table.state()["steps"]
             for key, steps in ("n", before + 1), ("b", before), ("n", before + 1):
                 page.key("keyDown", key)
