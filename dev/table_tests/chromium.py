@@ -1,5 +1,6 @@
 """A page in headless Chromium, over its debugging pipe: messages of JSON, each ended by a zero byte."""
 import base64
+import fcntl
 import json
 import os
 import select
@@ -11,12 +12,25 @@ import time
 from pathlib import Path
 from typing import Any
 
+from . import groups
+
 NAMES = ("chromium", "chromium-browser", "google-chrome")
 PATIENCE = 120.0  # s
+ABOVE = 10  # files of ours have numbers from here on while Chromium starts, so that 3 and 4 are free
+LAST = 2_000  # bytes of what Chromium has complained of that are shown
 
 
 def find() -> str | None:
     return next((path for name in NAMES if (path := shutil.which(name))), None)
+
+
+def pipe() -> tuple[int, int]:
+    """A pipe whose two files have numbers from ABOVE on."""
+    low = os.pipe()
+    ends = tuple(fcntl.fcntl(it, fcntl.F_DUPFD_CLOEXEC, ABOVE) for it in low)
+    for it in low:
+        os.close(it)
+    return ends[0], ends[1]
 
 
 class Chromium:
@@ -24,23 +38,29 @@ class Chromium:
 
     def __init__(self, program: str, width: int = 1280, height: int = 900):
         self.room = tempfile.TemporaryDirectory(prefix="chromium-")
-        out, inlet = os.pipe()  # we write to `inlet`, it reads from `out`
-        outlet, back = os.pipe()
-        words = [
-            program, "--headless=new", "--no-sandbox", "--disable-gpu", "--no-first-run", "--disable-dev-shm-usage",
-            "--disable-background-networking", "--disable-breakpad", "--remote-debugging-pipe",
-            f"--user-data-dir={self.room.name}", f"--window-size={width},{height}", "about:blank"]
-        # (it reads from file 3 and writes to file 4)
-        self.process = subprocess.Popen(
-            ["/bin/sh", "-c", f'exec "$@" 3<&{out} 4>&{back}', "sh", *words], pass_fds=(out, back),
-            stdout=subprocess.DEVNULL, stderr=subprocess.DEVNULL, start_new_session=True)
-        os.close(out)
-        os.close(back)
-        self.inlet, self.outlet, self.rest = inlet, outlet, b""
+        self.complaints = open(Path(self.room.name) / "complaints", "a+b")  # (what it writes comes to the end)
+        self.inlet, self.outlet, self.rest = *self.start(program, width, height), b""
         self.number, self.session = 0, ""
         page = next(it for it in self.ask("Target.getTargets")["targetInfos"] if it["type"] == "page")
         self.session = self.ask("Target.attachToTarget", targetId=page["targetId"], flatten=True)["sessionId"]
         self.size(width, height)
+
+    def start(self, program: str, width: int, height: int) -> tuple[int, int]:
+        """Starts the process. Gives the files for what it reads and what it writes."""
+        out, inlet = pipe()  # we write to `inlet`, it reads from `out`
+        outlet, back = pipe()
+        words = [
+            program, "--headless=new", "--no-sandbox", "--disable-gpu", "--no-first-run", "--disable-dev-shm-usage",
+            "--disable-background-networking", "--disable-breakpad", "--remote-debugging-pipe",
+            f"--user-data-dir={self.room.name}/profile", f"--window-size={width},{height}", "about:blank"]
+        # It reads from file 3 and writes to file 4. (Not by `sh`: dash knows no file of two digits.)
+        line = f'exec "$@" 3<&{out} 4>&{back} {out}<&- {back}>&-'
+        self.process = groups.start(
+            ["bash", "-c", line, "bash", *words], pass_fds=(out, back), stdin=subprocess.DEVNULL,
+            stdout=self.complaints, stderr=self.complaints, env={**os.environ, "TMPDIR": self.room.name})
+        os.close(out)
+        os.close(back)
+        return inlet, outlet
 
     def __enter__(self) -> "Chromium":
         return self
@@ -49,10 +69,10 @@ class Chromium:
         self.close()
 
     def close(self) -> None:
-        os.killpg(self.process.pid, signal.SIGKILL)  # (also the processes that it has started)
-        self.process.wait()
+        groups.end(self.process)
         os.close(self.inlet)
         os.close(self.outlet)
+        self.complaints.close()
         for _ in range(20):  # (its children may still write)
             try:
                 return self.room.cleanup()
@@ -66,7 +86,10 @@ class Chromium:
         message: dict[str, Any] = {"id": self.number, "method": method, "params": words}
         if self.session:
             message["sessionId"] = self.session
-        os.write(self.inlet, json.dumps(message).encode() + b"\0")
+        try:
+            os.write(self.inlet, json.dumps(message).encode() + b"\0")
+        except BrokenPipeError:
+            raise self.gone("Chromium has ended") from None
         while True:
             found = self.message()
             if found.get("id") == self.number:
@@ -77,12 +100,23 @@ class Chromium:
     def message(self) -> dict[str, Any]:
         while b"\0" not in self.rest:
             if not select.select([self.outlet], [], [], PATIENCE)[0]:
-                raise AssertionError("Chromium does not answer")
+                raise self.gone("Chromium does not answer")
             piece = os.read(self.outlet, 1 << 20)
-            assert piece, "Chromium has ended"
+            if not piece:
+                raise self.gone("Chromium has ended")
             self.rest += piece
         message, _, self.rest = self.rest.partition(b"\0")
         return json.loads(message)
+
+    def gone(self, what: str) -> AssertionError:
+        """With its status, if it has ended, and with the last that it has complained of."""
+        try:
+            status = self.process.wait(1)
+            what += f" by {signal.Signals(-status).name}" if status < 0 else f" with status {status}"
+        except subprocess.TimeoutExpired:
+            what += ", and its process still runs"
+        self.complaints.seek(0)
+        return AssertionError(f"{what}; it said: {self.complaints.read()[-LAST:].decode('utf-8', 'replace')}")
 
     # the page
 
@@ -107,6 +141,10 @@ class Chromium:
                 state = self.run("JSON.stringify(window.pinball)")
                 raise AssertionError(f"not within {seconds:g} s: {script}; {state}")
             time.sleep(0.02)
+
+    def frames(self) -> None:
+        """Waits until what has been done is shown."""
+        self.run("new Promise(done => requestAnimationFrame(() => requestAnimationFrame(() => done())))")
 
     def place(self, css: str) -> tuple[float, float]:
         """The middle of an element, after it has been scrolled into sight."""

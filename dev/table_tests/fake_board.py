@@ -4,10 +4,14 @@ import select
 import threading
 import time
 import tty
+from typing import Callable
 
 
 class FakeBoard:
-    """`on` has the coils that are held now, and `heard` all lines with their times. `is_silent` makes it hang."""
+    """`on` has the coils that are held now, and `heard` all lines with their times. `is_silent` makes it hang.
+
+    Once a test has set `patience`, the board trips if it hears nothing for so long: then its coils are off, and it only
+    hears `hello`. (That of `hello` would be over too early where all is slow.)"""
 
     def __init__(self, levels: dict[str, int] | None = None):
         self.master, slave = os.openpty()
@@ -17,7 +21,7 @@ class FakeBoard:
         self.levels = levels or {}
         self.heard: list[tuple[float, str]] = []
         self.on: set[str] = set()
-        self.patience = 10.0
+        self.patience: float | None = None  # s
         self.latest = time.monotonic()
         self.is_silent = self.has_tripped = self.is_over = False
         self.thread = threading.Thread(target=self.run, daemon=True)
@@ -38,7 +42,8 @@ class FakeBoard:
                     self.hear(line.decode())
             elif self.is_silent:
                 time.sleep(0.005)
-            if time.monotonic() - self.latest > self.patience and not self.has_tripped:
+            is_over = self.patience is not None and time.monotonic() - self.latest > self.patience
+            if is_over and not self.has_tripped:
                 self.has_tripped = True
                 self.on.clear()
 
@@ -47,14 +52,16 @@ class FakeBoard:
         self.heard.append((self.latest, line))
         word, *rest = line.split()
         if word == "hello":
-            self.patience, self.has_tripped = int(rest[1]) / 1000, False
+            self.has_tripped = False
             self.say("hello 1 fake")
             for switch, level in self.levels.items():
                 self.say(f"switch {switch} {level}")
             self.say("ready")
+        elif self.has_tripped:
+            return
         elif word == "beat":
             self.say(line)
-        elif word == "hold" and not self.has_tripped:
+        elif word == "hold":
             self.on.add(rest[0])
         elif word == "off":
             self.on -= {*rest} if rest else {*self.on}
@@ -62,13 +69,12 @@ class FakeBoard:
     def say(self, line: str) -> None:
         os.write(self.master, line.encode() + b"\n")
 
-    def until(self, holds: object, seconds: float = 20.0) -> float:
-        """Waits until something holds, and gives how long that took."""
-        begun = time.monotonic()
-        while not holds():  # type: ignore[operator]
-            assert time.monotonic() - begun < seconds, f"not within {seconds:g} s; heard {self.heard[-5:]}"
-            time.sleep(0.002)
-        return time.monotonic() - begun
+    def until(self, holds: Callable[[], bool], seconds: float = 60.0) -> None:
+        """Waits until something holds."""
+        end = time.monotonic() + seconds
+        while not holds():
+            assert time.monotonic() < end, f"not within {seconds:g} s; heard {self.heard[-5:]}"
+            time.sleep(0.005)
 
     def has_heard(self, line: str) -> bool:
         return any(it == line for _, it in self.heard)

@@ -1,4 +1,5 @@
 """What the tests share: the list of tests, the programs, machines made of a text, and a table that runs."""
+import contextlib
 import http.client
 import json
 import os
@@ -7,7 +8,6 @@ import subprocess
 import sys
 import tempfile
 import time
-from contextlib import contextmanager
 from pathlib import Path
 from typing import Any, Callable, Iterator
 
@@ -17,12 +17,14 @@ from pinball_table.session import Session
 from pinball_table.settings import FILE, read_settings
 from pinball_table.smart_table import SmartTable
 
+from . import groups
+
 TOP = Path(__file__).resolve().parents[2]
 COMPLETE = TOP / "examples/complete"
 EXAMPLES = sorted(it.parent for it in (TOP / "examples").glob("*/expected-play"))
 STAND_IN = Path(__file__).with_name("stand_in.py")
 SLOW = 150.0  # s: nothing takes so long, even with an unproved program on a busy computer
-SOON = 30.0  # s: far above what it takes on a quiet computer
+SOON = 60.0  # s: far above what it takes on a quiet computer
 
 TESTS: list[Callable[[], None]] = []
 programs = {"pinball": "", "live": str(STAND_IN)}
@@ -51,7 +53,7 @@ def equal(found: Any, wanted: Any) -> None:
 # machines
 
 
-@contextmanager
+@contextlib.contextmanager
 def folder_of(text: str, modes: dict[str, str] | None = None, table: str = "", name: str = "m") -> Iterator[Path]:
     """The folder of a machine with these sections, those of its modes, and this `table.yaml`."""
     with tempfile.TemporaryDirectory(prefix="test-table-") as room:
@@ -74,7 +76,7 @@ def session_of(folder: Path, machine: Machine | None = None) -> tuple[Session, S
     machine = machine or read_machine(folder)
     table = SmartTable(read_settings(machine))
     session = Session(machine, replayed(folder), table)
-    session.start()
+    session.begin()
     return session, table
 
 
@@ -95,26 +97,35 @@ def without_notes(trace: list[str]) -> list[str]:
 
 
 class Table:
-    """`tools/pinball-table` as a process, and a page that is none."""
+    """`tools/pinball-table` as a process of a group of its own, and a page that is none."""
 
-    def __init__(self, folder: Path, *words: str, live: bool = False, patience: float = SLOW):
-        asked = ["--program", programs["pinball"], *(["--live", programs["live"]] if live else [])]
-        self.process = subprocess.Popen(
+    def __init__(self, folder: Path, *words: str, live: bool = False, patience: float = SLOW, program: str = ""):
+        asked = ["--program", program or programs["pinball"], *(["--live", programs["live"]] if live else [])]
+        # (what it has started may still write there for a moment)
+        self.room = tempfile.TemporaryDirectory(prefix="test-table-", ignore_cleanup_errors=True)
+        self.process = groups.start(
             [sys.executable, str(TOP / "tools/pinball-table"), str(folder), "--port", "0", "--patience", str(patience),
-             *asked, *words], stdout=subprocess.PIPE, stderr=subprocess.STDOUT, text=True)
+             *asked, *words], stdout=subprocess.PIPE, stderr=subprocess.STDOUT, text=True,
+            env={**os.environ, "TMPDIR": self.room.name})
         assert self.process.stdout
         self.address = self.process.stdout.readline().strip()
-        assert self.address.startswith("http://127.0.0.1:"), self.address + self.process.stdout.read()
+        if not self.address.startswith("http://127.0.0.1:"):
+            said = self.address + self.process.stdout.read()
+            self.close()
+            raise AssertionError(said)
         self.port = int(self.address.rstrip("/").rpartition(":")[2])
 
     def __enter__(self) -> "Table":
         return self
 
     def __exit__(self, *_: object) -> None:
-        self.process.kill()
-        self.process.wait()
+        self.close()
+
+    def close(self) -> None:
+        groups.end(self.process)
         assert self.process.stdout
         self.process.stdout.close()
+        self.room.cleanup()
 
     def request(self, method: str, path: str, body: bytes | None = None, **headers: str) -> tuple[int, bytes]:
         link = http.client.HTTPConnection("127.0.0.1", self.port, timeout=SLOW)
@@ -145,7 +156,7 @@ class Table:
             time.sleep(0.005)
         return state
 
-    @contextmanager
+    @contextlib.contextmanager
     def page(self, name: str) -> Iterator[http.client.HTTPResponse]:
         """Listens to the news, as a page does that calls itself so."""
         link = http.client.HTTPConnection("127.0.0.1", self.port, timeout=SLOW)

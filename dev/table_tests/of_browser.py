@@ -3,6 +3,9 @@
 If the variable SHOTS has the name of a folder, pictures of the page are kept there, to be looked at."""
 import os
 import random
+import shutil
+import tempfile
+import threading
 import time
 import zlib
 from contextlib import contextmanager
@@ -14,19 +17,45 @@ from pinball_table.settings import FILE, PICTURE
 from . import chromium, games
 from .chromium import Chromium
 from .harness import COMPLETE, TOP, Skipped, Table, equal, folder_of, played, test
+from .of_boards import board_and_table, hold_a_coil
 from .of_pages import HOSTILE, LABELS
 
 WIDE, NARROW = (1280, 900), (390, 844)
 SHIFT = 8  # (the modifier of a mouse event)
 TARGET = 25  # px: the least height of a button
+QUICK, FAST = 3.16, 10  # speeds
+BROWSERS = threading.BoundedSemaphore(2)  # so many at once: each is a dozen processes
+AT_END = "(it => it.scrollTop + it.clientHeight > it.scrollHeight - 2)(document.getElementById('trace'))"
+LOOK = (
+    "const text = id => document.getElementById(id).textContent;"
+    " const texts = css => [...document.querySelectorAll(css)].map(it => it.textContent);")
+# what the page shows in a whole game, by `text` and `texts`
+SHOWN = {
+    "two balls lie in the trough": "document.querySelectorAll('.ball.in').length === 2"
+    " && text('ledger').startsWith('Ledger: 2 known, 2 in devices') && text('phase') === 'no game'",
+    "there are two players": "texts('.player').length === 2 && texts('.player.current').length === 1",
+    "the flipper is held": "document.querySelector('[data-coil=c_left_hold] .lamp').className === 'lamp held'",
+    "two balls are on the playfield": "text('loose') === 'Really: 2 on the playfield, 0 on the way'"
+    " && texts('#modes .chip.on').includes('two')",
+    "the hurry-up runs": "texts('#modes .chip.on').some(it => /^hurry\\d+$/.test(it))"
+    " && texts('#timers td').includes('running') && text('variables').includes('score')"
+    " && document.querySelector('[data-coil=c_gate]').textContent.includes('held')",
+    "the game is over": "text('phase') === 'game over'",
+}
+
+
+@contextmanager
+def browser() -> Iterator[Chromium]:
+    program = chromium.find()
+    if not program:
+        raise Skipped("Chromium is not installed")
+    with BROWSERS, Chromium(program, *WIDE) as page:
+        yield page
 
 
 @contextmanager
 def page_of(folder: Path, *words: str) -> Iterator[tuple[Chromium, Table]]:
-    program = chromium.find()
-    if not program:
-        raise Skipped("Chromium is not installed")
-    with Table(folder, *words) as table, Chromium(program, *WIDE) as page:
+    with browser() as page, Table(folder, *words) as table:
         page.open(table.address)
         yield page, table
 
@@ -48,7 +77,7 @@ class ClickHand:
         self.page, self.table = page, table
         self.pause()
 
-    def set_speed(self, speed: int) -> None:
+    def set_speed(self, speed: float) -> None:
         if self.table.state()["speed"] != speed:
             self.page.run(
                 f"(() => {{ const it = document.getElementById('speed'); it.value = Math.log10({speed});"
@@ -74,11 +103,12 @@ class ClickHand:
         self.page.click('[data-act="drain"]')
 
     def until(self, what: str, holds: Callable[[dict[str, Any]], bool]) -> None:
-        self.set_speed(10 if what in games.LONG else 1)
+        self.set_speed(FAST if what in games.LONG else QUICK)
         self.page.click("#pause")
         self.page.until("!window.pinball.paused")  # (the button does what the page shows)
         self.table.until(holds)
         self.pause()
+        self.page.until(f"(() => {{ {LOOK} return {SHOWN.get(what, 'true')}; }})()")
         if what in ("two balls lie in the trough", "the hurry-up runs", "the flipper is held", "the game is over"):
             keep(self.page, what.replace(" ", "-"))
 
@@ -114,6 +144,83 @@ def a_switch_is_clicked_held_and_latched() -> None:
         page.until("window.pinball.active.includes('s_left_button')")
         page.ask("Page.navigate", url="about:blank")  # the page is left, and the key is still down
         table.until(lambda it: not it["held"] and not it["active"], 20)
+
+
+@test
+def keys_are_shown_and_are_those_of_table_yaml() -> None:
+    with tempfile.TemporaryDirectory(prefix="test-table-") as room:
+        folder = Path(room) / "balls"
+        shutil.copytree(TOP / "examples/balls", folder)
+        (folder / FILE).write_text("keys: {x: s_sling}\n")
+        with page_of(folder) as (page, table):
+            for css, key in ("[data-switch=s_sling]", "x"), ("[data-switch=s_start]", "s"), ("[data-act=drain]", "d"):
+                equal(page.run(f"document.querySelector('{css} kbd').textContent"), key)
+            page.key("keyDown", "x")
+            page.until("window.pinball.active.includes('s_sling')")
+            page.key("keyUp", "X")  # (Shift was pressed meanwhile)
+            page.until("!window.pinball.active.includes('s_sling') && !window.pinball.held.length")
+            page.key("keyDown", "p")
+            page.until("window.pinball.paused")
+            page.click('[data-switch="s_start"]')
+            page.until("window.pinball.active.includes('s_start') && !window.pinball.held.length")
+            before = table.state()["steps"]
+            for key, steps in ("n", before + 1), ("b", before), ("n", before + 1):
+                page.key("keyDown", key)
+                page.until(f"window.pinball.steps === {steps}")
+            page.key("keyDown", "p")
+            page.until("!window.pinball.paused")
+
+
+@test
+def a_log_is_opened_in_the_page() -> None:
+    with page_of(COMPLETE) as (page, table):
+        root = page.ask("DOM.getDocument")["root"]["nodeId"]
+        file = page.ask("DOM.querySelector", nodeId=root, selector="#file")["nodeId"]
+        page.ask("DOM.setFileInputFiles", files=[str(COMPLETE / "log")], nodeId=file)
+        page.until("window.pinball.last === 27000 && window.pinball.paused && window.pinball.now === 0")
+        for moment, score in (27000, 38820), (8500, 3820), (3700, 10):
+            page.run(f"(() => {{ const it = document.getElementById('moment'); it.value = {moment};"
+                     " it.dispatchEvent(new Event('change')); })()")
+            page.until(f"window.pinball.now === {moment} && window.pinball.players[1].score === {score}")
+        equal(page.run("document.getElementById('save').download"), "")
+        equal(page.run("fetch(document.getElementById('save').href).then(it => it.text())"), table.get("/log"))
+
+
+@test
+def a_page_of_a_board_only_shows() -> None:
+    with browser() as page, board_and_table() as (board, table):
+        page.open(table.address)
+        hold_a_coil(board, table)
+        hidden = ["time", "start_over", "open", "latch_label", "by_hand"]
+        equal(page.run(f"{hidden}.filter(it => !document.getElementById(it).hidden)"), [])
+        equal(page.run("document.querySelectorAll('#acts button, .switch kbd, .switch.stays').length"), 0)
+        page.until("document.querySelector('[data-switch=s_left_button]').classList.contains('on')")
+        page.until("document.querySelector('[data-coil=c_left_hold] .lamp').className === 'lamp held'")
+        page.click('[data-switch="s_start"]')
+        page.key("keyDown", "s")
+        page.until("document.getElementById('told').textContent === ''")
+        equal(table.get("/log").count("s_start"), 1)
+        page.click("#shut_down")
+        page.until("!document.getElementById('ended').hidden")
+        board.until(lambda: not board.on and board.has_heard("off"))
+
+
+@test
+def the_trace_stays_at_its_end() -> None:
+    """At any size of the window, until somebody scrolls up: then it stays there."""
+    with page_of(COMPLETE, "--open", str(COMPLETE / "log")) as (page, table):
+        table.do("go_to", moment=27000)
+        page.until(f"document.querySelectorAll('.cascade').length > 30 && {AT_END}")
+        for width, height in (700, 500), NARROW, WIDE, (1000, 1400), (1280, 420), NARROW, WIDE:
+            page.run("document.getElementById('trace').scrollTop -= 1")  # (its event comes after the new size)
+            page.size(width, height, width == NARROW[0])
+            page.frames()
+            page.until(AT_END)
+        page.run("document.getElementById('trace').scrollTop = 100")
+        page.frames()
+        page.size(1000, 1400)
+        page.frames()
+        assert not page.run(AT_END), "it has gone to the end"
 
 
 @test

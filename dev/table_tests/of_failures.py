@@ -1,72 +1,64 @@
 """Tests of what happens if something fails: the program, the table, or the computer. No coil stays on."""
 import os
-import re
 import signal
 import tempfile
 import time
+from contextlib import suppress
 from pathlib import Path
 
-from .harness import COMPLETE, SLOW, SOON, TOP, Table, equal, folder_of, played, programs, said_of, test
-from .of_pages import start_game
+from .harness import SLOW, SOON, TOP, Table, equal, folder_of, played, programs, said_of, test
 
+FLIPPERS = TOP / "examples/flippers"
 HELD = "c_left_hold"
+HANGS = 8.0  # s: far above what a program takes that does not hang
 OFF = f"the table puts {HELD} off"
 
 
 def hold_a_coil(table: Table) -> None:
-    """A game is on, and a flipper is held."""
-    start_game(table)
+    """The play has begun, and a flipper is held."""
+    table.do("tap", switch="s_start")
+    table.until(lambda _: "play_begins" in table.get("/trace"))
     table.do("press", switch="s_left_button", page="test")
     table.until(lambda it: it["coils"][HELD]["holder"] != "")
 
 
-def is_off(table: Table, why: str, seconds: float = SOON) -> None:
-    """The coil is off in time, it is said why, and the page is still there."""
-    begun = time.monotonic()
-    state = table.until(lambda it: it["ended"] != "", seconds)
-    assert re.search(why, state["ended"]), state["ended"]
+def is_off(table: Table, why: str) -> None:
+    """The coil is soon off, though nobody asks for anything; it is said why, and the page is still there."""
+    state = table.until(lambda it: it["ended"] != "", SOON)
+    assert why in state["ended"], state["ended"]
     equal(state["coils"][HELD]["holder"], "")
-    assert time.monotonic() - begun < seconds
-    equal(table.request("POST", "/tap", b'{"switch": "s_ramp"}', X_Pinball="1")[0], 409)
+    equal(table.request("POST", "/tap", b'{"switch": "s_start"}', X_Pinball="1")[0], 409)
 
 
 @test
 def a_program_that_is_killed() -> None:
-    with Table(COMPLETE, live=True) as table:
+    with Table(FLIPPERS, live=True) as table:
         hold_a_coil(table)
         os.kill(table.child(), signal.SIGKILL)
-        table.request("POST", "/tap", b'{"switch": "s_ramp"}', X_Pinball="1")
-        is_off(table, "the program has ended|takes no line")
+        is_off(table, "the program has ended")
         assert OFF in table.end(), "it does not say so"
 
 
 @test
 def a_program_that_ends_by_itself() -> None:
-    """Also if nobody asks it: an alarm is due."""
-    with Table(COMPLETE, live=True) as table:
+    with Table(FLIPPERS, live=True) as table:
         hold_a_coil(table)
         os.kill(table.child(), signal.SIGTERM)
-        is_off(table, "the program has ended|takes no line", SLOW)
+        is_off(table, "the program has ended")
 
 
 @test
 def a_program_that_hangs() -> None:
-    patience = 3.0
-    with Table(COMPLETE, live=True, patience=patience) as table:
+    """Also if nothing happens meanwhile: it is asked again and again while a coil is held."""
+    with Table(FLIPPERS, live=True, patience=HANGS) as table:
         hold_a_coil(table)
         program = table.child()
         os.kill(program, signal.SIGSTOP)
-        begun = time.monotonic()
         try:
-            table.request("POST", "/tap", b'{"switch": "s_ramp"}', X_Pinball="1")
-            is_off(table, "did not answer within 3 s", patience + SOON)
+            is_off(table, "did not answer within 8 s")
         finally:
-            took = time.monotonic() - begun
-            try:
+            with suppress(ProcessLookupError):
                 os.kill(program, signal.SIGKILL)
-            except ProcessLookupError:
-                pass
-        assert took < patience + SOON
         assert OFF in table.end(), "it does not say so"
 
 
@@ -77,22 +69,18 @@ def a_replay_that_fails() -> None:
         program = folder / "pinball"
         program.write_text(f'#!/bin/sh\n[ ! -e {folder}/broken ] || exit 3\nexec {programs["pinball"]} "$@"\n')
         program.chmod(0o755)
-        before, programs["pinball"] = programs["pinball"], str(program)
-        try:
-            with Table(folder) as table:
-                table.do("tap", switch="s")
-                table.until(lambda it: it["steps"] > 1)
-                (folder / "broken").touch()
-                table.request("POST", "/tap", b'{"switch": "s"}', X_Pinball="1")
-                assert "status 3" in table.until(lambda it: it["ended"] != "")["ended"]
-        finally:
-            programs["pinball"] = before
+        with Table(folder, program=str(program)) as table:
+            table.do("tap", switch="s")
+            table.until(lambda it: it["steps"] > 1)
+            (folder / "broken").touch()
+            table.request("POST", "/tap", b'{"switch": "s"}', X_Pinball="1")
+            assert "status 3" in table.until(lambda it: it["ended"] != "")["ended"]
 
 
 @test
 def signals_end_it_in_order() -> None:
     for number, name in (signal.SIGINT, "SIGINT"), (signal.SIGTERM, "SIGTERM"), (signal.SIGHUP, "SIGHUP"):
-        with tempfile.TemporaryDirectory() as room, Table(COMPLETE, "--log", f"{room}/log", live=True) as table:
+        with tempfile.TemporaryDirectory() as room, Table(FLIPPERS, "--log", f"{room}/log", live=True) as table:
             hold_a_coil(table)
             program = table.child()
             said = table.end(number)
@@ -100,13 +88,12 @@ def signals_end_it_in_order() -> None:
             equal(table.process.returncode, 0)
             equal(Path(f"/proc/{program}").exists(), False)
             lines = Path(room, "log").read_text().splitlines()
-            assert played(lines, COMPLETE)[-1].endswith(f"machine off {HELD}")
+            assert played(lines, FLIPPERS)[-1].endswith(f"machine off {HELD}")
 
 
 @test
 def a_table_that_is_killed_ends_the_program() -> None:
-    with Table(COMPLETE, live=True) as table:
-        start_game(table)
+    with Table(FLIPPERS, live=True) as table:
         program = table.child()
         table.process.kill()
         table.process.wait()
@@ -125,7 +112,7 @@ def is_alive(process: int) -> bool:
 
 @test
 def a_suspended_table_shuts_down_and_does_not_catch_up() -> None:
-    with Table(COMPLETE, live=True) as table:
+    with Table(FLIPPERS, live=True) as table:
         hold_a_coil(table)
         before = table.state()["now"]
         table.process.send_signal(signal.SIGSTOP)

@@ -24,16 +24,40 @@ flippers:
 """
 
 
+GROUPED = """
+switches:
+  s_go: {number: 1, tags: start}
+  s_left: {number: 2}
+  s_trough_1: {number: 3}
+  s_trough_2: {number: 4}
+  s_lane_1: {number: 5, tags: "playfield_active, lane"}
+  s_lane_2: {number: 6, tags: "lane, top"}
+  s_sling: {number: 7, tags: playfield_active}
+  s_door: {number: 8}
+coils:
+  c: {number: 1, allow_enable: yes}
+  c_trough: {number: 2}
+flippers:
+  f: {main_coil: c, activation_switch: s_left}
+ball_devices:
+  trough: {ball_switches: "s_trough_1, s_trough_2", eject_coil: c_trough, tags: trough}
+"""
+MOST_STEPS = 200  # until something is so
+
+
 class PageHand:
-    """Plays by requests. The time stands still between them, and is fast while nobody can be late."""
+    """Plays by requests. The time stands still, and goes on step by step: so nobody can be late."""
 
     def __init__(self, table: Table):
         self.table = table
+        table.do("pause")
+        self.stays = {it["name"] for it in json.loads(table.get("/about"))["switches"] if it["stays"]}
 
     def tap(self, switch: str) -> None:
+        line = f" switch {switch} {'active' if switch in self.stays else 'inactive'}\n"
+        before = self.table.get("/trace").count(line)
         self.table.do("tap", switch=switch)
-        begun = self.table.state()["now"]
-        self.until("it is over", lambda it: it["now"] >= begun + 120)
+        self.until(f"{switch} was hit", lambda _: self.table.get("/trace").count(line) > before)
 
     def hold(self, switch: str) -> None:
         self.table.do("press", switch=switch, page="test")
@@ -45,10 +69,12 @@ class PageHand:
         self.table.do("drain")
 
     def until(self, what: str, holds: Callable[[dict[str, Any]], bool]) -> None:
-        self.table.do("speed", speed=10 if what in games.LONG else 1)
-        self.table.do("go")
-        self.table.until(holds)
-        self.table.do("pause")
+        for _ in range(MOST_STEPS):
+            if holds(state := self.table.state()):
+                return
+            status, said = self.table.request("POST", "/step", b"{}", X_Pinball="1")
+            assert status == 200, f"{what}: {said.decode()}"
+        raise AssertionError(f"not within {MOST_STEPS} steps: {what}: {state}")
 
 
 @test
@@ -257,13 +283,62 @@ def raw(table: Table, data: bytes) -> bytes:
 
 
 @test
+def a_step_to_nowhere_says_so() -> None:
+    """A replay cannot know that nothing will come: it looks a minute ahead, and the time stays as it was."""
+    with Table(TOP / "examples/first") as table:
+        table.do("pause")
+        table.do("tap", switch="s_drain")
+        while table.request("POST", "/step", b"{}", X_Pinball="1")[0] == 200:
+            assert table.state()["steps"] < 10
+        state = table.state()
+        status, said = table.request("POST", "/step", b"{}", X_Pinball="1")
+        assert status == 409 and b"nothing happens by itself within 60 s" in said, (status, said)
+        equal({it: table.state()[it] for it in ("now", "steps", "active")},
+              {it: state[it] for it in ("now", "steps", "active")})
+        table.do("tap", switch="s_drain")
+        table.do("step")
+        equal(len([it for it in table.get("/log").splitlines() if it.endswith("s_drain 1")]), 2)
+
+
+@test
+def a_log_that_is_too_late_is_left_out() -> None:
+    with Table(TOP / "examples/first") as table:
+        table.do("tap", switch="s_drain")
+        late = f"{2**40} s_drain 0"
+        equal(table.do("open", log=f"5 s_drain 1\n{late}\n{2**40 - 1} s_drain 0\n"), [late])
+        equal(table.state()["ended"], "")
+        table.do("go_to", moment=2**40 - 1)
+        equal(table.until(lambda it: it["future"] == 0)["now"], 2**40 - 1)
+
+
+@test
+def a_place_that_cannot_be_saved_says_why() -> None:
+    with folder_of("switches: {s: {number: 1}}") as folder, Table(folder) as table:
+        (folder / f".{FILE}.new").mkdir()
+        status, said = table.request("POST", "/place", b'{"name": "s", "x": 1, "y": 2}', X_Pinball="1")
+        assert status == 409 and b"table.yaml cannot be written" in said, (status, said)
+        table.do("tap", switch="s")
+
+
+@test
+def switches_are_grouped_by_their_devices_and_tags() -> None:
+    with folder_of(GROUPED) as folder, Table(folder) as table:
+        groups: dict[str, list[str]] = {}
+        for it in json.loads(table.get("/about"))["switches"]:
+            groups.setdefault(it["group"], []).append(it["name"])
+        equal(groups, {
+            "cabinet": ["s_go", "s_left"], "trough": ["s_trough_1", "s_trough_2"], "lane": ["s_lane_1", "s_lane_2"],
+            "playfield": ["s_sling"], "other": ["s_door"]})
+
+
+@test
 def what_cannot_be_done_now_is_refused() -> None:
     with Table(COMPLETE) as table:
         body = b"{}"
         for deed in "drain", "plunge":
             equal(table.request("POST", f"/{deed}", body, X_Pinball="1")[0], 409)
         table.do("shut_down")
-        for deed in "drain", "back", "go_to":
+        for deed in "drain", "step", "back", "go_to":
             words = b'{"moment": 0}'
             equal(table.request("POST", f"/{deed}", words, X_Pinball="1")[0], 409)
         table.do("start_over")
@@ -308,7 +383,7 @@ def no_markup_of_a_name_is_sent_as_a_page() -> None:
 def a_machine_with_hostile_names_is_refused_by_the_program() -> None:
     with folder_of(f"switches: {{'{HOSTILE}': {{number: 1}}}}") as folder:
         try:
-            Table(folder).process.kill()
+            Table(folder).close()
         except AssertionError as said:
             assert "BadValue" in str(said) and "pinball-help errors" in str(said), said
         else:

@@ -8,8 +8,8 @@ from contextlib import contextmanager
 from pathlib import Path
 from typing import Iterator
 
-from . import chromium
-from .harness import TOP, Skipped, Table, equal, programs, test
+from .harness import TOP, Table, equal, programs, test
+from .of_browser import browser
 
 FIRST = TOP / "examples/first"
 TITLE = 'Both  targets: <b>"hit"</b> # ..\n\x1b[2J'
@@ -70,9 +70,7 @@ def what_cannot_be_saved_says_why() -> None:
 
 @test
 def lines_are_marked_in_the_page() -> None:
-    if not (program := chromium.find()):
-        raise Skipped("Chromium is not installed")
-    with opened() as (table, folder), chromium.Chromium(program) as page:
+    with browser() as page, opened() as (table, folder):
         page.open(table.address)
         page.until("document.querySelectorAll('#trace .cascade').length === 5")
         page.click("#marking")

@@ -1,8 +1,12 @@
 """Tests of the answers, and of sessions by the log's time."""
 import random
+import subprocess
+import sys
+import tempfile
+from pathlib import Path
 from typing import Any, Callable
 
-from pinball_table.answers import Live, Refused, Replay, is_wait, without_waits
+from pinball_table.answers import LATEST, Live, Refused, Replay, is_wait, without_waits
 from pinball_table.machine import read_machine
 from pinball_table.session import Session, log_lines
 from pinball_table.settings import read_settings
@@ -10,9 +14,14 @@ from pinball_table.smart_table import SmartTable
 from pinball_table.view import devices_of, game_of
 
 from . import games
-from .harness import COMPLETE, EXAMPLES, SLOW, TOP, equal, folder_of, played, programs, replayed, session_of, test
+from .harness import COMPLETE, EXAMPLES, SLOW, TOP, equal, folder_of
+from .harness import played, programs, replayed, session_of, test, without_notes
 
 LONG = 60_000  # ms of the log
+
+
+def lines_of(folder: Path) -> list[str]:
+    return log_lines((folder / "log").read_text())
 
 
 class LogHand:
@@ -64,7 +73,7 @@ def the_log_of_each_example_is_opened() -> None:
         machine = read_machine(folder)
         session = Session(machine, replayed(folder), SmartTable(read_settings(machine)))
         session.first = session.table.state() if session.table else None
-        equal(session.load(log_lines(folder / "log")), [])
+        equal(session.load(lines_of(folder)), [])
         session.shut_down("the end")
         wanted = (folder / "expected-play").read_text().splitlines()
         equal([line for line in session.trace if not line.startswith("#")], wanted)
@@ -72,11 +81,49 @@ def the_log_of_each_example_is_opened() -> None:
 
 
 @test
+def each_example_plays_without_a_table_yaml() -> None:
+    """If it has a trough, a ball comes to the playfield once a game has begun."""
+    for folder in EXAMPLES:
+        session, table = session_of(folder)
+        session.run_until(2000)
+        if button := session.machine.start_button():
+            table.tap(button, 2000)
+        session.run_until(6000)
+        equal((folder.name, table.loose), (folder.name, int(bool(session.machine.tagged("trough")))))
+        session.shut_down("the end")
+        equal(played(session.log(), folder), without_notes(session.trace))
+
+
+@test
+def a_folder_by_pinball_help_plays() -> None:
+    """What `errors --keep` leaves of a folder in which much is refused."""
+    with tempfile.TemporaryDirectory(prefix="test-table-") as room:
+        folder = Path(room) / "kept"
+        words = ["errors", str(TOP / "tools/pinball_help/planted"), "--keep", str(folder)]
+        command = [sys.executable, str(TOP / "tools/pinball-help"), *words, "--program", programs["pinball"]]
+        equal(subprocess.run(command, capture_output=True, timeout=SLOW).returncode, 1)
+        session, table = session_of(folder)
+        session.run_until(1000)
+        for switch in session.machine.switches:
+            table.tap(switch, session.moment)
+            session.run_until(session.moment + 200)
+        assert len(session.trace) > len(session.machine.switches), session.trace
+        session.shut_down("the end")
+        equal(played(session.log(), folder), without_notes(session.trace))
+
+
+@test
 def lines_that_are_refused_are_left_out() -> None:
     session, _ = session_of(TOP / "examples/first")
-    bad = ["9 s_nope 1", "4", "6 s_drain 2", "x", "7 s_drain 0 0", "٣ s_drain 1"]
-    equal(session.load(["# a log", "", "5 s_drain 1", *bad, "8\ts_drain   0"]), bad)
-    equal(session.log(), ["5 s_drain 1", "8 s_drain 0"])
+    bad = [
+        "9 s_nope 1", "4", "6 s_drain 2", "x", "7 s_drain 0 0", "٩ s_drain 1", " 6 s_drain 0", "6 s_drain 0 ",
+        "6\xa0s_drain 0", "  ", "0" * 21, f"{LATEST + 1}", f"{2**64} s_drain 0"]
+    good = ["5 s_drain 1", "8\ts_drain   0", "00000000000000000009 s_drain 1", f"{LATEST} s_drain 0"]
+    log = ["# a log", "", *good[:1], *bad, *good[1:]]
+    refused = [it for it in played(log, TOP / "examples/first") if it.startswith("refused")]
+    equal(len(refused), len(bad))
+    equal(session.load(log_lines("\r\n".join(log))), bad)
+    equal(session.log(), ["5 s_drain 1", "8 s_drain 0", "9 s_drain 1", f"{LATEST} s_drain 0"])
 
 
 @test
@@ -133,7 +180,7 @@ def a_log_that_was_opened_is_played_on() -> None:
     table = SmartTable(read_settings(machine))
     session = Session(machine, replayed(COMPLETE), table)
     session.first = table.state()
-    session.load(log_lines(COMPLETE / "log"))
+    session.load(lines_of(COMPLETE))
     session.go_to(sum(it.moment <= 2000 for it in session.steps))  # a ball rolls to the plunger
     equal((table.loose, table.flying), (0, 1))
     session.branch()
@@ -148,7 +195,7 @@ def a_log_that_was_opened_is_played_on() -> None:
 @test
 def a_replay_and_a_live_program_answer_the_same() -> None:
     """Line by line, also after going back."""
-    log = without_waits([it for it in log_lines(COMPLETE / "log") if not it.startswith("#")])[:24]
+    log = without_waits([it for it in lines_of(COMPLETE) if not it.startswith("#")])[:24]
     replay = replayed(COMPLETE)
     live = Live(programs["live"], COMPLETE, SLOW)
     for lines in log[:14], log:

@@ -245,6 +245,21 @@ def a_coil_of_the_name_of_a_plunger_kicks_it() -> None:
 
 
 @test
+def a_lock_keeps_a_ball_until_its_coil_kicks_it() -> None:
+    table = table_of("  lock: {ball_switches: s_hit, eject_coil: c_up, eject_targets: plunger}")
+    run(table, 0)
+    table.coil(PULSE["c_trough"], 0)
+    run(table, 1000)
+    table.plunge(1000)
+    run(table, 2000)
+    equal(table.loose, 1)
+    table.tap("s_hit", 2000)
+    equal((run(table, 5000), table.loose, table.flying), (["2000 s_hit 1"], 0, 0))
+    table.coil(PULSE["c_up"], 5000)
+    equal(run(table, 6000), ["5040 s_hit 0", "5640 s_plunger 1"])
+
+
+@test
 def drop_targets_stay_down_until_their_coil_raises_them() -> None:
     table = table_of(table="raises: {c_up: s_drop_1}")
     run(table, 0)

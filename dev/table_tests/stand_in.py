@@ -13,7 +13,7 @@ sys.dont_write_bytecode = True
 
 from pinball_table.answers import Refused, Replay  # noqa: E402
 
-FAR = 600_000  # ms: an alarm that is further away is not seen
+FAR = 60_000  # ms: an alarm that is further away is not seen
 
 
 def main() -> int:

@@ -16,6 +16,7 @@ from typing import Iterator
 from pinball_help.texts import read_texts, write_texts
 
 AHEAD = 5_000  # ms: how far a replay looks ahead for what is due
+LATEST = (1 << 40) - 1  # ms: the program takes no later moment
 LOADING = 60.0  # s: how long a program may take to read a folder
 
 
@@ -37,6 +38,7 @@ class Answers(ABC):
     The program is started more than once. So it reads a copy of the texts, which stays as it is if somebody edits them."""
 
     due: int | None = None
+    beat: float | None = None  # s: while a coil is held, it is to be asked so often, which shows that it does not hang
 
     def __init__(self, program: str, folder: Path, patience: float):
         self.program, self.patience = program, patience
@@ -63,6 +65,13 @@ class Answers(ABC):
     @abstractmethod
     def end(self) -> list[str]:
         """Shuts the machine down: a line for each coil that is put off."""
+
+    def watched(self) -> int | None:
+        """The file that is ready to be read once the program has ended, or none."""
+        return None
+
+    def check(self) -> None:
+        """Raises Gone if the program has ended though nobody has asked it."""
 
     def close(self) -> None:
         """Ends the program without a word."""
@@ -94,19 +103,20 @@ class Replay(Answers):
         self.ahead: list[str] = []  # those that follow, up to the moment `seen`
         self.seen = 0
         self.off: list[str] = []
-        self.play([])
+        self.play([], max(patience, LOADING))  # (so that a machine that is refused is not played)
 
-    def play(self, lines: list[str]) -> list[str]:
+    def play(self, lines: list[str], patience: float | None = None) -> list[str]:
         """The whole trace, without the coils that are put off at its end."""
+        patience = patience or self.patience
         with tempfile.NamedTemporaryFile("w", suffix=".log") as log:
             log.write("".join(f"{line}\n" for line in lines))
             log.flush()
             try:
                 ran = subprocess.run(
-                    [self.program, "play", log.name, str(self.folder)], capture_output=True, timeout=self.patience,
+                    [self.program, "play", log.name, str(self.folder)], capture_output=True, timeout=patience,
                     stdin=subprocess.DEVNULL)
             except subprocess.TimeoutExpired:
-                raise Gone(f"the program did not answer within {self.patience:g} s") from None
+                raise Gone(f"the program did not answer within {patience:g} s") from None
             except OSError as error:
                 raise Gone(f"the program does not run: {error.strerror}") from None
         written = ran.stdout.decode("utf-8", "replace").splitlines()
@@ -121,15 +131,16 @@ class Replay(Answers):
         moment = moment_of(line)
         if not (is_wait(line) and moment < self.seen):
             lines = without_waits([*self.lines, line])
-            found = self.play([*lines, str(moment + self.further)])[self.given :]
+            seen = min(moment + self.further, LATEST)
+            found = self.play([*lines, str(seen)])[self.given :]
             if refused := next((it for it in found if it.startswith("refused")), None):
                 raise Refused(f"{refused}: {line}")
-            self.ahead, self.seen = found, moment + self.further
+            self.ahead, self.seen = found, seen
         self.lines = without_waits([*self.lines, line])
         count = next((at for at, it in enumerate(self.ahead) if moment_of(it) > moment), len(self.ahead))
         said, self.ahead = self.ahead[:count], self.ahead[count:]
         self.given += count
-        self.due = moment_of(self.ahead[0]) if self.ahead else self.seen
+        self.due = moment_of(self.ahead[0]) if self.ahead else self.seen if self.seen > moment else None
         return said
 
     def ask_log(self, lines: list[str]) -> Iterator[tuple[str, list[str]]]:
@@ -171,6 +182,7 @@ class Live(Answers):
 
     def __init__(self, program: str, folder: Path, patience: float = 0.5):
         super().__init__(program, folder, patience)
+        self.beat = patience / 2
         self.start()
 
     def start(self) -> None:
@@ -215,6 +227,14 @@ class Live(Answers):
             if not piece:
                 raise self.gone("the program has ended", found)
             self.rest += piece
+
+    def watched(self) -> int | None:
+        return self.outlet
+
+    def check(self) -> None:
+        if select.select([self.outlet], [], [], 0)[0]:
+            said = os.read(self.outlet, 65_536)
+            raise self.gone("the program spoke unasked" if said else "the program has ended")
 
     def gone(self, why: str, lines: list[str] | None = None) -> Gone:
         self.process.kill()

@@ -17,7 +17,7 @@ from pinball_help.texts import MACHINE
 from .answers import Answers, Gone, Live, Refused, Replay
 from .machine import Machine, read_machine
 from .platforms import BoardFailure, Platform
-from .player import Player
+from .player import NotNow, Player
 from .serial_board import PATIENCE, SerialBoard
 from .server import Server
 from .session import Session, log_lines
@@ -99,16 +99,16 @@ def server_of(asked: argparse.Namespace, player: Player, words: str) -> Server:
 
 def play(asked: argparse.Namespace) -> int:
     make_answers, words = answers_of(asked)
-    lines = log_lines(asked.open) if asked.open else None
+    lines = log_lines(asked.open.read_bytes().decode("utf-8", "replace")) if asked.open else None
 
     def make() -> tuple[Session, Settings]:
         machine = read_machine(asked.dir)
         settings = read_settings(machine)
-        platform = platform_of(asked, machine, settings)
+        answers = make_answers()  # (before the board, which would hear nothing while the program starts)
         try:
-            return Session(machine, make_answers(), platform), settings
+            return Session(machine, answers, platform_of(asked, machine, settings)), settings
         except BaseException:
-            platform.close()
+            answers.close()
             raise
 
     player = Player(make, log=asked.log)
@@ -129,13 +129,15 @@ def play(asked: argparse.Namespace) -> int:
 
 def main() -> int:
     asked = parser().parse_args()
+    if asked.board and asked.open:
+        parser().error("--open plays a log on the simulated table: leave out --board")
     try:
         return play(asked)
     except Refused as refused:
         print(refused)
         print(f"pinball-table: refused: tools/pinball-help errors {asked.dir} says more", file=sys.stderr)
         return 1
-    except (NoAnswer, Gone, BoardFailure) as error:
+    except (NoAnswer, NotNow, Gone, BoardFailure) as error:
         print(f"pinball-table: {error}", file=sys.stderr)
         return 3
     except (OSError, BadSetting) as error:

@@ -43,7 +43,3 @@ class Feed:
             new, is_whole = self.lines[first:], seen.epoch != self.epoch or first > seen.lines
             seen.version, seen.epoch, seen.lines = self.version, self.epoch, len(self.lines)
             return f'{{"state": {self.state}, "anew": {json.dumps(is_whole)}, "lines": {json.dumps(new)}}}'
-
-    def trace(self) -> list[str]:
-        with self.condition:
-            return list(self.lines)

@@ -22,6 +22,7 @@ from .view import state_of
 FRAME = 0.025  # s: the page hears of changes at most so often ..
 QUIET = 0.5  # s: .. and of the time at least so often
 ANSWER = 120.0  # s: how long a caller waits for the loop
+LONGEST_STEP = 60_000  # ms: a step goes on at most so far
 PAGE = "the page"  # who holds a switch, if no page says its name
 
 T = TypeVar("T")
@@ -48,6 +49,7 @@ class Player:
         self.is_over = False
         self.stop_reason = ""
         self.shown = 0.0  # when the page heard last
+        self.asked = 0.0  # when the program answered last
         self.is_new = True
         self.number = 0  # of sessions that were begun again
         self.kept, self.is_other_log = 0, False  # how many steps the log's file has, and whether of another log
@@ -57,7 +59,7 @@ class Player:
 
     def begin(self) -> Session:
         session, self.settings = self.make()
-        session.start()
+        session.begin()
         self.clock.go_on_from(0)
         self.watch.begin()
         return session
@@ -89,9 +91,11 @@ class Player:
             self.wait()
             if not session.ended:
                 self.watch.check()
+                session.answers.check()
                 session.platform.poll(self.clock.now())
             self.answer_calls()
             self.carry_out()
+            self.look_whether_it_hangs()
         except Gone as gone:
             self.is_new = True
             self.session.put_off(gone.why)
@@ -105,12 +109,13 @@ class Player:
     def wait(self) -> None:
         """Sleeps until something is to be done."""
         session = self.session
-        longest = session.platform.interval
-        seconds = longest if session.ended else min(longest, self.clock.until(session.next()))
+        seconds, files = session.platform.interval, [self.wakes]
+        if not session.ended:
+            seconds = min(seconds, session.answers.beat or seconds, self.clock.until(session.next()))
+            files += [it for it in (session.platform.watched(), session.answers.watched()) if it is not None]
         if self.is_new:
             seconds = min(seconds, max(0.0, self.shown + FRAME - time.monotonic()))
-        board = None if session.ended else session.platform.watched()
-        ready, _, _ = select.select([self.wakes, *([board] if board is not None else [])], [], [], seconds)
+        ready, _, _ = select.select(files, [], [], seconds)
         if self.wakes in ready:
             os.read(self.wakes, 4096)
 
@@ -122,9 +127,20 @@ class Player:
             self.watch.check()
             self.session.step()
             self.clock.go_on_from(max(coming, self.session.moment))
-            self.is_new = True
+            self.asked, self.is_new = time.monotonic(), True
             if not self.calls.empty():
                 break
+
+    def look_whether_it_hangs(self) -> None:
+        """Lets a program that holds a coil answer a line in which nothing happens, if it was asked nothing for long."""
+        session, now = self.session, max(self.clock.now(), self.session.moment)
+        if session.ended or session.answers.beat is None or not session.platform.held or session.future:
+            return
+        coming, since = session.next(), time.monotonic() - self.asked
+        if since > session.answers.beat and (coming is None or coming > now):
+            session.ask(str(now), now, None)
+            self.clock.go_on_from(now)
+            self.asked = time.monotonic()
 
     def publish(self) -> None:
         self.feed.publish(state_of(self), self.session.trace, self.session.epoch)
@@ -255,20 +271,31 @@ class Player:
         """Goes on to the next step in which something happens, and waits there."""
         self.by_hand()
         self.clock.pause(True)
-        session = self.session
-        while (coming := session.next()) is not None:
+        session, now, count = self.session, self.clock.now(), self.count_to_last()
+        if session.ended:
+            raise NotNow("the machine is shut down")
+        while (coming := session.next()) is not None and (session.future or coming <= now + LONGEST_STEP):
             done = session.step()
             self.clock.go_on_from(max(coming, session.moment))
             if done and not is_idle(done):
-                break
+                return
+        if len(session.steps) > count:  # (it has only waited)
+            session.go_to(count)
+            session.branch()
+        self.clock.go_on_from(max(now, session.moment))
+        raise NotNow(f"nothing happens by itself within {LONGEST_STEP // 1000} s")
 
     def back(self) -> None:
         """Goes back to before the last step in which something happened, and waits there."""
         self.by_hand()
+        self.go_to_step(max(0, self.count_to_last() - 1))
+
+    def count_to_last(self) -> int:
+        """How many steps there are up to the last one in which something happened."""
         count = len(self.session.steps)
         while count and is_idle(self.session.steps[count - 1]):
             count -= 1
-        self.go_to_step(max(0, count - 1))
+        return count
 
     def go_to(self, moment: int) -> None:
         self.by_hand()
@@ -292,14 +319,13 @@ class Player:
         self.by_hand()
         try:
             session, settings = self.make()
+            try:
+                refused = session.begin(lines)
+            except BaseException:
+                session.answers.close()
+                raise
         except (Refused, Gone, BadSetting, OSError) as error:
             raise NotNow(f"the machine is not played: {error}") from None
-        refused: list[str] = []
-        if lines is not None:
-            session.first = session.table.state() if session.table else None
-            refused = session.load(lines)
-        else:
-            session.start()
         self.session.shut_down("a new session begins")
         self.session, before, self.settings = session, self.session, settings
         self.number, self.is_other_log = self.number + 1, True

@@ -131,7 +131,7 @@ class SerialBoard(Platform):
         words = line.split()
         if words[:2] == ["hello", str(VERSION)] or not words:
             return
-        if words[0] == "beat":
+        if words[0] == "beat" and len(words) == 2:
             self.is_waiting = self.is_waiting and words[1:] != [str(self.beats)]
         elif words == ["ready"]:
             self.is_ready = True

@@ -14,12 +14,13 @@ from typing import Any, Callable
 from urllib.parse import parse_qsl, urlsplit
 
 from . import layout
-from .answers import Refused
+from .answers import LATEST, Refused
 from .feed import Seen
 from .player import NotNow, Player
 from .record import record
-from .settings import PICTURE
-from .view import about
+from .session import log_lines
+from .settings import FILE, PICTURE
+from .view import about, state_of
 
 PAGE = Path(__file__).with_name("page")
 KINDS = {".html": "text/html", ".css": "text/css", ".js": "text/javascript"}
@@ -49,6 +50,12 @@ def deeds(player: Player) -> dict[str, Callable[[dict[str, Any]], Any]]:
             raise BadRequest("there is no such switch")
         return words["switch"]
 
+    def place(words: dict[str, Any]) -> None:
+        try:
+            layout.place(player.settings, text(words, "name"), number(words, "x"), number(words, "y"))
+        except OSError as error:
+            raise NotNow(f"{FILE} cannot be written: {error.strerror}") from None
+
     return {
         "tap": lambda it: player.tap(switch(it)),
         "press": lambda it: player.press(switch(it), text(it, "page")),
@@ -63,10 +70,10 @@ def deeds(player: Player) -> dict[str, Callable[[dict[str, Any]], Any]]:
         "speed": lambda it: player.set_speed(number(it, "speed")),
         "go_to": lambda it: player.go_to(int(number(it, "moment"))),
         "start_over": lambda _: player.start_over(),
-        "open": lambda it: player.start_over(text(it, "log").splitlines()),
+        "open": lambda it: player.start_over(log_lines(text(it, "log"))),
         "shut_down": lambda _: player.shut_down("shut down from the page"),
         "record": lambda it: record(player.session, text(it, "title"), texts(it, "lines")),
-        "place": lambda it: layout.place(player.settings, text(it, "name"), number(it, "x"), number(it, "y")),
+        "place": place,
     }
 
 
@@ -85,7 +92,7 @@ def texts(words: dict[str, Any], key: str) -> list[str]:
 
 def number(words: dict[str, Any], key: str) -> float:
     value = words.get(key)
-    if isinstance(value, bool) or not isinstance(value, (int, float)) or not -1e12 < value < 1e12:
+    if isinstance(value, bool) or not isinstance(value, (int, float)) or not abs(value) <= LATEST:
         raise BadRequest(f"`{key}` has to be a number")
     return value
 
@@ -151,15 +158,15 @@ class Handler(BaseHTTPRequestHandler):
             self.refuse(404, "there is no such page")
 
     def lines(self, path: str) -> None:
-        """The log, the trace, or the state."""
+        """The log, the trace, or the state, as they are now."""
         player = self.server.player
         if path == "/log":
-            found = player.call(player.session.log)
+            found = player.call(lambda: player.session.log())
             name = f"{player.session.machine.name}.log"
         elif path == "/trace":
-            found, name = player.feed.trace(), "trace"
+            found, name = player.call(lambda: list(player.session.trace)), "trace"
         else:
-            return self.reply(200, "application/json", player.feed.state.encode())
+            return self.reply(200, "application/json", json.dumps(player.call(lambda: state_of(player))).encode())
         safe = "".join(it if it.isascii() and (it.isalnum() or it in "_-.") else "_" for it in name)
         more = {"Content-Disposition": f'attachment; filename="{safe}"'} if path == "/log" else None
         self.reply(200, "text/plain; charset=utf-8", "".join(f"{line}\n" for line in found).encode(), more)

@@ -3,18 +3,20 @@
 A step is one line of the log: a switch changes, or an alarm is due. Nothing here looks at the wall's clock: `player`
 does, and a test goes straight from one moment to the next. If the table is simulated, a session can go back.
 """
+import re
 from dataclasses import dataclass
-from pathlib import Path
 from typing import Iterable
 
 from pinball_help.trace import Step as TraceStep
 from pinball_help.trace import steps_of
 
-from .answers import Answers, Gone, Refused, is_wait, moment_of, without_waits
+from .answers import LATEST, Answers, Gone, Refused, is_wait, moment_of, without_waits
 from .machine import Machine
 from .monitor import Monitor
 from .platforms import BoardFailure, Change, Command, Platform
 from .smart_table import SmartTable, State
+
+LINE = re.compile(r"([0-9]{1,20})(?:[ \t]+([^ \t]+)[ \t]+([01]))?")  # of a log
 
 
 @dataclass(frozen=True)
@@ -41,11 +43,14 @@ class Session:
         self.ended = ""  # why the session is over
         self.epoch = 0  # grows when the trace does anything but grow
 
-    def start(self) -> None:
-        """Lays the balls into a simulated table."""
-        if self.table:
+    def begin(self, log: Iterable[str] | None = None) -> list[str]:
+        """Lays the balls into a simulated table, or plays a log. Gives the lines of it that are refused."""
+        if not self.table:
+            return []
+        if log is None:
             self.table.fill()
-            self.first = self.table.state()
+        self.first = self.table.state()
+        return [] if log is None else self.load(log)
 
     @property
     def moment(self) -> int:
@@ -188,22 +193,21 @@ class Session:
         played: list[tuple[Change | None, str]] = []
         refused, last = [], self.moment
         for line in lines:
-            words = line.split()
-            if not words or line.startswith("#"):
+            if not line or line.startswith("#"):
                 continue
-            moment = int(words[0]) if words[0].isdecimal() else -1
-            change = self.change_of(words, moment)
-            if moment < last or not (change or len(words) == 1):
+            parts = LINE.fullmatch(line)
+            moment = int(parts[1]) if parts else -1
+            if not parts or not last <= moment <= LATEST or parts[2] and parts[2] not in self.machine.switches:
                 refused.append(line)
                 continue
-            played.append((change, " ".join([str(moment), *words[1:]])))
+            change = self.change_of(moment, parts[2], int(parts[3])) if parts[2] else None
+            played.append((change, " ".join([str(moment), *parts.groups()[1:]]) if change else str(moment)))
             last = moment
         return played, refused
 
-    def change_of(self, words: list[str], moment: int) -> Change | None:
-        """The change that a line of a log says, if there is such a switch."""
-        switch = self.machine.switches.get(words[1]) if len(words) == 3 and words[2] in ("0", "1") else None
-        return Change(moment, switch.name, int(words[2]) == switch.level(True)) if switch else None
+    def change_of(self, moment: int, switch: str, level: int) -> Change:
+        """The change that a line of a log says."""
+        return Change(moment, switch, level == self.machine.switches[switch].level(True))
 
     def follow(self, line: str, change: Change | None, said: list[str]) -> None:
         """Only looks at what a coil does: the log says what it does to the switches."""
@@ -241,5 +245,6 @@ def command_of(step: TraceStep) -> Command | None:
     return Command(coil, action, 0, int(numbers[0]) if numbers else 0)
 
 
-def log_lines(path: Path) -> list[str]:
-    return path.read_text("utf-8", "replace").splitlines()
+def log_lines(text: str) -> list[str]:
+    """The lines of a log, as the program reads them."""
+    return [line.removesuffix("\r") for line in text.split("\n")]

@@ -5,7 +5,7 @@ from typing import TYPE_CHECKING
 
 from .machine import Machine
 from .monitor import Monitor
-from .settings import PICTURE
+from .settings import PICTURE, Settings
 
 if TYPE_CHECKING:
     from .player import Player
@@ -15,32 +15,40 @@ OTHERS = "other"
 
 def about(player: Player, program: str) -> dict:
     """What the machine has, and what the page may do with it."""
-    settings, machine = player.settings, player.settings.machine
-    keys: dict[str, list[str]] = {}
-    for key, name in settings.keys.items():
-        keys.setdefault(name, []).append(key)
-    targets = {switch for switches in settings.raises.values() for switch in switches}
-    places = machine.ball_switches()
+    settings, machine, is_board = player.settings, player.settings.machine, player.session.platform.is_board
+    keys, actions, stay = ({}, {}, set()) if is_board else by_hand(settings)
     return {
         "name": machine.name,
         "program": program,
-        "board": player.session.platform.is_board,
+        "board": is_board,
         "session": player.number,
         "picture": (machine.folder / PICTURE).is_file(),
         "switches": [
             {"name": it.name, "label": it.label, "number": it.number, "group": group_of(machine, it.name),
-             "stays": it.name in targets or it.name in places, "keys": keys.get(it.name, [])}
+             "stays": it.name in stay, "keys": keys.get(it.name, [])}
             for it in machine.switches.values()],
         "coils": [{"name": it.name, "label": it.label, "number": it.number} for it in machine.coils.values()],
         "devices": [{"name": it.name, "switches": it.switches, "target": it.target} for it in machine.devices.values()],
         "modes": sorted(([name, priority] for name, priority in machine.modes.items()), key=lambda it: -it[1]),
         "timers": list(machine.timers),
-        "actions": {
-            "drain": keys.get("drain", []) if settings.drain else None,
-            "plunge": keys.get("plunge", []) if any(not it.coil for it in machine.devices.values()) else None},
+        "actions": actions,
         "keys": settings.keys,
         "layout": settings.layout,
     }
+
+
+def by_hand(settings: Settings) -> tuple[dict[str, list[str]], dict[str, list[str]], set[str]]:
+    """What only a simulated table has: the keys of each switch and action, those of the actions that there are, and the
+    switches that stay as a click has left them."""
+    machine = settings.machine
+    keys: dict[str, list[str]] = {}
+    for key, name in settings.keys.items():
+        keys.setdefault(name, []).append(key)
+    has_plunger = any(not device.coil for device in machine.devices.values())
+    there = {"drain": bool(settings.drain), "plunge": has_plunger}
+    targets = {switch for switches in settings.raises.values() for switch in switches}
+    stay = targets | machine.ball_switches().keys()
+    return keys, {action: keys.get(action, []) for action, is_there in there.items() if is_there}, stay
 
 
 def group_of(machine: Machine, switch: str) -> str:

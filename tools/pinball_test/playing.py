@@ -31,7 +31,7 @@ class Play:
         self.machine, self.with_table = settings.machine, with_table
         self.table = SmartTable(settings) if with_table else PlainTable(settings)
         self.session = Session(self.machine, answers, self.table)
-        self.session.start()
+        self.session.begin()
         self.state = Monitor(self.machine)
         self.now = self.changes = self.known = 0
         self.steps: list[Step] = []

@@ -21,7 +21,7 @@ async function make() {
   makeTable(machine);
   makePanels(machine);
   makeTrace(machine);
-  byId("time").hidden = byId("start_over").hidden = byId("open").hidden = machine.board;
+  for (const it of ["time", "start_over", "open", "latch_label", "by_hand"]) byId(it).hidden = machine.board;
   byId("clock").title = `the time of the log; ${machine.program}`;
 }
 
@@ -87,20 +87,25 @@ byId("edit").onchange = event => setMoving(event.target.checked);
 
 const typing = event => event.target.matches("input:not([type=checkbox]):not([type=range]), select, textarea");
 const keyOf = event => event.code === "Space" ? "Space" : event.key;
+const down = new Map();  // the switch that each key of the keyboard presses, whatever Shift makes of it meanwhile
 
 addEventListener("keydown", event => {
-  if (!machine || typing(event) || event.ctrlKey || event.altKey || event.metaKey) return;
+  if (!machine || machine.board || typing(event) || event.ctrlKey || event.altKey || event.metaKey) return;
   const key = keyOf(event), name = machine.keys[key] ?? machine.keys[key.toLowerCase()];
   const act = name === undefined ? ACTS[key] : ACTIONS[name];
-  if (name === undefined && !(act && !machine.board)) return;
+  if (name === undefined && !act) return;
   event.preventDefault();
   if (event.repeat) return;
   if (act === "pause") pause();
   else if (act) ask(act);
-  else press(name, event.shiftKey && key !== event.key.toUpperCase());
+  else {
+    down.set(event.code, name);
+    press(name, event.shiftKey && key !== event.key.toUpperCase());
+  }
 });
 addEventListener("keyup", event => {
-  const key = keyOf(event), name = machine?.keys[key] ?? machine?.keys[key.toLowerCase()];
+  const name = down.get(event.code);
+  down.delete(event.code);
   if (name !== undefined) release(name);
 });
 

@@ -59,13 +59,13 @@ function switchButton(it) {
   for (const key of it.keys) button.append(element("kbd", "", key));
   button.onpointerdown = event => {
     if (isMoving) return move(event, button, it.name);
-    if (event.button) return;
+    if (event.button || machine.board) return;
     button.setPointerCapture(event.pointerId);
     press(it.name, event.shiftKey || byId("latch").checked);
   };
   button.onpointerup = button.onpointercancel = button.onlostpointercapture = () => release(it.name);
   button.onkeydown = event => {
-    if (event.key !== "Enter") return;
+    if (event.key !== "Enter" || machine.board) return;
     event.preventDefault();
     if (!event.repeat) press(it.name, event.shiftKey);
   };

@@ -10,6 +10,7 @@ const KINDS = {
 };
 let cascades = [], chosen = null, machine;
 let follows = true;  // whether the end of the trace stays in sight
+let laidOut = "";  // the sizes of the trace when its end was shown last
 
 export function makeTrace(about) {
   machine = about;
@@ -17,10 +18,16 @@ export function makeTrace(about) {
   const owners = ["machine", ...about.modes.map(([name]) => name)];
   byId("owner").replaceChildren(new Option("all owners", ""), ...owners.map(it => new Option(it, it)));
   for (const id of ["kind", "owner", "words"]) byId(id).oninput = showAll;
-  const log = byId("trace");
-  log.onscroll = () => { follows = log.scrollTop + log.clientHeight > log.scrollHeight - 40; };
-  new ResizeObserver(showEnd).observe(log);
 }
+
+// Somebody who scrolls up leaves the end. But if the layout has changed meanwhile, this was not done by hand.
+byId("trace").onscroll = ({target: log}) => {
+  if (sizesOf(log) !== laidOut) showEnd();
+  else follows = log.scrollTop + log.clientHeight > log.scrollHeight - 40;
+};
+new ResizeObserver(showEnd).observe(byId("trace"));
+
+const sizesOf = log => `${log.clientWidth} ${log.clientHeight} ${log.scrollHeight}`;
 
 function parsed(text) {
   const words = text.split(" ");
@@ -77,7 +84,9 @@ function show(some) {
 }
 
 function showEnd() {
-  if (follows) byId("trace").scrollTop = byId("trace").scrollHeight;
+  const log = byId("trace");
+  if (follows) log.scrollTop = log.scrollHeight;
+  laidOut = sizesOf(log);
 }
 
 function lineOf(line, at) {
