@@ -285,14 +285,13 @@ def what_is_no_error_and_seldom_meant_is_said() -> None:
 
 @test
 def many_findings_take_few_lines() -> None:
-    raise NotTried("open: the short form takes 133 lines, and not 116")
     with redirect_stdout(io.StringIO()) as written:
         words = ["pinball-help", "errors", "--program", PROGRAM.path, str(MACHINES / "modern")]
         with patch.object(sys, "argv", words):
             assert command.main() == 1
     lines = written.getvalue().split("\n")[:-1]
     count = len([it for it in report_of("modern").findings if not it.follows])
-    assert count > 115 and len(lines) <= count * 100 // 115, (count, len(lines))
+    assert count > 115 and len(lines) <= 100, (count, len(lines))
     room = 120 + len(str(MACHINES / "modern"))
     assert all(len(it) <= 120 or "--full" in it and len(it) <= room for it in lines), max(lines, key=len)
 
@@ -304,9 +303,9 @@ def what_is_the_same_is_one_finding_with_its_places() -> None:
     found = findings(f"shots:\n{shots}event_player:\n{delays}")
     assert len(found) == 18 and len(short.grouped(found)) == 2, found
     lines = short.shown(found)
-    assert lines[:2] == [MACHINE, "  4,6,8,10,12,14 and 2 more: UnknownSetting show_tokens: "
-                         "Take it out: shows are for other programs."], lines
-    assert lines[2].startswith("  20,21,22,23,24,25 and 4 more: BadValue: Write the event without the time"), lines
+    assert lines[0] == f"{MACHINE}:4,6,8,10,12,14 and 2 more: UnknownSetting show_tokens: " \
+                       "Take it out: shows are for other programs.", lines
+    assert lines[1].startswith("  20,21,22,23,24,25 and 4 more: BadValue: Write the event without the time"), lines
 
 
 @test

@@ -8,7 +8,7 @@ import sys
 from dataclasses import asdict, replace
 from pathlib import Path
 
-from . import errors, hints, picture, program, schema, short, trace, unused
+from . import errors, hints, lines, picture, program, schema, short, trace, unused
 from .answers import Answer, answer_of, complaint_of
 from .findings import Finding, as_json, cure_of, finding_of, shown
 from .printed import clean
@@ -41,8 +41,8 @@ def write_errors(asked: argparse.Namespace) -> int:
         write_texts(report.texts, keep)
     warning = kept_words(report, keep) if keep and report.findings else ""
     more = hints.hints(report.scene, Path(asked.dir))
-    if asked.json:
-        print(json.dumps([*(as_json(it) for it in found), *map(hint_as_json, more)], indent=2))
+    if asked.json or asked.lines:
+        print(for_editors(asked, report, found, more), end="")
         print(warning, end="", file=sys.stderr)
         return 1 if found else 0
     print(warning, end="\n" if warning else "")
@@ -57,6 +57,14 @@ def write_errors(asked: argparse.Namespace) -> int:
     print(NO_PROOF)
     print(warning, end="")
     return 1 if found else 0
+
+
+def for_editors(asked: argparse.Namespace, report: errors.Report, found: list[Finding], more: list[hints.Hint]) -> str:
+    """The findings and the hints as JSON; or in lines, with what is not read."""
+    if asked.json:
+        return json.dumps([*(as_json(it) for it in found), *map(hint_as_json, more)], indent=2) + "\n"
+    notes = lines.notes_of(report.scene, report.answer)
+    return "".join(f"{it}\n" for it in lines.lines(Path(asked.dir), found, more, notes))
 
 
 def hint_as_json(hint: hints.Hint) -> dict:
@@ -213,6 +221,7 @@ def parser() -> argparse.ArgumentParser:
     one = commands.add_parser("errors", help="all errors and faults of a machine at once")
     one.add_argument("dir", metavar="DIR", help="the folder of the machine")
     one.add_argument("--json", action="store_true", help="for editors")
+    one.add_argument("--lines", action="store_true", help="for editors too: a line for each, as compilers write them")
     one.add_argument("--full", action="store_true", help="each error with its lines, even if there are many")
     one.add_argument(
         "--keep", metavar="COPY", help="writes a folder in which all that is refused is left out, with comments"
