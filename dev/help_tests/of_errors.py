@@ -85,7 +85,6 @@ def all_pairs() -> list[Pair]:
 
 @test
 def two_slips_in_one_section_are_both_found() -> None:
-    raise NotTried("open: a setting without a colon is found a line late")
     assert len(SLIPS) == len({*SLIPS}) == 40
     pairs: list[Pair] = [(slip, None, False) for slip in SLIPS]
     for pair in [*pairs, *random.Random(80).sample(all_pairs(), DRAWN)]:

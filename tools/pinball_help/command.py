@@ -24,6 +24,7 @@ NO_PROOF = "These are hints, and nothing here is proved. The answer that counts 
 LINE_NUMBERS = (
     "Line numbers are those of your files now: begin with the last one, or run this again after each change."
 )
+MAY_BE_MORE = "There may be others that come after the last of these: mend it, and look again."
 MOST_IN_FULL = 8  # findings; more are listed in short form
 MOST_CURES = 200  # that `explain` looks for in the texts: each may take milliseconds
 MOST_NAMES = 3  # of switches that are named, and not counted
@@ -43,7 +44,7 @@ def write_errors(asked: argparse.Namespace) -> int:
     more = hints.hints(report.scene, Path(asked.dir))
     if asked.json or asked.lines:
         print(for_editors(asked, report, found, more), end="")
-        print(warning, end="", file=sys.stderr)
+        print(f"{MAY_BE_MORE}\n" * is_open(report) + warning, end="", file=sys.stderr)
         return 1 if found else 0
     print(warning, end="\n" if warning else "")
     is_short = len(found) > MOST_IN_FULL and not asked.full
@@ -74,14 +75,18 @@ def hint_as_json(hint: hints.Hint) -> dict:
     return {**as_json(found), "severity": "hint"}
 
 
+def is_open(report: errors.Report) -> bool:
+    """Whether a machine may have more errors than were found."""
+    return report.unsolved or not (report.answer and report.answer.accepted)
+
+
 def counted(report: errors.Report, found: list[Finding], full: str) -> str:
     """How many there are; `full` is the command that says more, if there is one."""
     follows = len(report.findings) - len(found)
     if not report.findings:
         return "Nothing to mend: the answer is yes."
     more = f" {follows} more follow from these." if follows else ""
-    if report.unsolved or not (report.answer and report.answer.accepted):
-        more += " There may be others that come after the last of these: mend it, and look again."
+    more += f" {MAY_BE_MORE}" if is_open(report) else ""
     if len(found) < 2:
         return f"{len(found)} to mend.{more}"
     if full:

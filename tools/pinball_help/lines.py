@@ -17,7 +17,7 @@ WIDTH = 1_000  # of what to do, in characters
 def lines(folder: Path, found: list[Finding], hints: list[Hint], notes: list[Hint]) -> Iterator[str]:
     """A line for each finding, each hint and each note. What has no place is at the first line of the machine."""
     for it in found:
-        words = f"{short.what_of([it])}: {short.advice(it, WIDTH)}"
+        words = f"{short.what_of([it])}: {short.advice([it], WIDTH)}"
         yield line(folder, it.text if it.line else MACHINE, it.line, it.column, f"error: {words}")
     said = {(it.text, it.line, it.key) for it in hints}
     others = [it for it in notes if (it.text, it.line, it.key) not in said]
