@@ -9,6 +9,7 @@ import subprocess
 import sys
 import tempfile
 from contextlib import contextmanager, redirect_stdout
+from functools import cache
 from pathlib import Path
 from typing import Iterator
 from unittest.mock import patch
@@ -48,6 +49,7 @@ def machine() -> Iterator[tuple[Path, dict[str, str]]]:
         yield folder, {**os.environ, "PATH": f"{commands}:{os.environ['PATH']}", "HOME": room, "TERM": "dumb"}
 
 
+@cache
 def places() -> list[Place]:
     """Where the findings are, as the JSON says it."""
     return [(it["text"], max(1, it["line"]), it["column"]) for it in json.loads(output("--json", str(SLIPS)))]
@@ -69,6 +71,7 @@ def each_finding_is_a_line_as_compilers_write_them() -> None:
 @test
 def what_is_not_read_is_a_line_too() -> None:
     with machine() as (folder, _):
+        shutil.rmtree(folder / "modes")
         (folder / MACHINE).write_text("#config_version=6\nlights:\n  l:\nmodes: [base]\ncoils:\n  c: {tpye: 1}\n")
         at = folder / MACHINE
         shown = [it.removeprefix(str(at)) for it in output("--lines", str(folder)).splitlines()]
@@ -121,7 +124,8 @@ EMACS = """(progn
     (while (not done) (accept-process-output nil 0.1))
     (condition-case nil
         (while t (next-error)
-          (push (format "%%s:%%d:%%d" (buffer-file-name) (line-number-at-pos) (1+ (current-column))) found))
+          (with-current-buffer (window-buffer (selected-window))
+            (push (format "%%s:%%d:%%d" (buffer-file-name) (line-number-at-pos) (1+ (current-column))) found)))
       (error nil))
     (write-region (mapconcat #'identity (nreverse found) "\\n") nil "it")))"""
 

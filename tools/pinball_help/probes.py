@@ -14,6 +14,7 @@ from .scenery import Scenery
 from .texts import MACHINE, VERSION, Edit, Line, Texts, edited, plain
 
 WORKERS = 4
+BATCHES = 32  # of the sections of a text: it may have thousands
 
 
 def is_error(complaint: Complaint) -> bool:
@@ -48,6 +49,8 @@ class Probes:
         """The first error of a part of a text.
 
         The empty lines before its content are left out. So it is known if it comes again at another place."""
+        if time.process_time() > self.until:
+            raise OutOfTime
         first = next((at for at, line in enumerate(part.lines) if line), len(part.lines))
         found = self.first_error_of(owner, text, "\n".join(part.lines[first:]))
         return moved(found, part.above + first - 1) if found else None
@@ -56,8 +59,6 @@ class Probes:
         """The first error of a text that has these words below its first line."""
         key = (text, hashlib.blake2b(words.encode("utf-8", "surrogateescape")).digest())
         if key not in self.known:
-            if time.process_time() > self.until:
-                raise OutOfTime
             texts = {text: [VERSION, words]}
             if text != MACHINE:
                 texts = {MACHINE: [VERSION, f"modes: {owner}"], **texts}
@@ -80,8 +81,12 @@ class Probes:
         if self.first_error(scene.owner(text), text, Part(tuple(lines[1:]), 1)) is None:
             return []
         sections = blocks.sections_of(lines)
-        found = self.workers.map(lambda it: self.errors_of_section(scene.owner(text), text, lines, it), sections)
-        return [complaint for complaints in found for complaint in complaints]
+        batches = [sections[at::BATCHES] for at in range(BATCHES)]
+        found = self.workers.map(lambda it: self.errors_of_sections(scene.owner(text), text, lines, it), batches)
+        return sorted((it for complaints in found for it in complaints), key=lambda it: it.line)
+
+    def errors_of_sections(self, owner: str, text: str, lines: list[str], sections: list[Block]) -> list[Complaint]:
+        return [found for it in sections for found in self.errors_of_section(owner, text, lines, it)]
 
     def errors_of_section(self, owner: str, text: str, lines: list[str], section: Block) -> list[Complaint]:
         """The first error of each entry: each that is found is left out, and the rest is asked about again."""
