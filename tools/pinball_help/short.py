@@ -103,7 +103,7 @@ def what_of(group: list[Finding]) -> str:
         return cut(first.said, COLUMNS - LONGEST)
     name = first.message.split()[2]
     keys = {key_of(it) for it in group}
-    return f"{name} {cut(keys.pop(), LONGEST)}" if len(keys) == 1 else name
+    return f"{name} {cut(keys.pop(), LONGEST)}".rstrip() if len(keys) == 1 else name
 
 
 def cut(text: str, most: int) -> str:
@@ -111,7 +111,7 @@ def cut(text: str, most: int) -> str:
 
 
 def key_of(finding: Finding) -> str:
-    found = re.match(rf"(?:error|fault) \d+ \w+ {re.escape(finding.text)} \d+ (.*)$", finding.said)
+    found = re.match(rf"(?:error|fault) \d+ \w+ (?:{re.escape(finding.text)} \d+ )?(.*)$", finding.said)
     return found[1] if found else ""
 
 
