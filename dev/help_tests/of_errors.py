@@ -101,6 +101,42 @@ def two_mistakes_in_one_line_are_both_found() -> None:
     ], found
 
 
+@test
+def a_line_without_a_colon_is_found_at_its_line() -> None:
+    """Also if what is before it is left out meanwhile: there it could be the value of its section."""
+    texts = {
+        "switches:\n  s_before:\n   s_one:\n    number: 1\n  s_two\n    number: 1": [4, 6],
+        "switches:\n  s_a:\ncoils\n  c_a:": [4],
+        "switches:\n  s_a: {tpye: NC}\ncoils\n  c_a:\n  c_b: }": [3, 4, 6],
+    }
+    for text, wanted in texts.items():
+        report = search(texts_of(text))
+        assert [it.line for it in report.findings if not it.follows] == wanted, (text, report.findings)
+        assert report.answer and report.answer.accepted, text
+
+
+@test
+def what_is_mended_stays_and_the_smallest_part_is_taken_out() -> None:
+    """A coil that is used stays defined, whatever is wrong in it: so there is no finding about its use."""
+    use = "coil_player:\n  a: {c_one: pulse, c_two: pulse, c_three: pulse}"
+    coils = "coils:\n  c_one:\n    number: 1\n    - stray\n  c_two:\n    default_pulse_ms: &x 10\n  c_three: {nubmer: 2}"
+    report = search(texts_of(f"{coils}\n{use}"))
+    assert [it.line for it in report.findings] == [5, 7, 8], report.findings
+    kept = [line for line in plain(report.texts[MACHINE])[2:8] if line]
+    assert kept == ["  c_one:", "    number: 1", "  c_two:", "    default_pulse_ms: 10", "  c_three: {number: 2}"], kept
+
+
+@test
+def a_search_that_is_cut_short_says_what_comes_first() -> None:
+    text = "coils:\n  c: {hold_power: 4}\nshots:\n  s: {proflie: target}"
+    with folder_of(texts_of(text)) as folder, redirect_stdout(io.StringIO()) as written:
+        words = ["pinball-help", "errors", "--program", PROGRAM.path, "--within", "0", str(folder)]
+        with patch.object(sys, "argv", words):
+            assert command.main() == 1
+    said = written.getvalue()
+    assert "There may be others" in said and said.startswith(f"1. {MACHINE}:3: error 5 UnknownSetting"), said
+
+
 # what a cure means
 
 CONDITIONS = {  # a handled event, and what is written in its place; nothing if none means the same
@@ -212,6 +248,15 @@ def what_is_said_of_holds_and_waits_is_so() -> None:
     assert not any("ball_ending" in it.new for it in mystery.changes), mystery.changes
 
 
+@test
+def a_ball_switch_is_taken_out_with_its_blank() -> None:
+    for names, left in (("a s_b s_c", "s_b s_c"), ("s_b a s_c", "s_b s_c"), ("s_b, s_c, a", "s_b, s_c")):
+        device = f"ball_devices:\n  d:\n    ball_switches: {names}\n    mechanical_eject: yes"
+        report = search(texts_of(f"switches:\n  s_b:\n  s_c:\n{device}"))
+        assert plain(report.texts[MACHINE])[6] == f"    ball_switches: {left}", plain(report.texts[MACHINE])
+        assert report.answer and report.answer.accepted and len(report.findings) == 1, report.findings
+
+
 HOLD = """switches:
   s_hole:
   s_let_go:
@@ -305,6 +350,25 @@ def what_is_the_same_is_one_finding_with_its_places() -> None:
     assert lines[0] == f"{MACHINE}:4,6,8,10,12,14 and 2 more: UnknownSetting show_tokens: " \
                        "Take it out: shows are for other programs.", lines
     assert lines[1].startswith("  20,21,22,23,24,25 and 4 more: BadValue: Write the event without the time"), lines
+
+
+@test
+def names_to_write_are_listed_in_one_line() -> None:
+    uses = "".join(f"  e_{at}: {{{name}: pulse}}\n" for at, name in enumerate(["c_lfet", "c_rihgt", "c_lfet"]))
+    found = findings(f"coils:\n  c_left:\n  c_right:\ncoil_player:\n{uses}")
+    assert short.shown(found) == [f"{MACHINE}:6,7,8: Name: Write `c_left`, `c_right`, `c_left`."], short.shown(found)
+    entries = "".join(f"  c_{at}: {{hold_power: {at}}}\n" for at in range(1, 8))
+    lines = short.shown(findings(f"coils:\n{entries}"))
+    assert len(lines) > 1 and all(len(it) <= short.COLUMNS for it in lines), lines
+    for line in lines:  # as many names as places
+        assert line.partition(": ")[0].count(",") == line.count("default_hold_power") - 1, lines
+
+
+@test
+def the_settings_of_a_section_are_not_repeated() -> None:
+    found = findings("switches:\n  a: {zzz: 1}\ncoils:\n  b: {yyy: 1}")
+    wanted = f"{MACHINE}:3,5: UnknownSetting: Take it out: there is no such setting here."
+    assert short.shown(found) == [wanted], short.shown(found)
 
 
 @test
