@@ -5,6 +5,8 @@ import io
 import json
 import random
 import re
+import resource
+import subprocess
 import sys
 from contextlib import redirect_stdout
 from functools import cache
@@ -16,7 +18,7 @@ if __name__ == "__main__":
     sys.dont_write_bytecode = True
     sys.path[:0] = [str(Path(__file__).resolve().parents[2] / it) for it in ("tools", "dev")]
 
-from help_tests.common import PROGRAM, TOP, NotTried, test
+from help_tests.common import IS_UNPROVED, PROGRAM, TOP, NotTried, test
 from help_tests.slips import SLIPS, Slip, planted
 from pinball_help import command, errors, short
 from pinball_help.findings import Finding
@@ -338,6 +340,22 @@ def many_findings_take_few_lines() -> None:
     assert count > 115 and len(lines) <= 100, (count, len(lines))
     room = 120 + len(str(MACHINES / "modern"))
     assert all(len(it) <= 120 or "--full" in it and len(it) <= room for it in lines), max(lines, key=len)
+
+
+@test
+def the_errors_of_a_large_machine_take_a_second() -> None:
+    """Of processor time, the program's too: so other work on the computer does not count."""
+    if IS_UNPROVED:
+        raise NotTried("an unproved build takes many seconds")
+    words = [sys.executable, str(TOP / "tools/pinball-help"), "errors", "--program", PROGRAM.path]
+    for option in ("--json", "--lines"):
+        seconds = []
+        for _ in range(3):
+            before = resource.getrusage(resource.RUSAGE_CHILDREN)
+            subprocess.run([*words, option, str(MACHINES / "modern")], capture_output=True)
+            after = resource.getrusage(resource.RUSAGE_CHILDREN)
+            seconds.append(after.ru_utime + after.ru_stime - before.ru_utime - before.ru_stime)
+        assert min(seconds) <= 1, (option, seconds)
 
 
 @test
