@@ -1,5 +1,5 @@
-"""What editors make of `errors --lines`, by the settings of docs/at_every_save.md: each in an editor that is called here,
-where it is installed."""
+"""What editors make of `errors --lines`, by the settings of docs/at_every_save.md: each editor is called, where it is
+installed."""
 import io
 import json
 import os
@@ -94,9 +94,8 @@ def in_vim(*words: str) -> list[Place]:
     """The list of errors of Vim or Neovim, once a text has been saved."""
     with machine() as (folder, env):
         (folder / "vimrc").write_text(block("vim"))
-        steps = ["set nomore", f"edit {MACHINE}", "write",
-                 "call writefile([json_encode(map(getqflist(), {_, it -> [bufname(it.bufnr), it.lnum, it.col]}))], 'it')",
-                 "quitall!"]
+        listed = "map(getqflist(), {_, it -> [bufname(it.bufnr), it.lnum, it.col]})"
+        steps = ["set nomore", f"edit {MACHINE}", "write", f"call writefile([json_encode({listed})], 'it')", "quitall!"]
         ran([*words, "-u", "vimrc", *(part for it in steps for part in ("-c", it))], folder, env)
         return [(text, line, column) for text, line, column in json.loads((folder / "it").read_text()) if text]
 

@@ -121,7 +121,8 @@ def a_line_without_a_colon_is_found_at_its_line() -> None:
 def what_is_mended_stays_and_the_smallest_part_is_taken_out() -> None:
     """A coil that is used stays defined, whatever is wrong in it: so there is no finding about its use."""
     use = "coil_player:\n  a: {c_one: pulse, c_two: pulse, c_three: pulse}"
-    coils = "coils:\n  c_one:\n    number: 1\n    - stray\n  c_two:\n    default_pulse_ms: &x 10\n  c_three: {nubmer: 2}"
+    two = "  c_two:\n    default_pulse_ms: &x 10\n  c_three: {nubmer: 2}"
+    coils = f"coils:\n  c_one:\n    number: 1\n    - stray\n{two}"
     report = search(texts_of(f"{coils}\n{use}"))
     assert [it.line for it in report.findings] == [5, 7, 8], report.findings
     kept = [line for line in plain(report.texts[MACHINE])[2:8] if line]

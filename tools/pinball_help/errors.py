@@ -138,7 +138,8 @@ class Search:
         tries = self.tries(complaint)
         ways = [it for it in cure.ways if it.edits and edited(self.scene.texts, it.edits) != self.scene.texts]
         if complaint.name != "Yaml":
-            return ways[tries] if tries < len(ways) else next(iter(self.last_ways(complaint)[tries - len(ways) :]), None)
+            last = [] if tries < len(ways) else self.last_ways(complaint)
+            return next(iter([*ways, *last][tries:]), None)
         mends, removals = [it for it in ways if not is_removal(it)], [it for it in ways if is_removal(it)]
         for some in (mends if tries < MOST_TRIES else [], [*removals, *self.last_ways(complaint)][max(0, tries - 1) :]):
             if best := self.best(complaint, some):

@@ -102,7 +102,9 @@ class Probes:
             found.append(complaint)
         return found
 
-    def error_of_part(self, owner: str, text: str, lines: list[str], section: Block, kept: set[int]) -> Complaint | None:
+    def error_of_part(
+        self, owner: str, text: str, lines: list[str], section: Block, kept: set[int]
+    ) -> Complaint | None:
         """The first error of the lines of a section that are kept."""
         found = self.first_error(owner, text, blocks.framed(lines, section, kept))
         is_own = found is None or found.line - 1 in kept
