@@ -86,7 +86,7 @@ def what_is_not_read_is_a_line_too() -> None:
 def ran(words: list[str], folder: Path, env: dict[str, str]) -> None:
     if not shutil.which(words[0]):
         raise NotTried(f"{words[0]} is not installed")
-    done = subprocess.run(words, cwd=folder, env=env, capture_output=True, stdin=subprocess.DEVNULL, timeout=120)
+    done = subprocess.run(words, cwd=folder, env=env, capture_output=True, stdin=subprocess.DEVNULL, timeout=600)
     assert done.returncode == 0, (done.returncode, done.stdout[-500:], done.stderr[-500:])
 
 
