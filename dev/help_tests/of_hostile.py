@@ -18,7 +18,7 @@ if __name__ == "__main__":
     sys.path[:0] = [str(Path(__file__).resolve().parents[2] / it) for it in ("tools", "dev")]
     sys.dont_write_bytecode = True
 
-from help_tests.common import EXAMPLES, PROGRAM, NotTried, test
+from help_tests.common import EXAMPLES, IS_UNPROVED, PROGRAM, test
 from help_tests.folders import NAMES, Damaged, damaged, text_damaged
 from pinball_help import command, messages, trace
 from pinball_help.texts import LOG_LIMIT, MACHINE, TEXT_LIMIT, mode_text, read_texts
@@ -29,7 +29,6 @@ COMMANDS = (
     "errors", "errors --json", "errors --keep", "unused", "unused --json", "picture", "explain", "explain --json",
     "trace",
 )
-IS_UNPROVED = b"__asan_init" in Path(PROGRAM.path).read_bytes() if Path(PROGRAM.path).is_file() else False
 
 
 # one command
@@ -154,7 +153,6 @@ def tried(seed: int, commands: tuple[str, ...] = COMMANDS) -> list[str]:
 
 @test
 def damaged_folders_get_a_message_and_a_status() -> None:
-    raise NotTried("open: `errors` took 2.1 s for folder 1173")
     draw = random.Random(9)
     found = []
     for _ in range(FEW):

@@ -2,6 +2,9 @@
 import re
 from pathlib import Path
 
+from pinball_help import errors
+from pinball_help.texts import MACHINE, Line, folder_of
+
 from .common import PROGRAM, TOP, test
 
 RECIPES = sorted(it.parent for it in (TOP / "examples/recipes").glob("*/expected-play"))
@@ -65,6 +68,24 @@ def holds(text: str, part: str) -> bool:
     """Whether a text has the sections of another one, each as it is there."""
     sections = re.split(r"^(?=\w)", text, flags=re.M)
     return all(it in sections for it in re.split(r"^(?=\w)", part, flags=re.M) if it.strip())
+
+
+# sections of MPF that a recipe writes in another way
+SECTIONS = ("tilt", "extra_balls", "drop_targets", "diverters", "kickbacks", "spinners", "state_machines",
+            "combo_switches")
+
+
+@test
+def what_can_be_written_is_not_taken_out() -> None:
+    text = "\n".join(["#config_version=6", *(f"{it}:\n  a:" for it in SECTIONS)])
+    with folder_of({MACHINE: [Line(at, line) for at, line in enumerate(text.split("\n"), 1)]}) as folder:
+        found = errors.search(PROGRAM, folder).findings
+    assert [it.said.split()[-1] for it in found] == [*SECTIONS], found
+    for it in found:
+        assert "Take it out" not in it.write and it.recipe.startswith("docs/from_mpf.md#"), it
+    for section in SECTIONS:
+        rows = [line for line in PAGE.split("\n") if line.startswith("|") and f"`{section}:`" in line.split("|")[1]]
+        assert rows and not any(re.search(r"[Tt]ake (?:it|them) out", it) for it in rows), (section, rows)
 
 
 @test

@@ -1,6 +1,6 @@
 """The lines that `pinball check`, `verify` and `play` write, as values."""
 import re
-from dataclasses import dataclass
+from dataclasses import dataclass, replace
 
 from .messages import MESSAGES
 
@@ -45,6 +45,17 @@ class Answer:
 def unescaped(text: str) -> str:
     """The text of a name, in which control characters are written as `\\x` and two digits."""
     return re.sub(r"\\x([0-9a-f]{2})", lambda found: chr(int(found[1], 16)), text)
+
+
+def moved(complaint: Complaint, lines: int) -> Complaint:
+    """The complaint about a text that has so many lines more before the place. What is about a whole text is at its
+    first line, and stays there."""
+    found = PLACED.match(complaint.said)
+    if not found or complaint.line < 2:
+        return complaint
+    number = complaint.line + lines
+    said = f"{complaint.said[: found.start('line')]}{number}{complaint.said[found.end('line') :]}"
+    return replace(complaint, said=said, line=number)
 
 
 def complaint_of(said: str) -> Complaint | None:

@@ -1,10 +1,11 @@
 """The sections and entries of a text as blocks of lines, by indentation alone: so also those of a text with faults."""
 from dataclasses import dataclass
 
-from .outline import indentation, is_item, without_comment
+from .outline import KEY, indentation, is_item, without_comment
 from .profile import SINGLE
 
 WHOLE = (*SINGLE, "modes")  # sections that are judged as one entry
+STAND_IN = "a_stand_in: 1"
 
 
 @dataclass(frozen=True)
@@ -13,6 +14,14 @@ class Block:
 
     first: int
     last: int
+
+
+@dataclass(frozen=True)
+class Part:
+    """Lines of a text that are judged without the others, and how many come before them there."""
+
+    lines: tuple[str, ...]
+    above: int
 
 
 def content(line: str) -> str:
@@ -67,6 +76,27 @@ def depth_of(lines: list[str], inside: Block) -> int:
     return next(found, 0)
 
 
-def only(lines: list[str], kept: set[int]) -> list[str]:
-    """The same lines, with all others made empty. So each keeps its number."""
-    return [line if at in kept else "" for at, line in enumerate(lines)]
+def part(lines: list[str], section: Block, kept: set[int]) -> Part:
+    """The lines of a section that are kept, and empty ones in place of the others."""
+    found = [lines[at] if at in kept else "" for at in range(section.first, section.last)]
+    return Part(tuple(found), section.first)
+
+
+def framed(lines: list[str], section: Block, kept: set[int]) -> Part:
+    """The same, with a stand-in before a line that is no entry. Such a line is an error in a mapping, and a value if
+    there is nothing before it."""
+    found = list(part(lines, section, kept).lines)
+    head = head_of(lines, section)
+    first = next((at for at in range(head + 1, section.last) if content(found[at - section.first]).strip()), head)
+    out = [at for at in range(head + 1, first) if at not in kept]
+    if out and not has_key(lines[first]):
+        depth = depth_of(lines, Block(head + 1, section.last))
+        found[out[-1] - section.first] = " " * depth + STAND_IN
+    if section.first > 1 and not has_key(lines[head]):
+        return Part((STAND_IN, *found), section.first - 1)
+    return Part(tuple(found), section.first)
+
+
+def has_key(line: str) -> bool:
+    """Whether a line is an entry, or an item of a list."""
+    return is_item(line) or KEY.match(line.lstrip(" \t")) is not None

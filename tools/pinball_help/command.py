@@ -8,7 +8,7 @@ import sys
 from dataclasses import asdict, replace
 from pathlib import Path
 
-from . import errors, hints, picture, program, schema, short, trace, unused
+from . import errors, hints, lines, picture, program, schema, short, trace, unused
 from .answers import Answer, answer_of, complaint_of
 from .findings import Finding, as_json, cure_of, finding_of, shown
 from .printed import clean
@@ -24,6 +24,7 @@ NO_PROOF = "These are hints, and nothing here is proved. The answer that counts 
 LINE_NUMBERS = (
     "Line numbers are those of your files now: begin with the last one, or run this again after each change."
 )
+MAY_BE_MORE = "There may be others that come after the last of these: mend it, and look again."
 MOST_IN_FULL = 8  # findings; more are listed in short form
 MOST_CURES = 200  # that `explain` looks for in the texts: each may take milliseconds
 MOST_NAMES = 3  # of switches that are named, and not counted
@@ -41,9 +42,9 @@ def write_errors(asked: argparse.Namespace) -> int:
         write_texts(report.texts, keep)
     warning = kept_words(report, keep) if keep and report.findings else ""
     more = hints.hints(report.scene, Path(asked.dir))
-    if asked.json:
-        print(json.dumps([*(as_json(it) for it in found), *map(hint_as_json, more)], indent=2))
-        print(warning, end="", file=sys.stderr)
+    if asked.json or asked.lines:
+        print(for_editors(asked, report, found, more), end="")
+        print(f"{MAY_BE_MORE}\n" * is_open(report) + warning, end="", file=sys.stderr)
         return 1 if found else 0
     print(warning, end="\n" if warning else "")
     is_short = len(found) > MOST_IN_FULL and not asked.full
@@ -59,11 +60,24 @@ def write_errors(asked: argparse.Namespace) -> int:
     return 1 if found else 0
 
 
+def for_editors(asked: argparse.Namespace, report: errors.Report, found: list[Finding], more: list[hints.Hint]) -> str:
+    """The findings and the hints as JSON; or in lines, with what is not read."""
+    if asked.json:
+        return json.dumps([*(as_json(it) for it in found), *map(hint_as_json, more)], indent=2) + "\n"
+    notes = lines.notes_of(report.scene, report.answer)
+    return "".join(f"{it}\n" for it in lines.lines(Path(asked.dir), found, more, notes))
+
+
 def hint_as_json(hint: hints.Hint) -> dict:
     """A hint as editors read it, with the same fields as a finding."""
     said = f"hint {hint.text} {hint.line} {hint.key}"
     found = Finding(said, "hint", hint.text, hint.line, 1, 1, "", (hint.says,), "", "", "", (), (), "", "")
     return {**as_json(found), "severity": "hint"}
+
+
+def is_open(report: errors.Report) -> bool:
+    """Whether a machine may have more errors than were found."""
+    return report.unsolved or not (report.answer and report.answer.accepted)
 
 
 def counted(report: errors.Report, found: list[Finding], full: str) -> str:
@@ -72,8 +86,7 @@ def counted(report: errors.Report, found: list[Finding], full: str) -> str:
     if not report.findings:
         return "Nothing to mend: the answer is yes."
     more = f" {follows} more follow from these." if follows else ""
-    if report.unsolved or not (report.answer and report.answer.accepted):
-        more += " There may be others that come after the last of these: mend it, and look again."
+    more += f" {MAY_BE_MORE}" if is_open(report) else ""
     if len(found) < 2:
         return f"{len(found)} to mend.{more}"
     if full:
@@ -213,6 +226,7 @@ def parser() -> argparse.ArgumentParser:
     one = commands.add_parser("errors", help="all errors and faults of a machine at once")
     one.add_argument("dir", metavar="DIR", help="the folder of the machine")
     one.add_argument("--json", action="store_true", help="for editors")
+    one.add_argument("--lines", action="store_true", help="for editors too: a line for each, as compilers write them")
     one.add_argument("--full", action="store_true", help="each error with its lines, even if there are many")
     one.add_argument(
         "--keep", metavar="COPY", help="writes a folder in which all that is refused is left out, with comments"

@@ -70,6 +70,8 @@ class Search:
             answer = self.mend_all(answer)
         except OutOfTime:
             self.report.unsolved = True
+            if not self.report.findings:
+                self.add_first(answer)
         finally:
             self.progress.end()
         self.report.texts, self.report.scene, self.report.answer = self.scene.texts, self.scene, answer
@@ -136,7 +138,8 @@ class Search:
         tries = self.tries(complaint)
         ways = [it for it in cure.ways if it.edits and edited(self.scene.texts, it.edits) != self.scene.texts]
         if complaint.name != "Yaml":
-            return next(iter([*ways, *self.last_ways(complaint)][tries:]), None)
+            last = [] if tries < len(ways) else self.last_ways(complaint)
+            return next(iter([*ways, *last][tries:]), None)
         mends, removals = [it for it in ways if not is_removal(it)], [it for it in ways if is_removal(it)]
         for some in (mends if tries < MOST_TRIES else [], [*removals, *self.last_ways(complaint)][max(0, tries - 1) :]):
             if best := self.best(complaint, some):
@@ -184,6 +187,12 @@ class Search:
         self.reported.add(identity)
         finding = finding_of(self.scene, complaint, cure, way, self.original)
         self.report.findings.append(replace(finding, follows=self.is_consequence(complaint)))
+
+    def add_first(self, answer: Answer) -> None:
+        """Adds what the answer says first, with the likeliest way to mend it."""
+        for complaint in answer.complaints[:1]:
+            cure = self.cure(complaint)
+            self.add_finding(complaint, cure, next(iter(cure.ways), None))
 
     def is_consequence(self, complaint: Complaint) -> bool:
         """Whether a complaint comes from what a copy leaves out, and not from the files themselves."""

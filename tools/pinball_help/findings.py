@@ -68,7 +68,7 @@ def changes_of(scene: Scenery, edits: tuple[Edit, ...]) -> tuple[Change, ...]:
     """The lines of the user's files that the edits change."""
     found = []
     for edit in edits:
-        before = max((scene.number(edit.text, at) for at in range(edit.first)), default=0)
+        before = scene.number_before(edit.text, edit.first)
         for place, new in enumerate(edit.lines):
             at = edit.first + place
             if at < edit.last:

@@ -7,13 +7,14 @@ from concurrent.futures import ThreadPoolExecutor
 from dataclasses import dataclass, replace
 
 from . import blocks
-from .answers import Answer, Complaint
-from .blocks import Block
+from .answers import Answer, Complaint, moved
+from .blocks import Block, Part
 from .program import Program
 from .scenery import Scenery
 from .texts import MACHINE, VERSION, Edit, Line, Texts, edited, plain
 
 WORKERS = 4
+BATCHES = 32  # of the sections of a text: it may have thousands
 
 
 def is_error(complaint: Complaint) -> bool:
@@ -44,14 +45,21 @@ class Probes:
     def answer(self, texts: Texts) -> Answer:
         return self.program.check_texts({name: plain(lines) for name, lines in texts.items()})
 
-    def first_error(self, owner: str, text: str, lines: list[str]) -> Complaint | None:
-        """The first error of a text, judged without the other texts. Its first line is taken as right."""
-        words = "\n".join(lines[1:]).encode("utf-8", "surrogateescape")
-        key = (text, hashlib.blake2b(words).digest())
+    def first_error(self, owner: str, text: str, part: Part) -> Complaint | None:
+        """The first error of a part of a text.
+
+        The empty lines before its content are left out. So it is known if it comes again at another place."""
+        if time.process_time() > self.until:
+            raise OutOfTime
+        first = next((at for at, line in enumerate(part.lines) if line), len(part.lines))
+        found = self.first_error_of(owner, text, "\n".join(part.lines[first:]))
+        return moved(found, part.above + first - 1) if found else None
+
+    def first_error_of(self, owner: str, text: str, words: str) -> Complaint | None:
+        """The first error of a text that has these words below its first line."""
+        key = (text, hashlib.blake2b(words.encode("utf-8", "surrogateescape")).digest())
         if key not in self.known:
-            if time.process_time() > self.until:
-                raise OutOfTime
-            texts = {text: [VERSION, *lines[1:]]}
+            texts = {text: [VERSION, words]}
             if text != MACHINE:
                 texts = {MACHINE: [VERSION, f"modes: {owner}"], **texts}
             first = next(iter(self.program.check_texts(texts).complaints), None)
@@ -70,17 +78,21 @@ class Probes:
     def first_errors(self, scene: Scenery, text: str) -> list[Complaint]:
         """The first error of each entry of a text."""
         lines = plain(scene.texts[text])
-        if self.first_error(scene.owner(text), text, lines) is None:
+        if self.first_error(scene.owner(text), text, Part(tuple(lines[1:]), 1)) is None:
             return []
         sections = blocks.sections_of(lines)
-        found = self.workers.map(lambda it: self.errors_of_section(scene.owner(text), text, lines, it), sections)
-        return [complaint for complaints in found for complaint in complaints]
+        batches = [sections[at::BATCHES] for at in range(BATCHES)]
+        found = self.workers.map(lambda it: self.errors_of_sections(scene.owner(text), text, lines, it), batches)
+        return sorted((it for complaints in found for it in complaints), key=lambda it: it.line)
+
+    def errors_of_sections(self, owner: str, text: str, lines: list[str], sections: list[Block]) -> list[Complaint]:
+        return [found for it in sections for found in self.errors_of_section(owner, text, lines, it)]
 
     def errors_of_section(self, owner: str, text: str, lines: list[str], section: Block) -> list[Complaint]:
         """The first error of each entry: each that is found is left out, and the rest is asked about again."""
         kept = {*range(section.first, section.last)}
         found = []
-        while kept and (complaint := self.first_error(owner, text, blocks.only(lines, kept))):
+        while kept and (complaint := self.error_of_part(owner, text, lines, section, kept)):
             at = complaint.line - 1
             entry = blocks.entry_at(lines, section, at) if section.first <= at < section.last else section
             out = kept & {*range(entry.first, entry.last)}
@@ -90,13 +102,21 @@ class Probes:
             found.append(complaint)
         return found
 
+    def error_of_part(
+        self, owner: str, text: str, lines: list[str], section: Block, kept: set[int]
+    ) -> Complaint | None:
+        """The first error of the lines of a section that are kept."""
+        found = self.first_error(owner, text, blocks.framed(lines, section, kept))
+        is_own = found is None or found.line - 1 in kept
+        return found if is_own else self.first_error(owner, text, blocks.part(lines, section, kept))
+
     def verdict(self, scene: Scenery, text: str, at: int, edits: tuple[Edit, ...]) -> Verdict:
         before = scene.texts[text]
         kept = {id(before[it]) for it in around(plain(before), at, [it for it in edits if it.text == text])}
         after = edited(scene.texts, edits)[text]
         old = {id(line) for line in before}
         lines = [line.text if id(line) in kept or id(line) not in old else "" for line in after]
-        error = self.first_error(scene.owner(text), text, lines)
+        error = self.first_error(scene.owner(text), text, Part(tuple(lines[1:]), 1))
         if error is None:
             return Verdict(None, False)
         line = after[error.line - 1] if 0 < error.line <= len(after) else Line(0, "")

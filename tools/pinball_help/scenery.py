@@ -2,6 +2,7 @@
 import re
 from dataclasses import dataclass
 from functools import cached_property
+from itertools import accumulate
 from typing import Iterator
 
 from . import outline
@@ -31,6 +32,7 @@ class Scenery:
         same = [name for name in known if before and before.texts[name] is texts.get(name)]
         others = {name: outline.read(plain(lines)) for name, lines in texts.items() if name not in same}
         self.by_line: dict[str, dict[int, list[Entry]]] = {}
+        self.greatest: dict[str, list[int]] = {}
         self.outlines: dict[str, Node] = {name: others.get(name) or known[name] for name in texts}
 
     @cached_property
@@ -52,6 +54,12 @@ class Scenery:
         """The number in the user's file of a line of the copy, from 1; 0 where the file has none."""
         lines = self.texts.get(text, [])
         return lines[line].number if 0 <= line < len(lines) else 0
+
+    def number_before(self, text: str, line: int) -> int:
+        """The greatest number in the user's file of the lines above one of the copy; 0 where there is none."""
+        if text not in self.greatest:
+            self.greatest[text] = [0, *accumulate((it.number for it in self.texts.get(text, [])), max)]
+        return self.greatest[text][min(line, len(self.greatest[text]) - 1)]
 
     def where(self, text: str, line: int) -> str:
         return f"{text}:{self.number(text, line)}"

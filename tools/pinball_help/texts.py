@@ -68,22 +68,26 @@ def read_texts(folder: Path) -> Texts:
     The program refuses a text above its limit, so the first byte above it is enough of such a text."""
     texts: Texts = {}
     room = Room()
-    listed = {MACHINE}
+    listed: set[str] = set()
     for path in paths_of(folder):
         name = str(path.relative_to(folder))
         try:
             data = read_bytes(path, TEXT_LIMIT + 1)
             room.take(data, folder)
         except (OSError, ValueError):
+            listed = listed or listed_in(texts)
             if name in listed:
                 raise
             continue
         lines = lines_of(data)
         texts[name] = [Line(number, line) for number, line in enumerate(lines, 1)]
-        if name == MACHINE:
-            modes = outline.read(lines).at("modes")
-            listed |= {mode_text(it.text) for it in modes.texts()} if modes else set()
     return texts
+
+
+def listed_in(texts: Texts) -> set[str]:
+    """The names of the texts that the program reads."""
+    modes = outline.read(plain(texts[MACHINE])).at("modes") if MACHINE in texts else None
+    return {MACHINE, *(mode_text(it.text) for it in (modes.texts() if modes else []))}
 
 
 @dataclass
