@@ -231,16 +231,27 @@ def award(ctx: Context, mode: str, entry: Given, name: str, awards: list[str]) -
 TILTED = "adopted_is_tilted"
 
 
+def tagged(ctx: Context, section: Given, key: str) -> list[str]:
+    """The events of the switches with the tag of a setting, which is that of its name where it is not written."""
+    tags = section.names(key) or [key.removesuffix("_switch_tag")]
+    return [f"sw_{tag}" for tag in tags if tag in ctx.tags]
+
+
+TILTS = {"tilt_warning_switch_tag": "tilt_warning_events", "tilt_switch_tag": "tilt_events",
+         "slam_tilt_switch_tag": "slam_tilt_events"}
+
+
+def tilts(ctx: Context, section: Given) -> bool:
+    """Whether something tilts: a switch with one of the tags, or an event."""
+    return any(tagged(ctx, section, tag) or section.at(events) for tag, events in TILTS.items())
+
+
 def of_tilt(ctx: Context, mode: str, section: Given) -> None:
     if not section.is_mapping and section.text:
         ctx.lose("tilt", section)
         return
-    warnings = [f"sw_{tag}" for tag in section.names("tilt_warning_switch_tag") or ["tilt_warning"] if tag in ctx.tags]
-    warnings += events_of(ctx, mode, section, "tilt_warning_events")
-    at_once = [f"sw_{tag}" for tag in section.names("tilt_switch_tag") or ["tilt"] if tag in ctx.tags]
-    at_once += events_of(ctx, mode, section, "tilt_events")
-    slams = [f"sw_{tag}" for tag in section.names("slam_tilt_switch_tag") or ["slam_tilt"] if tag in ctx.tags]
-    slams += events_of(ctx, mode, section, "slam_tilt_events")
+    warnings, at_once, slams = (
+        [*tagged(ctx, section, tag), *events_of(ctx, mode, section, events)] for tag, events in TILTS.items())
     number = ctx.number(section.says("warnings_to_tilt", "3"))
     if warnings:
         ctx.put(mode, "counters", ctx.own("tilt_warnings", 50), {
@@ -253,7 +264,7 @@ def of_tilt(ctx: Context, mode: str, section: Given) -> None:
     for event in slams:
         ctx.post(mode, event, ["slam_tilt", "tilt"], section, "a slam tilt is a tilt: nothing ends a game")
     if not warnings + at_once + slams:
-        ctx.log("tilt", section.place, "no switch has its tags, and no event tilts", "lost")
+        ctx.log("tilt", section.place, "no switch has its tags, and no event tilts", "weakened")
     rest(ctx, "tilt", section, "multiple_hit_window", "warnings_to_tilt", "tilt_warning_switch_tag", "tilt_switch_tag",
          "tilt_warning_events", "tilt_events", "settle_time", "slam_tilt_switch_tag", "slam_tilt_events",
          "reset_warnings_events")

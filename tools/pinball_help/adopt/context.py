@@ -113,15 +113,19 @@ class Context:
             self.post(mode, event, [other], given, "two entries for one event")
             self.put(mode, section, other, dict(value), given, says, comments)
 
-    def own(self, name: str, most: int = 64) -> str:
-        """A name of adopt's own that nothing else has."""
+    def own(self, name: str, most: int = 64, kind: str = "") -> str:
+        """A name of adopt's own that nothing else of its kind has."""
         name = shortened(name, most - 3)
         found, count = name, 1
-        while found in self.names or found in self.taken_names:
+        while kind + found in self.names or found in self.taken_names:
             count += 1
             found = f"{name}_{count}"
-        self.names[found] = name
+        self.names[kind + found] = name
         return found
+
+    def timer(self, name: str) -> str:
+        """The name of a timer of adopt's own, short enough for its events."""
+        return self.own(name, 49, "timers ")
 
     @property
     def taken_names(self) -> set[str]:
@@ -143,7 +147,7 @@ class Context:
     def mode(self, name: str, starts: list[str], stops: list[str], given: Given, says: str) -> str:
         """A mode of its own for a rewrite, which runs without a game too."""
         settings: dict[str, Value] = {"start_events": starts, "stop_events": stops, "game_mode": "no"}
-        return self.draft.helper(self.own(name, 40), settings, Written("", [given.place], says=[f"{given.place}: {says}"]))
+        return self.draft.helper(self.own(name, 40, "modes "), settings, Written("", [given.place], says=[f"{given.place}: {says}"]))
 
     def relay(self, mode: str, events: list[str], name: str, given: Given) -> list[str]:
         """Events of a mode's entry as the machine may handle them: only while that mode runs."""

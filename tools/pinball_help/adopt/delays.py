@@ -21,7 +21,7 @@ def after(ctx: Context, mode: str, head: str, delay: int, given: Given) -> str:
         return head
     if key not in ctx.later:
         event = head.partition("{")[0]
-        name = ctx.own(f"{event}_after_{delay}ms", 49)
+        name = ctx.timer(f"{event}_after_{delay}ms")
         ctx.later[key] = f"timer_{name}_complete"
         owner = mode or (shared(ctx, given) if is_late(ctx, event) else "")
         says = SAID.format(f"`{event}`", written(delay))

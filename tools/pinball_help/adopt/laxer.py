@@ -21,6 +21,7 @@ class Lax:
     lines: list[str]
     anchors: dict[int, str] = field(default_factory=dict)
     unclosed: list[int] = field(default_factory=list)  # lines with a bracket that nothing closes
+    changed: list[int] = field(default_factory=list)
 
 
 def laxer(lines: list[str]) -> Lax:
@@ -29,12 +30,14 @@ def laxer(lines: list[str]) -> Lax:
         lax.lines[0] = lax.lines[0].removeprefix("\ufeff")
     at = 0
     while at < len(lax.lines):
-        line = lax.lines[at]
+        line, before = lax.lines[at], list(lax.lines[at : at + 2])
         if re.match(r"(---|\.\.\.)(\s|$)|%YAML", line):
             lax.lines[at] = ""
         elif line.strip() and not line.lstrip().startswith("#"):
             take_anchor(lax, at)
             join(lax, at)
+            if before != lax.lines[at : at + 2]:
+                lax.changed.append(at)
         at += 1
     return lax
 

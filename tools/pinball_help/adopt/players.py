@@ -127,7 +127,7 @@ def ticks(ctx: Context, mode: str, entry: Given) -> str:
     timer = ctx.draft.texts.get(mode, {}).get("timers", {}).get(found[1]) if found else None
     if not found or timer is None or not isinstance(timer.value, dict):
         return ""
-    name = ctx.own(f"{found[1]}_{found[2].replace('-', 'minus_')}", 49)
+    name = ctx.timer(f"{found[1]}_{found[2].replace('-', 'minus_')}")
     ctx.put(mode, "timers", name, {**timer.value, "end_value": found[2]}, entry, f"{entry.key} in MPF")
     ctx.log("timer_t_tick{ticks==3}", entry.place)
     return f"timer_{name}_complete"
@@ -243,12 +243,17 @@ def of_variables(ctx: Context, mode: str, section: Given) -> None:
             continue
         for it in entry.inside():
             of_variable(ctx, it, changes, computed)
+        order = [it.key for it in entry.inside()]
+        before = [it for it in computed if it[2] not in order or order.index(it[0]) <= order.index(it[2])]
+        for variable, factor, of, it in before:
+            multiplied(ctx, mode, entry, it, variable, factor, of)
         found = heads(ctx, mode, entry) if changes or not entry.inside() else []
         for head, where in found:
             ctx.change(where, head, changes, entry, f"{entry.key} in MPF" if head != entry.key else "", comments=True)
             ctx.keep(entry)
         for variable, factor, of, it in computed:
-            multiplied(ctx, mode, entry, it, variable, factor, of)
+            if not any(it is other[3] for other in before):
+                multiplied(ctx, mode, entry, it, variable, factor, of)
 
 
 def of_variable(ctx: Context, it: Given, changes: dict[str, Value], computed: list) -> None:

@@ -138,7 +138,7 @@ def diverter(ctx: Context, mode: str, entry: Given, coil: str) -> None:
     if entry.says("type", "hold").lower() == "pulse" or not ctx.may_hold(coil):
         pulsed(ctx, entry, name, coil, starts, stops)
         return
-    timer = ctx.own(name, 49)
+    timer = ctx.timer(name)
     helper = ctx.mode(name, starts, stops + ([f"timer_{timer}_complete"] if delay else []), entry, "a diverter that is active")
     ctx.put(helper, "coil_player", f"mode_{helper}_started", {coil: "enable"}, entry, "holds the coil")
     ctx.drive("", f"mode_{helper}_stopped", {coil: "disable"}, entry, "whoever held the coil")
@@ -211,7 +211,7 @@ def of_spinners(ctx: Context, mode: str, section: Given) -> None:
         name, turns = f"spinner_{entry.key}", [f"{it}_active" for it in switches]
         delay = ctx.time(entry.says("active_ms", HOLD_DEFAULT)) or 1_000
         turns = ctx.relay(mode, turns, f"{name}_turn", entry)
-        timer = ctx.own(f"{name}_still", 49)
+        timer = ctx.timer(f"{name}_still")
         helper = ctx.mode(name, turns, [f"timer_{timer}_complete"], entry, "a spinner that spins")
         again: Value = [{"event": it, "action": "restart"} for it in turns]
         ctx.put(helper, "timers", timer, {"end_value": "1", "tick_interval": written(delay), "start_running": "yes",
@@ -247,7 +247,7 @@ def combo(ctx: Context, mode: str, entry: Given, ones: list[str], others: list[s
     offset = ctx.time(entry.says("max_offset_time", "0")) or 0
     for side, (first, second) in enumerate(((ones, others), (others, ones)), 1):
         stops = [f"{it}_inactive" for it in first]
-        timer = ctx.own(f"{name}_{side}", 49)
+        timer = ctx.timer(f"{name}_{side}")
         helper = ctx.mode(f"{name}_{side}", [f"{it}_active" for it in first],
                           stops + ([f"timer_{timer}_complete"] if offset else []), entry, "one of two buttons is held")
         if offset:
@@ -261,7 +261,7 @@ def combo(ctx: Context, mode: str, entry: Given, ones: list[str], others: list[s
     hold = ctx.time(entry.says("hold_time", "0")) or 0
     event = f"mode_{both}_started"
     if hold:
-        timer = ctx.own(f"{name}_hold", 49)
+        timer = ctx.timer(f"{name}_hold")
         ctx.put(both, "timers", timer, {"end_value": "1", "tick_interval": written(hold), "start_running": "yes"}, entry,
                 "hold_time")
         event = f"timer_{timer}_complete"
@@ -290,7 +290,7 @@ def of_timed(ctx: Context, mode: str, section: Given) -> None:
         if len(switches) > 1:
             ctx.log("timed_switches", entry.place, "when one of several switches is let go, the time is over", "weakened")
         name = f"timed_{entry.key}"
-        timer = ctx.own(name, 49)
+        timer = ctx.timer(name)
         starts = ctx.relay(mode, [f"{it}_active" for it in switches], f"{name}_begins", entry)
         stops = [f"{it}_inactive" for it in switches]
         helper = ctx.mode(name, starts, stops, entry, "a switch that is held")
@@ -326,13 +326,13 @@ def of_sequence_shots(ctx: Context, mode: str, section: Given) -> None:
 
 
 def sequence(ctx: Context, mode: str, entry: Given, steps: list[str]) -> None:
-    name = ctx.own(f"shot_{entry.key}", 40)
+    name = ctx.own(f"shot_{entry.key}", 40, "sequences ")
     delay = ctx.time(entry.says("sequence_timeout", "0")) or 0
     device: dict[str, Value] = {"disable_on_complete": "no", "events_when_complete": [f"{entry.key}_hit"]}
     if not delay:
         ctx.put(mode, "sequences", name, {"events": [[it] for it in steps], **device}, entry, "a shot of several switches")
         return
-    timer = ctx.own(name, 49)
+    timer = ctx.timer(name)
     starts = ctx.relay(mode, steps[:1], f"{name}_begins", entry)
     stops = [f"timer_{timer}_complete", f"{entry.key}_hit"]
     helper = ctx.mode(name, starts, stops, entry, "a shot of several switches within a time")

@@ -1,13 +1,13 @@
 """ADOPTED.md, and the table of docs/from_mpf.md: both are made of the table of features."""
 import hashlib
 import re
+import textwrap
 
 from .context import Context, Done
 from .draft import clean
 from .features import FEATURES, LOST, REWRITTEN, TABLE, UNSEEN, WEAKENED, WRITTEN, Feature
 
 NAME = "ADOPTED.md"
-MOST_PLACES = 12
 HEADS = (
     (LOST, "Lost", "These rules are gone, or never run."),
     (WEAKENED, "Weakened", "These rules do less than in MPF, or do it at other times."),
@@ -55,13 +55,23 @@ def by_feature(some: list[Done]) -> list[str]:
     lines = []
     for title, all_of_it in found.items():
         here = FEATURES[all_of_it[0].feature].here
-        lines.append(f"- **{title.replace(chr(92) + '|', '|')}**: {here.replace(chr(92) + '|', '|')}")
+        lines += wrapped(f"- **{plain(title)}**: {plain(here)}", "  ")
         said: dict[str, list[Done]] = {}
         for it in all_of_it:
             said.setdefault(it.says, []).append(it)
         for words, those in said.items():
-            lines.append(f"  - {', '.join(dict.fromkeys(shown(it) for it in those))}" + (f": {clean(words)}" if words else ""))
+            places = ", ".join(dict.fromkeys(shown(it) for it in those))
+            lines += wrapped(f"  - {places}" + (f": {clean(words)}" if words else ""), "    ")
     return lines
+
+
+def wrapped(line: str, margin: str) -> list[str]:
+    return textwrap.wrap(line, 110, subsequent_indent=margin, break_long_words=False, break_on_hyphens=False)
+
+
+def plain(cell: str) -> str:
+    """The words of a cell of the page's table."""
+    return cell.replace("\\|", "|")
 
 
 def shown(one: Done) -> str:

@@ -1,10 +1,12 @@
 """The command `adopt`: makes the new folder, or says how it differs from what a builder has changed in it."""
 import difflib
+import re
 from dataclasses import dataclass
 from pathlib import Path
 
 from .. import unused
 from ..answers import Answer
+from ..machine_graph import graph_of
 from ..printed import clean
 from ..program import Program
 from ..scenery import Scenery
@@ -13,6 +15,7 @@ from . import report, whole
 from .accept import accept
 from .context import Context
 from .features import LOST, REWRITTEN, UNSEEN, WEAKENED
+from .source import Place
 
 WITHIN = 3.0  # seconds in which the program is asked for single places; then more goes at once
 MOST_LINES = 400  # of a report of what differs
@@ -29,19 +32,59 @@ class Adopted:
 def adopt(program: Program, folder: Path) -> Adopted:
     """Makes the texts of the new folder. Raises OSError or ValueError if the folder cannot be read."""
     ctx = whole.adopt(folder)
+    before = {it.posts for it in graph_of(scene_of(ctx)).posts}
     answer = accept(ctx, program, WITHIN)
-    lines = ctx.draft.files()
-    files = {name: "".join(f"{it}\n" for it in text) for name, text in lines.items()}
-    scene = Scenery({name: [Line(at, it) for at, it in enumerate(text, 1)] for name, text in lines.items()})
-    page = report.report(ctx, str(folder), unposted(ctx, scene, answer), files)
+    files = {name: "".join(f"{it}\n" for it in text) for name, text in ctx.draft.files().items()}
+    page = report.report(ctx, str(folder), unposted(ctx, scene_of(ctx), answer, before), files)
     return Adopted(ctx, answer, {**files, report.NAME: page})
 
 
-def unposted(ctx: Context, scene: Scenery, answer: Answer) -> list[tuple[str, str]]:
-    """The events that are handled, and that nothing posts, each with its place in the new folder."""
-    found = unused.unused(scene, answer)
-    return [(it.name, f"{it.text}:{it.line}" + (f" ({it.hint})" if it.hint else ""))
-            for it in found if it.kind == "handled, and nothing posts it" and not it.name.startswith("adopted_")]
+def scene_of(ctx: Context) -> Scenery:
+    return Scenery({name: [Line(at, it) for at, it in enumerate(text, 1)] for name, text in ctx.draft.files().items()})
+
+
+def unposted(ctx: Context, scene: Scenery, answer: Answer, before: set[str]) -> list[tuple[str, str]]:
+    """The events that are handled, and that nothing posts, each with its place in the new folder.
+
+    Those that MPF posts by itself are lost rules, and are said with their places in the MPF folder."""
+    found = []
+    for it in unused.unused(scene, answer):
+        if it.kind != "handled, and nothing posts it" or it.name.startswith("adopted_"):
+            continue
+        places = places_of(ctx, scene, it)
+        feature = next((name for pattern, name in OF_MPF if re.fullmatch(pattern, it.name)), "")
+        if feature := feature or ("events of what is left out" if it.name in before else ""):
+            for place in places:
+                ctx.log(feature, place, f"`{it.name}`")
+        else:
+            found.append((it.name, f"{it.text}:{it.line}" + (f" ({it.hint})" if it.hint else "")))
+    return found
+
+
+# events that MPF posts by itself, and nothing here does
+OF_MPF = (
+    (r"init_done|init_phase_\d|reset_complete|machine_reset_phase_\d|mc_ready|mpf_ready|master_reset_complete|"
+     r"game_ended_.*|service_.*|player_.*_changed|bcp_.*|mc_.*|shutdown|asset_.*|loading_assets|credits_.*|"
+     r"not_enough_credits|high_score.*|text_input_.*|ball_search_.*|playfield_.*|collecting_balls.*|"
+     r"ball_drain_.*|unexpected_ball.*|balldevice_captured_.*|sys11_.*", "system events"),
+    (r"(multiball_lock|achievement|achievement_group|ball_lock|magnet|show|slide|widget|sound|motor|stepper|servo|credits|"
+     r"queue|digital_output|score_reel)_.*|ball_save_.*_(hurry_up|grace_period|timer_start)|"
+     r"multiball_.*_(shoot_again|hurry_up|grace_period|lost_ball|ending)|.*_(hurry_up|grace_period)",
+     "events of what is left out"),
+)
+
+
+def places_of(ctx: Context, scene: Scenery, it: unused.Unused) -> list[Place]:
+    """Where an event that is handled comes from in the MPF folder."""
+    entry = scene.around(it.text, it.line - 1)
+    path = [*entry.path, entry] if entry else []
+    mode = scene.owner(it.text).replace("machine", "")
+    if len(path) > 1:
+        written = ctx.draft.texts.get(mode, {}).get(path[0].key, {}).get(path[1].key)
+        if written:
+            inner = written.lines.get(path[2].key) if len(path) > 2 else None
+            return [inner] if inner else written.places
+    return []
 
 
 # writing

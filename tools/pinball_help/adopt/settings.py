@@ -136,6 +136,10 @@ def coil_events(action: str) -> Callable:
     return own
 
 
+def at_the_end(_ctx: Context, _mode: str, _entry: Given, _given: Given, _out: Out) -> None:
+    """A setting that is rewritten when all settings of its entry are read."""
+
+
 def no_hold(ctx: Context, _mode: str, entry: Given, given: Given, out: Out) -> None:
     ctx.lose("coils.max_hold_duration", given)
 
@@ -324,6 +328,8 @@ OWN: dict[tuple[str, str], Callable] = {
     ("counters", "player_variable"): player_variable,
     ("mode", "events_when_started"): mode_events("mode_{}_started"),
     ("mode", "events_when_stopped"): mode_events("mode_{}_stopping"),
+    **{("ball_saves", it): at_the_end for it in ("grace_period", "timer_start_events", "auto_launch")},
+    **{("multiballs", it): at_the_end for it in ("shoot_again", "grace_period", "ball_count_type")},
     ("game", "start_game_switch_tag"): tag_of_start,
     ("game", "add_player_switch_tag"): tag_of_start,
     **{("coils", old): renamed(new) for old, new in (

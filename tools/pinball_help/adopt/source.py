@@ -32,6 +32,7 @@ class File:
     root: Node = field(default_factory=lambda: Node(0, entries=[]))
     unread: list[int] = field(default_factory=list)  # lines, from 0, that are no YAML
     unclosed: list[int] = field(default_factory=list)
+    lax: list[int] = field(default_factory=list)  # lines that are written in a form that this package does not read
 
     def comments(self, line: int) -> list[str]:
         """The comment above a line, and that behind it."""
@@ -206,9 +207,32 @@ def file_of(name: str, lines: list[str]) -> File:
     lax = laxer(lines)
     root = outline.read(lax.lines)
     with_aliases(root, lax.anchors)
-    seen = lines_read(root)
+    wrong: list[int] = []
+    take_wrong_out(root, lax.lines, wrong)
+    seen = lines_read(root) - {*wrong}
     unread = [at for at, it in enumerate(lax.lines) if without_comment(it).strip() and at not in seen]
-    return File(name, lines, root, unread, lax.unclosed)
+    return File(name, lines, root, unread, lax.unclosed, lax.changed)
+
+
+def take_wrong_out(root: Node, lines: list[str], wrong: list[int]) -> None:
+    """Takes out what has a value that is no YAML: a second `:`, or a quote that nothing closes."""
+    waiting = [root]
+    while waiting:
+        node = waiting.pop()
+        for entry in node.entries or []:
+            if is_wrong(entry.value, lines):
+                wrong.append(entry.line)
+        node.entries = node.entries and [it for it in node.entries if not is_wrong(it.value, lines)]
+        waiting += [it.value for it in node.entries or []] + (node.items or [])
+
+
+def is_wrong(value: Node, lines: list[str]) -> bool:
+    if value.items is not None or value.entries is not None or not value.text or value.line >= len(lines):
+        return False
+    first = lines[value.line][value.start : value.start + 1]
+    if first in ("'", '"'):
+        return value.text[:1] == first and value.text[-1:] != first
+    return re.search(r":(\s|$)", value.text) is not None
 
 
 def lines_read(root: Node) -> set[int]:

@@ -155,7 +155,7 @@ def said(ctx: Context, given: Given, condition: str, found: list[str]) -> None:
         ctx.log("player_x{value}", given.place)
     elif not re.search(r"[=<>]", condition) and not re.search(r"\b(and|or)\b", condition):
         ctx.log("a{current_player.x}", given.place)
-    elif condition not in "".join(found):
+    elif re.sub(r"[\s()]", "", condition) not in re.sub(r"\s", "", "".join(found)):
         ctx.log("other spelling", given.place)
 
 

@@ -8,7 +8,7 @@ from . import balls, players, playfield, settings, values
 from .context import Context
 from .draft import NoRoom, Taken
 from .features import FEATURES
-from .source import Given, Part, read
+from .source import Given, Part, Place, read
 
 OF_MPF = ("attract", "game", "tilt", "bonus", "high_score", "credits", "service", "carousel", "match")
 # MPF's sections that are rewritten
@@ -71,6 +71,9 @@ def prepare(ctx: Context) -> None:
             modes = [it for it in part.sections() if it.key == "mode"]
             if not any(it.says("game_mode").lower() in values.NO for it in modes):
                 ctx.game_modes.add(part.mode)
+        for section in part.sections():
+            if section.key == "tilt" and section.is_mapping and balls.tilts(ctx, section):
+                ctx.tilt_events, ctx.tilt_given = ["tilt"], section
     listed(ctx)
     for section in ctx.source.parts[0].sections():
         heads(ctx, section)
@@ -93,8 +96,6 @@ def learn(ctx: Context, part: Part, section: Given, entry: Given) -> None:
     elif section.key == "mpf" and entry.key == "default_pulse_ms":
         value = ctx.time(entry.text)
         ctx.pulse_ms = str(value) if value and value <= 5_000 else ""
-    elif section.key == "tilt" and section.is_mapping:
-        ctx.tilt_events, ctx.tilt_given = ["tilt"], section
 
 
 def heads(ctx: Context, section: Given) -> None:
@@ -109,6 +110,9 @@ def of_files(ctx: Context) -> None:
     for file in ctx.source.files:
         for at in file.unread:
             ctx.lose("not YAML", Given("", file.root, file, at, at + 1), f"`{file.lines[at].strip()[:60]}`")
+        for at in file.lax:
+            if at not in file.unclosed:
+                ctx.log("lax YAML", Place(file.name, at + 1, at + 1))
         for at in file.unclosed:
             ctx.lose("not closed", Given("", file.root, file, at, at + 1))
 
@@ -125,7 +129,7 @@ def listed(ctx: Context) -> None:
         if name in seen:
             ctx.lose("entry twice", given, f"the mode `{name[:60]}`")
         elif name not in ctx.listed and name in OF_MPF:
-            ctx.lose("modes of MPF", given, f"`{name}`")
+            ctx.lose("modes of MPF", given, f"`{name}`", "unseen" if name in ("attract", "game", "service") else "lost")
         elif name not in ctx.listed:
             ctx.lose("missing file", given, f"the mode `{name[:60]}` has no text that can be read")
         else:
@@ -160,13 +164,12 @@ def of_part(ctx: Context, part: Part) -> None:
 
 
 def comments_of_files(ctx: Context, part: Part) -> None:
-    """Keeps the comment at the front of each file."""
-    for file in part.files:
-        for line in file.lines[:60]:
-            if line.strip() and not line.startswith("#"):
-                break
-            if line.strip("# \t\r") and "config_version" not in line:
-                ctx.draft.heads.setdefault(part.mode, []).append(line.strip("# \t\r"))
+    """Keeps the comment at the front of a text."""
+    for line in part.files[0].lines[:60]:
+        if line.strip() and not line.startswith("#"):
+            break
+        if line.strip("# \t\r") and "config_version" not in line:
+            ctx.draft.heads.setdefault(part.mode, []).append(line.strip("# \t\r"))
 
 
 def of_section(ctx: Context, mode: str, section: Given) -> None:
@@ -266,6 +269,7 @@ def finish(ctx: Context) -> None:
                 "", ctx.source.parts[0].files[0].root, ctx.source.parts[0].files[0], 0, 1).place, str(why))
     balls.tilted(ctx)
     dual_wound(ctx)
+    one_coil(ctx)
     players.within_limits(ctx)
     game(ctx)
 
@@ -277,6 +281,14 @@ def dual_wound(ctx: Context) -> None:
             written.value["main_coil"] = main
             written.value.setdefault("hold_coil", held)
             written.says.append("the two windings of a coil")
+
+
+def one_coil(ctx: Context) -> None:
+    """A flipper of one coil that may be held is held, and never pulsed first."""
+    for written in ctx.draft.section("", "flippers").values():
+        value = written.value
+        if isinstance(value, dict) and not value.get("hold_coil") and ctx.may_hold(str(value.get("main_coil"))):
+            ctx.log("flipper of one coil", written.places[0], f"`{value.get('main_coil')}`")
 
 
 def game(ctx: Context) -> None:

@@ -1,0 +1,155 @@
+"""`pinball-help adopt`: it says all that is lost, what is rewritten does what it should, and it never fails.
+
+Alone, `python3 dev/help_tests/of_adopt.py PROGRAM [COUNT] [SEED]` adopts so many drawn folders."""
+import random
+import re
+import sys
+import tempfile
+import time
+from functools import cache
+from pathlib import Path
+
+if __name__ == "__main__":
+    sys.dont_write_bytecode = True
+    sys.path[:0] = [str(Path(__file__).resolve().parents[2] / it) for it in ("tools", "dev")]
+
+from help_tests.adopted_plays import PLAYS, Play
+from help_tests.common import PROGRAM, TOP, test
+from pinball_help import outline
+from pinball_help.adopt import report, run
+from pinball_help.adopt.features import EFFECTS, FEATURES, LOST, TABLE, WEAKENED
+
+MACHINES = TOP / "tools/pinball_help/machines"
+NAMES = ("tutorial", "modern", "em", "slips")
+PLACE = re.compile(r"([\w./-]+\.yaml):(\d+)(?:-(\d+))?")
+
+
+@cache
+def adopted(name: str) -> run.Adopted:
+    return run.adopt(PROGRAM, MACHINES / name)
+
+
+def written(files: dict[str, str], folder: Path) -> Path:
+    for name, text in files.items():
+        (folder / name).parent.mkdir(parents=True, exist_ok=True)
+        (folder / name).write_text(text)
+    return folder
+
+
+# the four machines
+
+
+@test
+def the_four_machines_are_accepted_in_one_round() -> None:
+    for name in NAMES:
+        with tempfile.TemporaryDirectory() as room:
+            new = Path(room) / "new"
+            assert run.write(adopted(name), new, force=False) == []
+            assert PROGRAM.check(new).accepted, name
+
+
+def may_be_lost(name: str) -> dict[tuple[str, int], str]:
+    lines = (MACHINES / name / "may_be_lost").read_text().split("\n")[:-1]
+    return {(it.split()[1], int(it.split()[2])): it.split()[0] for it in lines}
+
+
+@test
+def nothing_is_lost_but_what_may_be() -> None:
+    for name in NAMES:
+        allowed = may_be_lost(name)
+        for it in adopted(name).context.done:
+            if it.effect in (LOST, WEAKENED):
+                effect = allowed.get((it.place.file, it.place.line))
+                assert effect, f"{name}: {it} is not in the list"
+                assert effect == LOST or it.effect == WEAKENED, f"{name}: {it} is lost, and not weakened"
+
+
+def listed(page: str) -> set[tuple[str, int]]:
+    """The lines that a report names."""
+    found = set()
+    for file, first, last in PLACE.findall(page.partition("## Handled, and")[0]):
+        found |= {(file, at) for at in range(int(first), int(last or first) + 1)}
+    return found
+
+
+def words(text: str) -> list[str]:
+    return sorted(re.findall(r"[^\s,\[\]{}'\"]+", text))
+
+
+def is_kept(entry: outline.Entry, new: outline.Node) -> bool:
+    """Whether a text has an entry, at the same place and with the same value."""
+    node = new
+    for it in (*entry.path, entry):
+        inner = node.at(it.key)
+        if inner is None:
+            return False
+        node = inner
+    if entry.value.entries is not None:
+        return True
+    if entry.value.items is not None:
+        inside = [it for item in entry.value.items for it in item.entries or []]
+        return bool(inside) or words(" ".join(it.text for it in entry.value.texts())) == words(
+            " ".join(it.text for it in node.texts()))
+    return words(entry.value.text) == words(" ".join(it.text for it in node.texts()) or node.text)
+
+
+@test
+def each_section_and_setting_is_kept_or_listed() -> None:
+    for name in NAMES:
+        files = adopted(name).files
+        said = listed(files[report.NAME])
+        for path in sorted((MACHINES / name).glob("**/config/*.yaml")):
+            place = str(path.relative_to(MACHINES / name))
+            text = f"modes/{path.stem}/config/{path.stem}.yaml" if place.startswith("modes/") else "config/config.yaml"
+            new = outline.read(files.get(text, "").split("\n"))
+            lines = path.read_text().split("\n")
+            for entry in outline.entries(outline.read(lines)):
+                ok = (place, entry.line + 1) in said or is_kept(entry, new) or entry.key in ("modes", "config")
+                ok = ok or any(it.key in ("control_events", "states") for it in entry.path)
+                assert ok, f"{name}: {place}:{entry.line + 1} {entry.key} is neither kept nor listed"
+
+
+# what is rewritten does what it should
+
+
+def machine_of(play: Play, folder: Path) -> Path:
+    modes = "modes:\n" + "".join(f"  - {it}\n" for it in play.modes) if play.modes else ""
+    files = {"config/config.yaml": f"#config_version=6\n{modes}{play.machine}"}
+    files |= {f"modes/{it}/config/{it}.yaml": f"#config_version=6\n{text}" for it, text in play.modes.items()}
+    return written(files, folder)
+
+
+def fails(play: Play) -> str:
+    """What is wrong with a play, or nothing."""
+    with tempfile.TemporaryDirectory() as room:
+        made = run.adopt(PROGRAM, machine_of(play, Path(room) / "mpf"))
+        new = written(made.files, Path(room) / "new")
+        (new / "log").write_text(play.log)
+        trace = PROGRAM.output(["play", str(new / "log"), str(new)])
+    lines = [re.sub(r"^(\d+) \S+ ", r"\1 ", it) for it in trace.split("\n")]
+    rest = iter(lines)
+    for wanted in play.happens:
+        if wanted not in rest:
+            return f"{play.name}: `{wanted}` does not happen, or not then:\n{trace}\n{made.files}"
+    if wrong := [it for it in play.never if it in lines]:
+        return f"{play.name}: `{wrong[0]}` happens:\n{trace}\n{made.files}"
+    named = {it.feature for it in made.context.done}
+    missing = [it for it in play.features if not named & {*FEATURES[it].names}]
+    return f"{play.name}: {missing} is not said, but {named}" if missing else ""
+
+
+@test
+def each_rewritten_rule_is_played() -> None:
+    for play in PLAYS:
+        assert not (said := fails(play)), said
+
+
+if __name__ == "__main__":
+    from help_tests.common import TESTS
+    for one in TESTS:
+        try:
+            one()
+            print("passed", one.__name__)
+        except AssertionError as error:
+            print("FAILED", one.__name__, str(error)[:3000])
+assert random and time and TABLE and EFFECTS
