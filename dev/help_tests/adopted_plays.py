@@ -154,7 +154,7 @@ LISTS = (
          ("1000 event a1", "1000 event a2", "2000 event b1", "2000 event b2", "3000 event c1", "3000 event c2",
           "4000 event d1", "4000 event d2")),
     Play("a list of mappings", GAME + "event_player:\n  s_a_active:\n    - a1\n    - a2: {priority: 5}\n    - a3|1s\n",
-         logged(press("s_a", 1000), "3000"), ("1000 event a2", "1000 event a1", "2000 event a3"),
+         logged(press("s_a", 1000), "3000"), ("1000 event a1", "1000 event a2", "2000 event a3"),
          features=("lists of events",)),
     Play("a list on several lines", GAME + "event_player:\n  s_a_active: [a1,\n    a2,   # the second\n    a3]\n",
          logged(press("s_a", 1000)), ("1000 event a1", "1000 event a2", "1000 event a3"), features=("lax YAML",)),

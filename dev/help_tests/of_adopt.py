@@ -73,24 +73,31 @@ def listed(page: str) -> set[tuple[str, int]]:
 
 
 def words(text: str) -> list[str]:
-    return sorted(re.findall(r"[^\s,\[\]{}'\"]+", text))
+    text = re.sub(r"\s*([=!<>]=|[<>])\s*", r"\1", text)
+    return sorted(re.findall(r"[^\s,\[\]'\"]+", text))
 
 
-def is_kept(entry: outline.Entry, new: outline.Node) -> bool:
-    """Whether a text has an entry, at the same place and with the same value."""
-    node = new
-    for it in (*entry.path, entry):
-        inner = node.at(it.key)
-        if inner is None:
-            return False
-        node = inner
-    if entry.value.entries is not None:
-        return True
+def found(new: outline.Node, keys: list[str]) -> outline.Node | None:
+    """What a text has at a path of keys."""
+    node: outline.Node | None = new
+    for key in keys:
+        entries = node.entries or [] if node else []
+        node = next((it.value for it in entries if words(it.key) == words(key)), None)
+    return node
+
+
+def is_kept(entry: outline.Entry, new: outline.Node, said: set[int]) -> bool:
+    """Whether a text has an entry, at the same place and with the same value. `said` are lines that are listed."""
+    keys = [it.key for it in (*entry.path, entry)]
+    node, outer = found(new, keys), found(new, keys[:-1])
+    if node is None and entry.key in ("int", "action") and outer and outer.text:
+        return entry.value.text in (outer.text, "add")  # (an entry of a player with a mapping, which is written short)
+    if node is None:
+        return False
+    here = words(" ".join(it.text for it in node.texts()) or node.text)
     if entry.value.items is not None:
-        inside = [it for item in entry.value.items for it in item.entries or []]
-        return bool(inside) or words(" ".join(it.text for it in entry.value.texts())) == words(
-            " ".join(it.text for it in node.texts()))
-    return words(entry.value.text) == words(" ".join(it.text for it in node.texts()) or node.text)
+        return all({*words(it.text)} <= {*here} or it.line + 1 in said for it in entry.value.items if it.text)
+    return words(entry.value.text) == here
 
 
 @test
@@ -102,9 +109,9 @@ def each_section_and_setting_is_kept_or_listed() -> None:
             place = str(path.relative_to(MACHINES / name))
             text = f"modes/{path.stem}/config/{path.stem}.yaml" if place.startswith("modes/") else "config/config.yaml"
             new = outline.read(files.get(text, "").split("\n"))
-            lines = path.read_text().split("\n")
-            for entry in outline.entries(outline.read(lines)):
-                ok = (place, entry.line + 1) in said or is_kept(entry, new) or entry.key in ("modes", "config")
+            here = {line for file, line in said if file == place}
+            for entry in outline.entries(outline.read(path.read_text().split("\n"))):
+                ok = entry.line + 1 in here or bool(entry.value.entries) or is_kept(entry, new, here)
                 ok = ok or any(it.key in ("control_events", "states") for it in entry.path)
                 assert ok, f"{name}: {place}:{entry.line + 1} {entry.key} is neither kept nor listed"
 

@@ -106,7 +106,7 @@ def drop_inner(ctx: Context, inside: dict[str, Written], key: str, inner: str, c
     """Takes a setting, a coil or a variable out of an entry, or one name out of a list of it."""
     written = inside[key]
     assert isinstance(written.value, dict)
-    say(ctx, written, inner, complaint)
+    say(ctx, written, "" if inner in REQUIRED and inner not in LISTS else inner, complaint)
     value = written.value[inner]
     if inner in LISTS and isinstance(value, list) and complaint.key in value and len(value) > 1:
         written.value[inner] = [it for it in value if it != complaint.key]

@@ -20,7 +20,8 @@ def of_save(ctx: Context, mode: str, entry: Given, out: Out) -> None:
         active, more = ctx.time(str(out.get("active_time", "0"))), ctx.time(grace.text)
         if active and more:
             out["active_time"] = written(active + more)
-        ctx.log("ball_saves.grace_period", grace.place, f"`active_time: {out.get('active_time', 0)}`")
+        for it in (grace, entry.at("active_time") or grace):
+            ctx.log("ball_saves.grace_period", it.place, f"`active_time: {out.get('active_time', 0)}`")
     if start := entry.at("timer_start_events"):
         from_then(ctx, mode, entry, start, out)
     if launch := entry.at("auto_launch"):
@@ -31,6 +32,7 @@ def of_save(ctx: Context, mode: str, entry: Given, out: Out) -> None:
         here = out.setdefault("disable_events", [])
         assert isinstance(here, list)
         here += [it for it in ctx.tilt_events if it not in here]
+        ctx.log("tilt", (entry.at("disable_events") or entry).place, "`tilt` disables it")
 
 
 def from_then(ctx: Context, mode: str, entry: Given, start: Given, out: Out) -> None:
@@ -39,7 +41,8 @@ def from_then(ctx: Context, mode: str, entry: Given, start: Given, out: Out) -> 
     enables = [str(it) for it in out.get("enable_events", [])]
     if not events:
         return
-    ctx.log("ball_saves.timer_start_events", start.place)
+    for it in (start, entry.at("enable_events") or start):
+        ctx.log("ball_saves.timer_start_events", it.place)
     if not enables:
         out["enable_events"] = list(events)
         return
@@ -93,13 +96,22 @@ def launches(ctx: Context) -> None:
         if not isinstance(coil, str) or "trough" in device.get("tags", []):
             ctx.lose("ball_devices.player_controlled_eject_event", given, "it has no coil, or is a trough", "lost")
             continue
-        del device["eject_coil"]
-        device["mechanical_eject"] = "yes"
+        by_hand(ctx, written_device, "ball_devices.player_controlled_eject_event")
         written_device.says.append(f"the player fires `{coil}`, so the device does not")
         for event in values.events(ctx, "", "ball_devices", NO_CALL, given, given) or []:
             ctx.drive("", event, {coil: "pulse"}, given, f"launches a ball from {name}")
         if ctx.auto_launch or ctx.multiballs:
             auto_launch(ctx, name, coil, given)
+
+
+def by_hand(ctx: Context, written_device: Written, feature: str) -> None:
+    """A ball device that ejects no ball by itself."""
+    assert isinstance(written_device.value, dict)
+    del written_device.value["eject_coil"]
+    written_device.value["mechanical_eject"] = "yes"
+    for key in ("eject_coil", "mechanical_eject"):
+        if place := written_device.lines.get(key):
+            ctx.log(feature, place, "`mechanical_eject: yes`, and no `eject_coil`")
 
 
 def auto_launch(ctx: Context, name: str, coil: str, given: Given) -> None:
@@ -129,8 +141,7 @@ def holds(ctx: Context) -> None:
             coil = device.get("eject_coil") if isinstance(device, dict) else None
             if isinstance(device, dict) and isinstance(coil, str) and "trough" not in device.get("tags", []):
                 assert written_device
-                del device["eject_coil"]
-                device["mechanical_eject"] = "yes"
+                by_hand(ctx, written_device, "ball_holds")
                 written_device.says.append(f"it holds its balls for {entry.key}: {entry.place}")
                 hold(ctx, mode, entry, name, coil)
                 found = True
@@ -280,7 +291,9 @@ def tilted(ctx: Context) -> None:
                 here = written_device.value.setdefault("disable_events", ["ball_will_end"])
                 assert isinstance(here, list)
                 here += [it for it in ctx.tilt_events if it not in here]
-    for mode in ctx.listed:
+                place = written_device.lines.get("disable_events", written_device.places[0])
+                ctx.log("tilt", place, "`tilt` disables it")
+    for mode in sorted(ctx.listed):
         sections = ctx.draft.texts.get(mode, {})
         single = sections.get("mode", {})
         value = {key: it.value for key, it in single.items()}
@@ -289,8 +302,11 @@ def tilted(ctx: Context) -> None:
         if str(value.get("use_wait_queue", "no")).lower() in values.YES:
             not_after_a_tilt(ctx, single)
         elif "variable_player" in sections and str(value.get("stop_on_ball_end", "yes")).lower() in values.YES:
-            stops = single.setdefault("stop_events", Written([])).value
+            written_stops = single.setdefault("stop_events", Written([]))
+            stops = written_stops.value
             assert isinstance(stops, list)
+            for place in written_stops.places:
+                ctx.log("tilt", place, "`tilt` stops the mode, since it scores")
             stops += [it for it in ctx.tilt_events if it not in stops]
 
 
@@ -299,6 +315,8 @@ def not_after_a_tilt(ctx: Context, single: dict[str, Written]) -> None:
     starts = single.get("start_events")
     if starts is None or starts.value != ["ball_ending"] or not ctx.tilt_given:
         return
+    for place in starts.places:
+        ctx.log("tilt", place, "the mode does not start after a tilt")
     starts.value = [f"ball_ending{{current_player.{TILTED} == 0}}"]
     if TILTED not in ctx.names:
         ctx.names[TILTED] = TILTED

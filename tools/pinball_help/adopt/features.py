@@ -263,8 +263,9 @@ SETTINGS = (
     row("game.start_game_switch_tag; game.add_player_switch_tag", SOME, REWRITTEN, "the tag `start` at those switches",
         "`start_game_switch_tag`"),
     row("game.allow_start_with_loose_balls; game.allow_start_with_ball_in_drain; game.add_player_event; "
-        "game.start_game_event; game.event_name; game.player_vars_; machine.balls_installed; machine.glass_off_mode; "
-        "machine.allow_other", SOME, WEAKENED, "left out", "`balls_installed` and others of `machine` and `game`"),
+        "game.start_game_event; game.add_player_switch; game.ball_loop", SOME, WEAKENED, "left out",
+        "`allow_start_with_loose_balls` and others of `game`"),
+    row("machine.balls_installed; machine.glass_off_mode", MANY, UNSEEN, "left out", "`balls_installed`"),
     row("score|block", MANY, WEAKENED, "the score without the block: it keeps no other entry from scoring",
         "`score: 100\\|block`, `block: true`"),
     row("score * variable", MANY, WEAKENED, "an entry for each value up to 10; a greater one scores as 10",

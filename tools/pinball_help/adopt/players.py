@@ -51,6 +51,11 @@ def in_mode(ctx: Context, mode: str, event: str, way: Way, entry: Given) -> tupl
     return ctx.stepped(where, event, rest, entry), where
 
 
+def differs(head: str, key: str) -> bool:
+    """Whether an event is not the one that is written, blanks left out."""
+    return re.sub(r"\s", "", head) != re.sub(r"\s", "", key)
+
+
 def of_events(ctx: Context, mode: str, section: Given) -> None:
     for entry in section.inside():
         of_event(ctx, mode, entry)
@@ -64,12 +69,13 @@ def posted_by(ctx: Context, entry: Given) -> list[tuple[str, str, str]]:
             found.append(parts_of(it.key))
             if it.is_mapping or it.text:
                 ctx.log("a: {b: {priority: 5}}", it.place)
-    else:
-        for item in entry.node.items or []:
-            if item.entries is not None:
-                found += [parts_of(it.key) for it in item.entries]
-                ctx.log("lists of events", entry.place)
-        found += [parts_of(it) for it in words_of(entry)]
+        return found
+    for item in entry.node.items if entry.node.items is not None else entry.node.texts():
+        if item.entries is not None:
+            found += [parts_of(it.key) for it in item.entries]
+            ctx.log("lists of events", entry.place)
+        else:
+            found += [parts_of(it) for it in words_of(Given(entry.key, item, entry.file, item.line, item.line + 1))]
     return found
 
 
@@ -78,7 +84,7 @@ def words_of(entry: Given) -> list[str]:
     found: list[str] = []
     for item in entry.node.texts():
         one = Given(entry.key, item, entry.file, item.line, item.line + 1)
-        found += [item.text] if "{" in item.text else one.words()
+        found += [item.text] if "{" in item.text and entry.node.items is not None else one.words()
     return found
 
 
@@ -114,7 +120,7 @@ def write_event(ctx: Context, mode: str, entry: Given, condition: str, wait: str
                 continue
             ctx.log("a: b|2s", entry.place, f"`{', '.join(names)}|{wait}`")
             says, head = f"{', '.join(names)} {wait} after {entry.key}", ctx.after(where, head, delay, entry)
-        elif head != entry.key:
+        elif differs(head, entry.key):
             says = f"{entry.key} in MPF"
         else:
             ctx.keep(entry)
@@ -148,7 +154,8 @@ def of_coils(ctx: Context, mode: str, section: Given) -> None:
                 coils[it.key] = what
         written = heads(ctx, mode, entry) if coils or not given else []
         for head, where in written:
-            ctx.drive(where, head, coils, entry, f"{entry.key} in MPF" if head != entry.key else "", comments=True)
+            says = f"{entry.key} in MPF" if differs(head, entry.key) else ""
+            ctx.drive(where, head, coils, entry, says, comments=True)
             ctx.keep(entry)
 
 
@@ -249,7 +256,8 @@ def of_variables(ctx: Context, mode: str, section: Given) -> None:
             multiplied(ctx, mode, entry, it, variable, factor, of)
         found = heads(ctx, mode, entry) if changes or not entry.inside() else []
         for head, where in found:
-            ctx.change(where, head, changes, entry, f"{entry.key} in MPF" if head != entry.key else "", comments=True)
+            says = f"{entry.key} in MPF" if differs(head, entry.key) else ""
+            ctx.change(where, head, changes, entry, says, comments=True)
             ctx.keep(entry)
         for variable, factor, of, it in computed:
             if not any(it is other[3] for other in before):

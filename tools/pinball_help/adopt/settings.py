@@ -39,7 +39,7 @@ def single(ctx: Context, mode: str, section: Given) -> None:
     out = settings_of(ctx, mode, section.key, section)
     for key, value in (out or {}).items():
         try:
-            ctx.draft.put(mode, section.key, key, Written(value, [section.place]))
+            ctx.draft.put(mode, section.key, key, Written(value, [(section.at(key) or section).place]))
         except Taken as why:
             ctx.lose("entry twice", section.at(key) or section, str(why))
     ctx.draft.section(mode, section.key)
@@ -160,7 +160,7 @@ def lowest(ctx: Context, _mode: str, entry: Given, out: Out) -> None:
         if limit == "max_pulse_power" and most is not None and default not in out:
             here = 1000
         if most is not None and here is not None and here > most:
-            ctx.log("lowest power or time", (entry.at(limit) or entry).place, f"`{default}` is `{out[limit]}`")
+            ctx.log("lowest power or time", (entry.at(default) or entry).place, f"`{default}` is `{out[limit]}`")
             out[default] = out[limit]
     if entry.at("max_hold_duration") or entry.at("default_timed_enable_ms"):
         for key in ("allow_enable", "default_hold_power", "max_hold_power"):
@@ -194,6 +194,7 @@ def lower_coils(ctx: Context) -> None:
         if here is not None and new and new < here:
             written.value[key] = right
             written.says.append(f"`{key}` is that of {given.place}")
+            ctx.log("flippers.main_coil_overwrite", written.lines.get(key, written.places[0]), f"`{key}: {right}`")
 
 
 # devices

@@ -242,9 +242,8 @@ ACTIONS = ("start", "stop", "pause", "reset", "restart", "add", "subtract", "jum
 
 def control(ctx: Context, mode: str, item: Given) -> list[dict]:
     action = item.says("action").lower()
-    line = item.at("action") or item
     if action not in ACTIONS:
-        ctx.lose("timers.control_events.action", line, f"`{action[:40]}`")
+        ctx.lose("timers.control_events.action", item, f"`{action[:40]}`")
         return []
     value = ctx.number(item.says("value", "0"))
     event = item.at("event") or item.at("events")
