@@ -6,21 +6,27 @@ import re
 import sys
 import tempfile
 import time
+import traceback
 from functools import cache
 from pathlib import Path
+from typing import Callable
 
 if __name__ == "__main__":
     sys.dont_write_bytecode = True
     sys.path[:0] = [str(Path(__file__).resolve().parents[2] / it) for it in ("tools", "dev")]
 
+from help_tests.adopted_draws import draw_folder
 from help_tests.adopted_plays import PLAYS, Play
 from help_tests.common import PROGRAM, TOP, test
+from help_tests.folders import damaged
 from pinball_help import outline
 from pinball_help.adopt import report, run
 from pinball_help.adopt.features import EFFECTS, FEATURES, LOST, TABLE, WEAKENED
 
 MACHINES = TOP / "tools/pinball_help/machines"
 NAMES = ("tutorial", "modern", "em", "slips")
+DRAWN, DAMAGED = 40, 20  # folders that are tried with the other tests
+MOST_SECONDS = 5.0
 PLACE = re.compile(r"([\w./-]+\.yaml):(\d+)(?:-(\d+))?")
 
 
@@ -151,12 +157,53 @@ def each_rewritten_rule_is_played() -> None:
         assert not (said := fails(play)), said
 
 
-if __name__ == "__main__":
-    from help_tests.common import TESTS
-    for one in TESTS:
+# any folder
+
+
+def wrong(seed: int, make: Callable[[random.Random, Path], Path]) -> str:
+    """What is wrong with how a drawn folder is adopted, or nothing."""
+    with tempfile.TemporaryDirectory(prefix="adopt-") as name:
+        room = Path(name)
+        folder = make(random.Random(seed), room / "mpf")
+        start = time.process_time()
         try:
-            one()
-            print("passed", one.__name__)
-        except AssertionError as error:
-            print("FAILED", one.__name__, str(error)[:3000])
-assert random and time and TABLE and EFFECTS
+            made = run.adopt(PROGRAM, folder)
+        except (OSError, ValueError) as error:
+            return "" if make is hostile_folder else f"{seed}: {error!r}"
+        except Exception:
+            return f"{seed}: {traceback.format_exc()}"
+        seconds = time.process_time() - start
+        run.write(made, room / "new", force=False)
+        answer = PROGRAM.check(room / "new")
+        if not answer.accepted:
+            return f"{seed}: {answer.complaints}"
+        if seconds > MOST_SECONDS:
+            return f"{seed}: {seconds:.1f} s"
+        left = any(it.says == "the whole machine" for it in made.context.done)
+        return f"{seed}: nothing is left of it" if left and make is not hostile_folder else ""
+
+
+def hostile_folder(draw: random.Random, room: Path) -> Path:
+    room.mkdir()
+    return damaged(room, draw).folder
+
+
+def all_wrong(count: int, seed: int, make: Callable[[random.Random, Path], Path]) -> list[str]:
+    return [it for at in range(count) if (it := wrong(seed + at, make))]
+
+
+@test
+def drawn_folders_are_adopted() -> None:
+    assert not (said := all_wrong(DRAWN, 82_000, draw_folder)), said[0]
+
+
+@test
+def damaged_folders_are_adopted_or_refused_with_a_message() -> None:
+    assert not (said := all_wrong(DAMAGED, 8_200, hostile_folder)), said[0]
+
+
+if __name__ == "__main__":
+    count, seed = (int(it) for it in [*sys.argv[2:4], "1000", "0"][:2]) if len(sys.argv) < 4 else map(int, sys.argv[2:4])
+    for name, make in ("drawn", draw_folder), ("damaged", hostile_folder):
+        found = all_wrong(count, seed, make)
+        print(f"{count} {name} folders, {len(found)} wrong", *found[:8], sep="\n")
