@@ -22,6 +22,8 @@ from help_tests.folders import damaged
 from pinball_help import outline
 from pinball_help.adopt import report, run
 from pinball_help.adopt.features import EFFECTS, FEATURES, LOST, TABLE, WEAKENED
+from pinball_help.adopt.source import Given
+from pinball_help.values import milliseconds
 
 MACHINES = TOP / "tools/pinball_help/machines"
 NAMES = ("tutorial", "modern", "em", "slips")
@@ -120,6 +122,65 @@ def each_section_and_setting_is_kept_or_listed() -> None:
                 ok = entry.line + 1 in here or bool(entry.value.entries) or is_kept(entry, new, here)
                 ok = ok or any(it.key in ("control_events", "states") for it in entry.path)
                 assert ok, f"{name}: {place}:{entry.line + 1} {entry.key} is neither kept nor listed"
+
+
+@test
+def the_page_has_the_table() -> None:
+    page = (TOP / "docs/from_mpf.md").read_text()
+    shown = page.partition("## What adopt does with each feature\n")[2]
+    table = [it for it in shown.split("\n") if it.startswith("|")]
+    assert table == report.table(), "write what `tools/pinball-help adopt --table` prints to docs/from_mpf.md"
+    assert len(FEATURES) == sum(len(it.names) for it in TABLE) and all(it.effect in EFFECTS for it in TABLE)
+
+
+@test
+def each_feature_that_is_said_is_in_the_table() -> None:
+    for source in (TOP / "tools/pinball_help/adopt").glob("*.py"):
+        for name in re.findall(r'(?:log|lose)\(\s*"([^"{}]+)"', source.read_text()):
+            assert name in FEATURES, f"{source.name}: {name}"
+
+
+@test
+def a_change_of_a_builder_is_not_overwritten() -> None:
+    made = adopted("em")
+    with tempfile.TemporaryDirectory() as room:
+        new = Path(room) / "new"
+        assert run.write(made, new, force=False) == [] == run.write(made, new, force=False)
+        text = new / "config/config.yaml"
+        before = text.read_text()
+        text.write_text(f"{before}# mine\n")
+        differs = run.write(made, new, force=False)
+        assert "-# mine" in differs and text.read_text().endswith("# mine\n"), differs
+        assert run.write(made, new, force=True) == [] and text.read_text() == before
+        (Path(room) / "other").mkdir()
+        (Path(room) / "other/mine").write_text("x")
+        try:
+            run.write(made, Path(room) / "other", force=True)
+        except ValueError as error:
+            assert "not by adopt" in str(error)
+        else:
+            raise AssertionError("a folder of somebody else is overwritten")
+
+
+@test
+def no_coil_is_driven_more_than_the_source_says() -> None:
+    for name in NAMES:
+        source = {it.key: it for it in coils_of(adopted(name))}
+        for coil, written_coil in adopted(name).context.draft.texts[""]["coils"].items():
+            value = written_coil.value
+            assert isinstance(value, dict)
+            given = source[coil]
+            pulse = [ms for key in ("default_pulse_ms", "pulse_ms") if (ms := milliseconds(given.says(key))) is not None]
+            here = milliseconds(str(value.get("default_pulse_ms", "10"))) or 0
+            most = adopted(name).context.pulse_ms or "10"
+            assert here <= max([*pulse, 0 if pulse else int(most)]) or here <= 10, (name, coil)
+            if "default_hold_power" in value or "allow_enable" in value:
+                assert given.at("default_hold_power") or given.at("hold_power") or given.at("allow_enable"), (name, coil)
+
+
+def coils_of(made: run.Adopted) -> list[Given]:
+    parts = made.context.source.parts
+    return [it for part in parts for section in part.sections() if section.key == "coils" for it in section.inside()]
 
 
 # what is rewritten does what it should

@@ -201,7 +201,7 @@ def write_schema(asked: argparse.Namespace) -> int:
 
 
 def write_adopted(asked: argparse.Namespace) -> int:
-    return adopt.write(asked, find(asked))
+    return adopt.write(asked, find)
 
 
 def find(asked: argparse.Namespace) -> Program:

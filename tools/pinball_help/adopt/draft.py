@@ -1,9 +1,11 @@
 """The new machine while it is made, and how its texts are written."""
 import re
 from dataclasses import dataclass, field
+from functools import cache
 from typing import Iterator
 
-from ..tables import MOST_MODES
+from .. import tables
+from ..tables import MOST_MODES, Section
 from ..texts import MACHINE, VERSION, mode_text
 from .source import Place
 
@@ -15,6 +17,12 @@ PLAIN = re.compile(r"(?![-?:](?:\s|$))[A-Za-z0-9_.+/-](?:[^\s:#]|:(?=\S)|(?<=\S)
 FIRST = ("mode", "modes", "machine", "game", "switches", "coils", "ball_devices", "flippers", "autofire_coils")
 SINGLE = ("mode", "machine", "game")
 PLAYERS = ("event_player", "coil_player", "variable_player")
+
+
+@cache
+def sections(is_mode: bool) -> dict[str, Section]:
+    """The sections of the machine text, or of the text of a mode."""
+    return tables.sections(is_mode)
 
 
 class NoRoom(Exception):

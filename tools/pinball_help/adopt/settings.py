@@ -6,7 +6,7 @@ from .. import powers, profile, tables
 from ..values import milliseconds, thousandths
 from . import values
 from .context import Context
-from .draft import SINGLE, Taken, Value, Written
+from .draft import SINGLE, Taken, Value, Written, sections
 from .features import FEATURES
 from .source import Given
 
@@ -46,7 +46,7 @@ def single(ctx: Context, mode: str, section: Given) -> None:
 
 
 def of_entry(ctx: Context, mode: str, section: Given, entry: Given) -> None:
-    shape = tables.sections(bool(mode))[section.key]
+    shape = sections(bool(mode))[section.key]
     if not values.NAME.fullmatch(entry.key) or entry.key in shape.barred:
         ctx.lose("bad name", entry, f"`{entry.key[:60]}`")
         return
@@ -69,7 +69,7 @@ def settings_of(ctx: Context, mode: str, section: str, entry: Given) -> Out | No
     if not entry.is_mapping and (entry.text or entry.is_list):
         ctx.lose("bad value", entry, f"`{entry.text[:60]}` in place of settings")
         return None
-    table = {it.key: it for it in tables.sections(bool(mode))[section].settings}
+    table = {it.key: it for it in sections(bool(mode))[section].settings}
     out: Out = {}
     for given in entry.inside():
         take(ctx, mode, section, entry, given, table, out)
@@ -115,7 +115,7 @@ def renamed(new: str) -> Callable:
             ctx.lose("entry twice", given, f"`{new}` is there too")
             return
         other = Given(new if not powers.is_power(new) else given.key, given.node, given.file, given.line, given.last)
-        setting = next(it for it in tables.sections(False)[section].settings if it.key == new)
+        setting = next(it for it in sections(False)[section].settings if it.key == new)
         value = values.convert(ctx, mode, section, setting, entry, other)
         if value is not None:
             out[new] = value

@@ -6,7 +6,7 @@ from .. import profile, tables
 from ..machine_graph import GAME
 from . import balls, players, playfield, settings, values
 from .context import Context
-from .draft import NoRoom, Taken
+from .draft import NoRoom, Taken, sections
 from .features import FEATURES
 from .source import Given, Part, Place, read
 
@@ -189,8 +189,8 @@ def of_section(ctx: Context, mode: str, section: Given) -> None:
         if key == "scoring":
             ctx.log("scoring", section.place)
         one_by_one(ctx, mode, section)
-    elif key in tables.sections(False) or key in tables.sections(True):
-        if key in tables.sections(True) and key not in tables.sections(False) and not mode and key == "mode":
+    elif key in sections(False) or key in sections(True):
+        if key in sections(True) and key not in sections(False) and not mode and key == "mode":
             ctx.lose("unknown section", section, "`mode` in the text of the machine")
             return
         settings.of_section(ctx, mode, section)
