@@ -170,12 +170,14 @@ def no_coil_is_driven_more_than_the_source_says() -> None:
             value = written_coil.value
             assert isinstance(value, dict)
             given = source[coil]
-            pulse = [ms for key in ("default_pulse_ms", "pulse_ms") if (ms := milliseconds(given.says(key))) is not None]
+            pulse = [ms for key in ("default_pulse_ms", "pulse_ms")
+                     if (ms := milliseconds(given.says(key))) is not None]
             here = milliseconds(str(value.get("default_pulse_ms", "10"))) or 0
             most = adopted(name).context.pulse_ms or "10"
             assert here <= max([*pulse, 0 if pulse else int(most)]) or here <= 10, (name, coil)
             if "default_hold_power" in value or "allow_enable" in value:
-                assert given.at("default_hold_power") or given.at("hold_power") or given.at("allow_enable"), (name, coil)
+                assert given.at("default_hold_power") or given.at("hold_power") or given.at("allow_enable"), (name,
+                                                                                                              coil)
 
 
 def coils_of(made: run.Adopted) -> list[Given]:
@@ -264,7 +266,8 @@ def damaged_folders_are_adopted_or_refused_with_a_message() -> None:
 
 
 if __name__ == "__main__":
-    count, seed = (int(it) for it in [*sys.argv[2:4], "1000", "0"][:2]) if len(sys.argv) < 4 else map(int, sys.argv[2:4])
+    count, seed = (int(it) for it in [*sys.argv[2:4], "1000", "0"][:2]) if len(sys.argv) < 4 else map(int,
+                                                                                                      sys.argv[2:4])
     for name, make in ("drawn", draw_folder), ("damaged", hostile_folder):
         found = all_wrong(count, seed, make)
         print(f"{count} {name} folders, {len(found)} wrong", *found[:8], sep="\n")

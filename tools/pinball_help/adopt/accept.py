@@ -64,7 +64,8 @@ def drop(ctx: Context, scene: Scenery, complaint: Complaint) -> bool:
         return drop_some(ctx, complaint)
     if not complaint.line:
         return False
-    entry = next(iter(it for it in scene.entries_at(complaint.text, complaint.line - 1) if it.key == complaint.key), None)
+    entry = next(iter(it for it in scene.entries_at(complaint.text, complaint.line - 1) if it.key == complaint.key),
+                 None)
     entry = entry or scene.around(complaint.text, complaint.line - 1)
     if entry is None:
         return False
@@ -117,7 +118,8 @@ def drop_inner(ctx: Context, inside: dict[str, Written], key: str, inner: str, c
     return True
 
 
-REQUIRED = ("main_coil", "activation_switch", "coil", "switch", "ball_switches", "shots", "events", "states", "count_events",
+REQUIRED = ("main_coil", "activation_switch", "coil", "switch", "ball_switches", "shots", "events", "states",
+            "count_events",
             "ball_count")
 
 
@@ -142,7 +144,8 @@ def drop_step(ctx: Context, scene: Scenery, complaint: Complaint) -> bool:
     graph: Graph = graph_of(scene)
     ring = list(zip(complaint.words, [*complaint.words[1:], complaint.words[0]]))
     steps = [(it, posted) for event, posted in ring for it in graph.steps(event, posted) if it.entry is not None]
-    order = ("event_player", "variable_player", "multiballs", "ball_saves", "counters", "accruals", "sequences", "shots")
+    order = ("event_player", "variable_player", "multiballs", "ball_saves", "counters", "accruals", "sequences",
+             "shots")
 
     def rank(step: tuple[Post, str]) -> int:
         assert step[0].entry

@@ -120,9 +120,11 @@ def auto_launch(ctx: Context, name: str, coil: str, given: Given) -> None:
     for save in (*ctx.auto_launch, *(it for _, it, _, _ in ctx.saves)):
         ctx.change("", f"ball_save_{save}_saving_ball", {count: "1"}, given, "a ball that is saved is launched")
     for multiball, more in ctx.multiballs:
-        ctx.change("", f"multiball_{multiball}_started", {count: str(more)}, given, "the balls of a multiball are launched")
+        ctx.change("", f"multiball_{multiball}_started", {count: str(more)}, given,
+                   "the balls of a multiball are launched")
     ctx.drive("", f"balldevice_{name}_ball_enter{{current_player.{count} >= 1}}", {coil: "pulse"}, given, "by itself")
-    ctx.change("", f"balldevice_{name}_ball_eject_success{{current_player.{count} >= 1}}", {count: "-1"}, given, "it has left")
+    ctx.change("", f"balldevice_{name}_ball_eject_success{{current_player.{count} >= 1}}", {count: "-1"}, given,
+               "it has left")
     ctx.change("", "ball_will_start", {count: {"int": "0", "action": "set"}}, given, "a ball of a player is not")
 
 
@@ -228,7 +230,9 @@ def award(ctx: Context, mode: str, entry: Given, name: str, awards: list[str]) -
     ctx.change("", awarded, {count: "1"}, entry, "counts them")
     if EXTRA not in ctx.names:
         ctx.names[EXTRA] = ctx.draft.helper(EXTRA, {"start_events": ["game_starting"], "stop_on_ball_end": "no"},
-                                            Written("", says=["extra balls: this mode is the last, so other ball saves come first"]))
+                                            Written("",
+                                                    says=["extra balls: this mode is the last, so other ball saves "
+                                                          "come first"]))
     try:
         ctx.put(ctx.names[EXTRA], "ball_saves", ctx.own(f"extra_ball_{name}", 50), {"enable_events": [awarded]}, entry,
                 "it saves the next ball that nothing else saves")
@@ -266,8 +270,10 @@ def of_tilt(ctx: Context, mode: str, section: Given) -> None:
     number = ctx.number(section.says("warnings_to_tilt", "3"))
     if warnings:
         ctx.put(mode, "counters", ctx.own("tilt_warnings", 50), {
-            "count_events": warnings, "multiple_hit_window": written(ctx.time(section.says("multiple_hit_window", "300ms")) or 0),
-            "count_complete_value": str(number or 3), "events_when_hit": ["tilt_warning"], "events_when_complete": ["tilt"],
+            "count_events": warnings,
+            "multiple_hit_window": written(ctx.time(section.says("multiple_hit_window", "300ms")) or 0),
+            "count_complete_value": str(number or 3), "events_when_hit": ["tilt_warning"],
+            "events_when_complete": ["tilt"],
             **({} if mode else {"restart_events": ["ball_started"]}),
         }, section, "counts the warnings of a ball")
     for event in at_once:

@@ -10,7 +10,8 @@ from . import report, run
 ABOUT = "makes a folder that check accepts of the folder of an MPF machine"
 EPILOG = (
     "NEW_FOLDER/ADOPTED.md lists what was rewritten, and what was left out. MPF_FOLDER is never changed. Run it again "
-    "after MPF_FOLDER has changed: if you have changed NEW_FOLDER meanwhile, it prints what differs, and writes nothing. "
+    "after MPF_FOLDER has changed: if you have changed NEW_FOLDER meanwhile, it prints what differs, and writes "
+    "nothing. "
     "The status is 0 if the folder is written, and 1 if it is not."
 )
 

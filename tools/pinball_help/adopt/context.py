@@ -10,7 +10,8 @@ from .features import EFFECTS, FEATURES, REWRITTEN
 from .source import Given, Part, Place, Source
 
 GREATEST_TIME = (1 << 32) - 1
-TIMES = re.compile(r"(\d{1,10}(?:\.\d{1,6})?)\s*(ms|msec|millisecs?|s|sec|secs|seconds?|m|min|mins|minutes?|h|hours?|d|days?|)")
+TIMES = re.compile(r"(\d{1,10}(?:\.\d{1,6})?)\s*"
+                   r"(ms|msec|millisecs?|s|sec|secs|seconds?|m|min|mins|minutes?|h|hours?|d|days?|)")
 UNITS = {"m": 60_000, "h": 3_600_000, "d": 86_400_000, "s": 1_000, "": 1}
 # events that have another name here
 RENAMED = (
@@ -92,7 +93,8 @@ class Context:
             written.lines |= {it.key: it.place for it in given.inside() if it.key in written.lines}
         self.draft.put(mode, section, key, written)
 
-    def post(self, mode: str, event: str, names: list[str], given: Given, says: str = "", comments: bool = False) -> None:
+    def post(self, mode: str, event: str, names: list[str], given: Given, says: str = "",
+             comments: bool = False) -> None:
         self.put(mode, "event_player", event, list(names), given, says, comments)
 
     def change(self, mode: str, event: str, changes: dict[str, Value], given: Given, says: str = "",
@@ -147,7 +149,8 @@ class Context:
     def mode(self, name: str, starts: list[str], stops: list[str], given: Given, says: str) -> str:
         """A mode of its own for a rewrite, which runs without a game too."""
         settings: dict[str, Value] = {"start_events": starts, "stop_events": stops, "game_mode": "no"}
-        return self.draft.helper(self.own(name, 40, "modes "), settings, Written("", [given.place], says=[f"{given.place}: {says}"]))
+        return self.draft.helper(self.own(name, 40, "modes "), settings,
+                                 Written("", [given.place], says=[f"{given.place}: {says}"]))
 
     def relay(self, mode: str, events: list[str], name: str, given: Given) -> list[str]:
         """Events of a mode's entry as the machine may handle them: only while that mode runs."""
@@ -164,7 +167,8 @@ class Context:
         def variable(name: str) -> str:
             if name == "value" and (found := re.fullmatch(r"player_(\w+)", event)):
                 return found[1]
-            if name in ("ball", "number") and re.fullmatch(r"ball_(?:will_start|starting|started)|player_turn_\w+", event):
+            if name in ("ball", "number") and re.fullmatch(r"ball_(?:will_start|starting|started)|player_turn_\w+",
+                                                           event):
                 return name
             return name if name in self.variables else ""
 

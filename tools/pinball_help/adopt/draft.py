@@ -133,7 +133,8 @@ def joined(first: Written, other: Written) -> None:
 
 def added(one: Value, other: Value) -> Value | None:
     """What two changes of one variable add; none if they do not add."""
-    if isinstance(one, str) and isinstance(other, str) and re.fullmatch(r"-?\d+", one) and re.fullmatch(r"-?\d+", other):
+    if isinstance(one, str) and isinstance(other, str) and re.fullmatch(r"-?\d+", one) and re.fullmatch(r"-?\d+",
+                                                                                                        other):
         return str(int(one) + int(other))
     return None
 

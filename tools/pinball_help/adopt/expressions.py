@@ -1,7 +1,7 @@
 """Conditions and numbers of MPF, which are expressions of Python: what of them can be said here.
 
-A condition here is one comparison of a player's variable with a number. So a condition becomes *ways*: each is a list of
-comparisons that all have to hold, and no two ways hold at once."""
+A condition here is one comparison of a player's variable with a number. So a condition of MPF becomes *ways*: each is a
+list of comparisons that all have to hold, and no two ways hold at once."""
 import ast
 import re
 import warnings
@@ -90,7 +90,8 @@ def of_sum(node: ast.BinOp, known: Known) -> int | None:
     left, right = number_of(node.left, known), number_of(node.right, known)
     if left is None or right is None:
         return None
-    value = left + right if isinstance(node.op, ast.Add) else left - right if isinstance(node.op, ast.Sub) else left * right
+    value = left + right if isinstance(node.op, ast.Add) else left - right if isinstance(node.op,
+                                                                                         ast.Sub) else left * right
     return value if abs(value) <= GREATEST else None
 
 

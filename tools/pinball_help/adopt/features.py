@@ -1,4 +1,4 @@
-"""The table of MPF's features: what `adopt` does with each. ADOPTED.md and the table of docs/from_mpf.md are made of it.
+"""The table of MPF's features: what `adopt` does with each. ADOPTED.md and the table of docs/from_mpf.md come from it.
 
 `names` are sections, settings as `section.setting`, and idioms. How common a feature is, and what it does in MPF, was
 written from memory."""
@@ -54,33 +54,42 @@ FILES = (
     row("refused", FEW, LOST, "left out", "what `pinball check` refuses for another reason, as a cycle of events"),
     row("number out of range", FEW, WEAKENED, "the nearest number", "a number out of range"),
     row("too many", FEW, LOST, "left out", "more than a limit, such as 64 modes"),
-    row("other spelling", SOME, REWRITTEN, "written as it is read here", "`type: nc`, `debounce: no`, `10_000`, `2 sec`"),
+    row("other spelling", SOME, REWRITTEN, "written as it is read here",
+        "`type: nc`, `debounce: no`, `10_000`, `2 sec`"),
     row("settings.x", MANY, REWRITTEN, "its default number from the section `settings`", "`settings.x` as a value"),
     row("formula", SOME, LOST, "left out", "a value that is worked out, such as `current_player.x` of a timer"),
 )
 SECTIONS_UNSEEN = (
     row("lights; light_player; light_settings; light_rings; light_stripes; leds; led_player; led_settings; led_rings; "
-        "matrix_lights; gis; flashers; flasher_player; named_colors; color_correction; info_lights; neopixels", NEARLY_ALL,
+        "matrix_lights; gis; flashers; flasher_player; named_colors; color_correction; info_lights; neopixels",
+        NEARLY_ALL,
         UNSEEN, "left out", "lights and LEDs: `lights`, `leds`, `light_player`, .."),
     row("shows; show_player; show_pools; show_tokens; show_config; blinkenlights; blinkenlight_player; file_shows",
         NEARLY_ALL, UNSEEN, "left out", "shows: `shows`, `show_player`, `show_pools`"),
     row("slides; slide_player; widgets; widget_player; widget_styles; displays; window; images; image_pools; videos; "
         "video_pools; animations; bitmap_fonts; fonts; text_strings; text_ui; transitions; kivy_config; mc_scriptlets; "
-        "mc_custom_code; dmds; rgb_dmds; rpi_dmd; virtual_segment_displays; display_light_player; slide_pools", NEARLY_ALL,
+        "mc_custom_code; dmds; rgb_dmds; rpi_dmd; virtual_segment_displays; display_light_player; slide_pools",
+        NEARLY_ALL,
         UNSEEN, "left out", "displays: `slides`, `slide_player`, `widgets`, `displays`, `images`, .."),
     row("segment_displays; segment_display_player; light_segment_displays; neoseg_displays; score_queues; "
         "score_queue_player", SOME, UNSEEN, "left out", "segment displays"),
     row("sounds; sound_player; sound_pools; sound_system; sound_loop_player; sound_loop_sets; sound_ducking; tracks; "
         "track_player; playlists; playlist_player; hardware_sound_systems; hardware_sound_player; assets", MANY, UNSEEN,
         "left out", "sounds: `sounds`, `sound_player`, `sound_system`, .."),
-    row("hardware; fast; opp; p_roc; proc; pd_led_boards; pd_leds; pinproc; spike; spike_node; spi_bit_bang; lisy; snux; "
-        "system11; system11_overlay; virtual_pinball; vpe; pkone; pinotaur; smart_virtual; smartmatrix; mma8451; mypinballs; "
-        "open_pixel_control; openpixel; osc; i2c; smbus2; raspberry_pi; rpi; servo_controllers; pololu_maestro; pololu_tic; "
-        "tic_stepper_settings; step_stick; trinamics_steprocker; opp_coils; arduino; light_numbers; psus; dmd; fadecandy; "
+    row("hardware; fast; opp; p_roc; proc; pd_led_boards; pd_leds; pinproc; spike; spike_node; spi_bit_bang; lisy; "
+        "snux; "
+        "system11; system11_overlay; virtual_pinball; vpe; pkone; pinotaur; smart_virtual; smartmatrix; mma8451; "
+        "mypinballs; "
+        "open_pixel_control; openpixel; osc; i2c; smbus2; raspberry_pi; rpi; servo_controllers; pololu_maestro; "
+        "pololu_tic; "
+        "tic_stepper_settings; step_stick; trinamics_steprocker; opp_coils; arduino; light_numbers; psus; dmd; "
+        "fadecandy; "
         "rosc; stern_spike; digital_score_reels; accelerometers; lights_hw; coils_hw", NEARLY_ALL, UNSEEN,
         "left out", "boards: `hardware`, `fast`, `opp`, `p_roc`, .."),
-    row("mpf; mpf-mc; logging; bcp; keyboard; playfields; virtual_platform_start_active_switches; plugins; twitch_client; "
-        "auditor; service; switch_player; mc_config; gmc; vpx; osc_player; info; assets_config; window_config; debugger; "
+    row("mpf; mpf-mc; logging; bcp; keyboard; playfields; virtual_platform_start_active_switches; plugins; "
+        "twitch_client; "
+        "auditor; service; switch_player; mc_config; gmc; vpx; osc_player; info; assets_config; window_config; "
+        "debugger; "
         "mpf_gmc; physical_dmds; physical_rgb_dmds; custom_game; ball_search", NEARLY_ALL, UNSEEN, "left out",
         "other programs and tests: `mpf`, `mpf-mc`, `logging`, `bcp`, `keyboard`, .."),
 )
@@ -108,14 +117,17 @@ SECTIONS_LOST = (
     row("player_vars of a text", FEW, LOST, "left out: a variable is a whole number", "a variable that is a text"),
 )
 REWRITES = (
-    row("a: b|2s", NEARLY_ALL, REWRITTEN, "a timer. A second `a` before the time is up begins it anew; in MPF both come",
+    row("a: b|2s", NEARLY_ALL, REWRITTEN,
+        "a timer. A second `a` before the time is up begins it anew; in MPF both come",
         "`a: b\\|2s`"),
-    row("reset_events: {a: 1s}", SOME, REWRITTEN, "a timer, as above", "`reset_events: {a: 1s}`, `start_events: a\\|1s`"),
+    row("reset_events: {a: 1s}", SOME, REWRITTEN, "a timer, as above",
+        "`reset_events: {a: 1s}`, `start_events: a\\|1s`"),
     row("events_when_activated: a|1s", SOME, REWRITTEN, "a timer, as above", "`events_when_activated: a\\|1s`"),
     row("player_x{value}", MANY, REWRITTEN, "`player_x{current_player.x ..}`", "`player_x{value >= 5}`"),
     row("a{x and y}", MANY, REWRITTEN, "an event leads to another, one comparison at each",
         "conditions with `and`, `or`, `not`"),
-    row("a{current_player.x}", MANY, REWRITTEN, "a comparison with 0", "`a{current_player.x}`, `a{not current_player.x}`"),
+    row("a{current_player.x}", MANY, REWRITTEN, "a comparison with 0",
+        "`a{current_player.x}`, `a{not current_player.x}`"),
     row("a{mode.m.active}", SOME, REWRITTEN, "the entry in the text of that mode", "`a{mode.m.active}: b`"),
     row("other conditions", MANY, LOST, "the entry is left out",
         "other conditions: on counters, on `machine`, on what comes with the event"),
@@ -125,7 +137,8 @@ REWRITES = (
     row("(name)_hit", FEW, LOST, "left out", "names that are worked out, such as `(name)_hit`"),
     row("a.5: b", SOME, WEAKENED, "`a: b`, without the priority", "`a.5: b`"),
     row("lists of events", NEARLY_ALL, REWRITTEN, "a list of names", "all forms of a list of posted events"),
-    row("reserved event", FEW, LOST, "left out: only the game posts it", "`a: ball_ending` and other events of the game"),
+    row("reserved event", FEW, LOST, "left out: only the game posts it",
+        "`a: ball_ending` and other events of the game"),
     row("system events", MANY, LOST, "written, but nothing posts the event",
         "`init_done`, `reset_complete` and others as handled events"),
     row("events of what is left out", MANY, LOST, "written, but nothing posts the event",
@@ -141,7 +154,8 @@ REWRITES = (
         "no time to settle; a slam tilt is a tilt and ends no game", "`settle_time`, `slam_tilt_switch_tag`"),
     row("extra_balls", SOME, REWRITTEN, "a ball save without a time: the same player goes on"),
     row("extra_ball_groups", FEW, REWRITTEN, "a variable says how many are lit"),
-    row("drop_targets", SOME, REWRITTEN, "a shot with the states `up` and `down`: it says what was hit, not what stands"),
+    row("drop_targets", SOME, REWRITTEN,
+        "a shot with the states `up` and `down`: it says what was hit, not what stands"),
     row("drop_target_banks", SOME, REWRITTEN, "a group of these shots"),
     row("diverters", SOME, REWRITTEN, "a mode that holds the coil"),
     row("kickbacks", SOME, REWRITTEN, "an autofire coil that kicks once each time it is enabled"),
@@ -157,7 +171,8 @@ SETTINGS = (
         "`ignore_window_ms` of a switch"),
     row("switches.playfield; switches.power; switches.debounce_open; switches.debounce_close", FEW, UNSEEN, "left out",
         "`playfield`, `debounce_open` of a switch"),
-    row("old names", MANY, REWRITTEN, "the name of version 6", "`pulse_ms`, `hold_power` of a coil, `activation_events`"),
+    row("old names", MANY, REWRITTEN, "the name of version 6",
+        "`pulse_ms`, `hold_power` of a coil, `activation_events`"),
     row("powers in eighths", SOME, REWRITTEN, "a part of full power: the lowest that it can mean",
         "`hold_power: 4`, masks and other old powers"),
     row("lowest power or time", SOME, WEAKENED, "the lower of two, or none",
@@ -171,7 +186,8 @@ SETTINGS = (
         "`max_hold_duration`, `timed_enable`"),
     row("coils.default_recycle; coils.recycle; coils.psu", SOME, WEAKENED,
         "left out: a coil is ready again after twice its pulse", "`default_recycle`"),
-    row("hold not allowed", SOME, LOST, "left out: the coil may not be held", "`enable` of a coil that may not be held"),
+    row("hold not allowed", SOME, LOST, "left out: the coil may not be held",
+        "`enable` of a coil that may not be held"),
     row("flipper of one coil", SOME, WEAKENED, "it is held, and not pulsed first: it may be too weak",
         "a flipper of one coil that may be held"),
     row("coil_player forms", MANY, REWRITTEN, "a pulse, or what the word means",
@@ -186,7 +202,8 @@ SETTINGS = (
         WEAKENED, "left out", "`eos_switch`, `reverse_switch` and others of a flipper or an autofire coil"),
     row("flippers.ball_search; flippers.include_in_ball_search; autofire_coils.ball_search_order; "
         "autofire_coils.include_in_ball_search; ball_devices.ball_search_order; flippers.ball_search_order; "
-        "shots.ball_search_order", SOME, WEAKENED, "left out: there is no ball search", "`ball_search_order` and others"),
+        "shots.ball_search_order", SOME, WEAKENED, "left out: there is no ball search",
+        "`ball_search_order` and others"),
     row("ball_devices.player_controlled_eject_event", MANY, REWRITTEN,
         "the event pulses the coil, with a ball there or not",
         "`player_controlled_eject_event`"),
@@ -200,17 +217,20 @@ SETTINGS = (
         "ball_devices.confirm_eject_switch; ball_devices.confirm_eject_event; ball_devices.ball_capacity; "
         "ball_devices.ball_missing_timeouts; ball_devices.captures_from; ball_devices.hold_events; "
         "ball_devices.hold_coil; ball_devices.hold_coil_release_time; ball_devices.hold_switches; "
-        "ball_devices.entrance_event; ball_devices.entrance_switch_full_timeout; ball_devices.idle_missing_ball_timeout; "
+        "ball_devices.entrance_event; ball_devices.entrance_switch_full_timeout; "
+        "ball_devices.idle_missing_ball_timeout; "
         "ball_devices.request_ball_events; ball_devices.auto_fire_on_unexpected_ball; ball_devices.counter; "
         "ball_devices.ejector; ball_devices.target_on_unexpected_ball", MANY, WEAKENED, "left out",
         "`jam_switch`, `confirm_eject_type` and others of a ball device"),
-    row("ball_devices.eject_all_events; ball_devices.eject_events; ball_devices.stop_events; ball_devices.eject_targets_all",
+    row("ball_devices.eject_all_events; ball_devices.eject_events; ball_devices.stop_events; "
+        "ball_devices.eject_targets_all",
         FEW, LOST, "left out: a device with a coil ejects what comes in", "`eject_all_events` of a ball device"),
     row("ball_saves.grace_period", MANY, REWRITTEN, "added to the `active_time`", "`grace_period` of a ball save"),
     row("ball_saves.timer_start_events", MANY, REWRITTEN,
         "it is enabled then, once for each of its `enable_events`",
         "`timer_start_events` of a ball save"),
-    row("ball_saves.hurry_up_time; ball_saves.only_last_ball; ball_saves.early_ball_save_events; ball_saves.eject_delay; "
+    row("ball_saves.hurry_up_time; ball_saves.only_last_ball; ball_saves.early_ball_save_events; "
+        "ball_saves.eject_delay; "
         "ball_saves.delayed_eject_events; ball_saves.source_playfield; ball_saves.ball_locks; ball_saves.debug_", MANY,
         WEAKENED, "left out", "`hurry_up_time`, `only_last_ball` and others of a ball save"),
     row("multiballs.shoot_again; multiballs.grace_period", MANY, REWRITTEN, "a ball save that the multiball enables",
@@ -220,11 +240,13 @@ SETTINGS = (
     row("multiballs.add_a_ball_events; multiballs.stop_events; multiballs.ball_locks; multiballs.enable_events; "
         "multiballs.disable_events; multiballs.reset_events; multiballs.start_or_add_a_ball_events; "
         "multiballs.replace_balls_in_play; multiballs.source_playfield; multiballs.hurry_up_time; "
-        "multiballs.source_devices", SOME, LOST, "left out", "`add_a_ball_events`, `stop_events` and others of a multiball"),
+        "multiballs.source_devices", SOME, LOST, "left out",
+        "`add_a_ball_events`, `stop_events` and others of a multiball"),
     row("shots.switches", MANY, REWRITTEN, "`hit_events` with the event of each switch", "several switches of a shot"),
     row("shots.start_enabled; counters.start_enabled; accruals.start_enabled; sequences.start_enabled", MANY, REWRITTEN,
         "`enable_events`, with an event that never comes if there is none", "`start_enabled: no`"),
-    row("shots.restart_events; shot_groups.restart_events", FEW, REWRITTEN, "`reset_events`, and `enable_events` if it has any",
+    row("shots.restart_events; shot_groups.restart_events", FEW, REWRITTEN,
+        "`reset_events`, and `enable_events` if it has any",
         "`restart_events` of a shot"),
     row("shots.control_events", SOME, REWRITTEN,
         "`reset_events` or `advance_events`, for the states 0 and 1", "`control_events` of a shot"),
@@ -233,14 +255,17 @@ SETTINGS = (
         "shot_profiles.unlit_profile; mode.events_when_; states.show", NEARLY_ALL, UNSEEN, "left out",
         "`show_tokens`, and `show` of a profile"),
     row("shot_profiles.block; shot_profiles.rotation_pattern; shot_profiles.state_names_to_rotate; "
-        "shot_profiles.state_names_to_not_rotate; shot_groups.state_names_to_rotate; shots.delay_switch; shots.playfield; "
+        "shot_profiles.state_names_to_not_rotate; shot_groups.state_names_to_rotate; shots.delay_switch; "
+        "shots.playfield; "
         "shots.mark_playfield_active; shot_groups.rotation_pattern", SOME, WEAKENED, "left out",
         "`block`, `rotation_pattern`, `delay_switch` and others of shots"),
-    row("shot_groups.enable_events; shot_groups.disable_events; shot_groups.advance_events; shot_groups.hit_events", SOME,
+    row("shot_groups.enable_events; shot_groups.disable_events; shot_groups.advance_events; shot_groups.hit_events",
+        SOME,
         REWRITTEN, "the same at each shot of the group", "`enable_events` and others of a group"),
     row("shot_groups.enable_rotation_events; shot_groups.disable_rotation_events; shot_groups.profile", FEW, WEAKENED,
         "left out: a group can always be rotated", "`enable_rotation_events`"),
-    row("counters.player_variable; accruals.player_variable; sequences.player_variable; counters.player_var", SOME, REWRITTEN,
+    row("counters.player_variable; accruals.player_variable; sequences.player_variable; counters.player_var", SOME,
+        REWRITTEN,
         "a `variable_player` that counts its hits", "`player_variable` of a counter"),
     row("counters.control_events", FEW, LOST, "left out", "`control_events` of a counter"),
     row("timers.control_events.action", FEW, LOST, "the item is left out",
@@ -251,9 +276,10 @@ SETTINGS = (
     row("timers in the machine", FEW, LOST, "left out: only a mode has timers", "`timers` in the text of the machine"),
     row("mode.events_when_started; mode.events_when_stopped", SOME, REWRITTEN, "an `event_player` of the mode",
         "`events_when_started` of a mode"),
-    row("mode.use_wait_queue", SOME, WEAKENED, "left out: only the end of a ball waits",
-        "`use_wait_queue` of a mode with other starts, or that nothing stops"),
-    row("mode.start_priority; mode.stop_priority; mode.restart_on_next_ball; mode.assets; mode.player_controlled", FEW, WEAKENED,
+    row("mode.use_wait_queue", SOME, WEAKENED, "left out: only a ball's end waits",
+        "`use_wait_queue` of a mode that something else starts, or nothing stops"),
+    row("mode.start_priority; mode.stop_priority; mode.restart_on_next_ball; mode.assets; mode.player_controlled", FEW,
+        WEAKENED,
         "left out", "`start_priority` of a mode"),
     row("modes of MPF", NEARLY_ALL, UNSEEN, "not listed if the folder has no text of it",
         "`attract`, `game` and other modes of MPF itself"),
@@ -272,7 +298,8 @@ SETTINGS = (
         "`score: 100\\|block`, `block: true`"),
     row("score * variable", MANY, WEAKENED, "an entry for each value up to 10; a greater one scores as 10",
         "`score: 1000 * current_player.x`"),
-    row("variable_player.other", SOME, LOST, "left out", "variables of the machine, texts and formulas in a `variable_player`"),
+    row("variable_player.other", SOME, LOST, "left out",
+        "variables of the machine, texts and formulas in a `variable_player`"),
 )
 TABLE = (*FILES, *SECTIONS_UNSEEN, *SECTIONS_LOST, *REWRITES, *SETTINGS)
 FEATURES: dict[str, Feature] = {name: it for it in TABLE for name in it.names}

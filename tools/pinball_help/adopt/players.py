@@ -146,7 +146,8 @@ def of_coils(ctx: Context, mode: str, section: Given) -> None:
     for entry in section.inside():
         coils: dict[str, Value] = {}
         given = entry.inside() or [
-            Given(item.text, type(item)(item.line), entry.file, item.line, item.line + 1) for item in entry.node.texts()]
+            Given(item.text, type(item)(item.line), entry.file, item.line, item.line + 1)
+            for item in entry.node.texts()]
         for it in given:
             if not values.NAME.fullmatch(it.key):
                 ctx.lose("bad name", it, f"`{it.key[:60]}`")

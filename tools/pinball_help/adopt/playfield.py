@@ -37,7 +37,8 @@ def rest(ctx: Context, feature: str, entry: Given, *known: str) -> None:
 def switches_of(ctx: Context, entry: Given, suffix: str = "") -> list[str]:
     """The switches of an entry, by their names and by their tags."""
     found = [*entry.names(f"switch{suffix}"), *entry.names(f"switches{suffix}")]
-    for key in (f"tag{suffix}", f"switch_tag{suffix}", f"switch_tags{suffix}", f"tags{suffix}" if suffix else "switch_tag"):
+    for key in (f"tag{suffix}", f"switch_tag{suffix}", f"switch_tags{suffix}",
+                f"tags{suffix}" if suffix else "switch_tag"):
         for tag in entry.names(key):
             found += ctx.tags.get(tag, [])
     return [it for it in dict.fromkeys(found) if it in ctx.switches]
@@ -87,7 +88,8 @@ def banks(ctx: Context) -> None:
             continue
         in_a_bank |= {*names}
         bank(ctx, mode, entry, [ctx.targets[it] for it in names])
-        rest(ctx, "drop_target_banks", entry, "drop_targets", "reset_coil", "reset_coils", "reset_events", "reset_on_complete")
+        rest(ctx, "drop_target_banks", entry, "drop_targets", "reset_coil", "reset_coils", "reset_events",
+             "reset_on_complete")
 
 
 def bank(ctx: Context, mode: str, entry: Given, targets: list[tuple[str, str]]) -> None:
@@ -117,7 +119,8 @@ def of_diverters(ctx: Context, mode: str, section: Given) -> None:
             ctx.lose("diverters", entry, "it has no `activation_coil`")
             continue
         diverter(ctx, mode, entry, coil)
-        rest(ctx, "diverters", entry, "activation_coil", "type", "activation_time", "activate_events", "deactivate_events",
+        rest(ctx, "diverters", entry, "activation_coil", "type", "activation_time", "activate_events",
+             "deactivate_events",
              "enable_events", "disable_events", "activation_switches", "deactivation_switches", "deactivation_coil")
     ctx.log("diverters", section.place)
 
@@ -139,11 +142,13 @@ def diverter(ctx: Context, mode: str, entry: Given, coil: str) -> None:
         pulsed(ctx, entry, name, coil, starts, stops)
         return
     timer = ctx.timer(name)
-    helper = ctx.mode(name, starts, stops + ([f"timer_{timer}_complete"] if delay else []), entry, "a diverter that is active")
+    helper = ctx.mode(name, starts, stops + ([f"timer_{timer}_complete"] if delay else []), entry,
+                      "a diverter that is active")
     ctx.put(helper, "coil_player", f"mode_{helper}_started", {coil: "enable"}, entry, "holds the coil")
     ctx.drive("", f"mode_{helper}_stopped", {coil: "disable"}, entry, "whoever held the coil")
     if delay:
-        ctx.put(helper, "timers", timer, {"end_value": "1", "tick_interval": written(delay), "start_running": "yes"}, entry,
+        ctx.put(helper, "timers", timer, {"end_value": "1", "tick_interval": written(delay), "start_running": "yes"},
+                entry,
                 "activation_time")
 
 
@@ -251,22 +256,26 @@ def combo(ctx: Context, mode: str, entry: Given, ones: list[str], others: list[s
         helper = ctx.mode(f"{name}_{side}", [f"{it}_active" for it in first],
                           stops + ([f"timer_{timer}_complete"] if offset else []), entry, "one of two buttons is held")
         if offset:
-            ctx.put(helper, "timers", timer, {"end_value": "1", "tick_interval": written(offset), "start_running": "yes"},
+            ctx.put(helper, "timers", timer,
+                    {"end_value": "1", "tick_interval": written(offset), "start_running": "yes"},
                     entry, "max_offset_time")
         for switch in second:
             ctx.post(helper, f"{switch}_active", [pressed], entry, "both are held")
     starts = ctx.relay(mode, [pressed], f"{name}_in_mode", entry)
-    both = ctx.mode(f"{name}_both", starts, [f"{it}_inactive" for it in (*ones, *others)], entry, "both buttons are held")
+    both = ctx.mode(f"{name}_both", starts, [f"{it}_inactive" for it in (*ones, *others)], entry,
+                    "both buttons are held")
     posts = names_or(ctx, entry, "events_when_both", f"{entry.key}_both")
     hold = ctx.time(entry.says("hold_time", "0")) or 0
     event = f"mode_{both}_started"
     if hold:
         timer = ctx.timer(f"{name}_hold")
-        ctx.put(both, "timers", timer, {"end_value": "1", "tick_interval": written(hold), "start_running": "yes"}, entry,
+        ctx.put(both, "timers", timer, {"end_value": "1", "tick_interval": written(hold), "start_running": "yes"},
+                entry,
                 "hold_time")
         event = f"timer_{timer}_complete"
     ctx.post(both, event, posts, entry, "events_when_both")
-    ctx.post(both, f"mode_{both}_stopping", names_or(ctx, entry, "events_when_inactive", f"{entry.key}_inactive"), entry,
+    ctx.post(both, f"mode_{both}_stopping", names_or(ctx, entry, "events_when_inactive", f"{entry.key}_inactive"),
+             entry,
              "events_when_inactive")
 
 
@@ -288,16 +297,19 @@ def of_timed(ctx: Context, mode: str, section: Given) -> None:
             ctx.lose("timed_switches", entry, "it needs a switch and a time")
             continue
         if len(switches) > 1:
-            ctx.log("timed_switches", entry.place, "when one of several switches is let go, the time is over", "weakened")
+            ctx.log("timed_switches", entry.place, "when one of several switches is let go, the time is over",
+                    "weakened")
         name = f"timed_{entry.key}"
         timer = ctx.timer(name)
         starts = ctx.relay(mode, [f"{it}_active" for it in switches], f"{name}_begins", entry)
         stops = [f"{it}_inactive" for it in switches]
         helper = ctx.mode(name, starts, stops, entry, "a switch that is held")
-        ctx.put(helper, "timers", timer, {"end_value": "1", "tick_interval": written(delay), "start_running": "yes"}, entry,
+        ctx.put(helper, "timers", timer, {"end_value": "1", "tick_interval": written(delay), "start_running": "yes"},
+                entry,
                 "the time")
         posts = names_or(ctx, entry, "events_when_active", f"{entry.key}_active")
-        held = ctx.mode(f"{name}_held", [f"timer_{timer}_complete"], stops, entry, "a switch that was held for the time")
+        held = ctx.mode(f"{name}_held", [f"timer_{timer}_complete"], stops, entry,
+                        "a switch that was held for the time")
         ctx.post(held, f"mode_{held}_started", posts, entry, "events_when_active")
         ctx.post(held, f"mode_{held}_stopping", names_or(ctx, entry, "events_when_released", f"{entry.key}_released"),
                  entry, "events_when_released")
@@ -330,7 +342,8 @@ def sequence(ctx: Context, mode: str, entry: Given, steps: list[str]) -> None:
     delay = ctx.time(entry.says("sequence_timeout", "0")) or 0
     device: dict[str, Value] = {"disable_on_complete": "no", "events_when_complete": [f"{entry.key}_hit"]}
     if not delay:
-        ctx.put(mode, "sequences", name, {"events": [[it] for it in steps], **device}, entry, "a shot of several switches")
+        ctx.put(mode, "sequences", name, {"events": [[it] for it in steps], **device}, entry,
+                "a shot of several switches")
         return
     timer = ctx.timer(name)
     starts = ctx.relay(mode, steps[:1], f"{name}_begins", entry)

@@ -22,8 +22,10 @@ def report(ctx: Context, folder: str, unposted: list[tuple[str, str]], files: di
     lines = [
         "# What became of the MPF folder",
         "",
-        f"`pinball-help adopt` has made this folder of `{clean(folder)}`. `pinball check` accepts it. That answer is about",
-        "this folder, and not about what MPF runs: this page lists all that differs. Places are lines of the MPF folder.",
+        f"`pinball-help adopt` has made this folder of `{clean(folder)}`. `pinball check` accepts it. That answer is "
+        f"about",
+        "this folder, and not about what MPF runs: this page lists all that differs. Places are lines of the MPF "
+        "folder.",
         "",
         counted(ctx),
     ]

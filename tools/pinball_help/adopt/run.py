@@ -67,8 +67,8 @@ OF_MPF = (
      r"game_ended_.*|service_.*|player_.*_changed|bcp_.*|mc_.*|shutdown|asset_.*|loading_assets|credits_.*|"
      r"not_enough_credits|high_score.*|text_input_.*|ball_search_.*|playfield_.*|collecting_balls.*|"
      r"ball_drain_.*|unexpected_ball.*|balldevice_captured_.*|sys11_.*", "system events"),
-    (r"(multiball_lock|achievement|achievement_group|ball_lock|magnet|show|slide|widget|sound|motor|stepper|servo|credits|"
-     r"queue|digital_output|score_reel)_.*|ball_save_.*_(hurry_up|grace_period|timer_start)|"
+    (r"(multiball_lock|achievement|achievement_group|ball_lock|magnet|show|slide|widget|sound|motor|stepper|servo|"
+     r"credits|queue|digital_output|score_reel)_.*|ball_save_.*_(hurry_up|grace_period|timer_start)|"
      r"multiball_.*_(shoot_again|hurry_up|grace_period|lost_ball|ending)|.*_(hurry_up|grace_period)",
      "events of what is left out"),
 )
@@ -123,7 +123,8 @@ def sums(new: Path) -> dict[str, str]:
     try:
         page = read_bytes(new / report.NAME, MOST_FILE).decode("utf-8", "surrogateescape")
     except OSError as error:
-        raise ValueError(f"{new} is there, and not by adopt: it has no {report.NAME}. Give the name of another folder") from error
+        said = f"{new} is there, and not by adopt: it has no {report.NAME}. Give the name of another folder"
+        raise ValueError(said) from error
     return {name: known for known, name in report.SUMS.findall(page)}
 
 
@@ -136,7 +137,8 @@ def changes(adopted: Adopted, new: Path, known: dict[str, str]) -> list[str]:
         here = read_bytes(new / name, MOST_FILE).decode("utf-8", "surrogateescape")
         wanted = adopted.files.get(name, "")
         if here != wanted and report.sum_of(here) != known.get(name):
-            lines += difflib.unified_diff(here.splitlines(), wanted.splitlines(), f"{name} as it is", f"{name} by adopt",
+            lines += difflib.unified_diff(here.splitlines(), wanted.splitlines(), f"{name} as it is",
+                                          f"{name} by adopt",
                                           lineterm="")
     return lines
 
@@ -144,11 +146,13 @@ def changes(adopted: Adopted, new: Path, known: dict[str, str]) -> list[str]:
 def shown(adopted: Adopted, new: Path) -> list[str]:
     """What is said after the folder is written."""
     done = adopted.context.done
-    counts = {effect: len({it.place for it in done if it.effect == effect}) for effect in (REWRITTEN, WEAKENED, LOST, UNSEEN)}
+    counts = {effect: len({it.place for it in done if it.effect == effect})
+              for effect in (REWRITTEN, WEAKENED, LOST, UNSEEN)}
     name = clean(str(new))
     return [
         f"{name}: pinball check answers yes, about this folder and not about what MPF runs.",
-        f"{counts[REWRITTEN]} places are rewritten. {counts[WEAKENED]} rules are weakened, and {counts[LOST]} places are lost. "
+        f"{counts[REWRITTEN]} places are rewritten. {counts[WEAKENED]} rules are weakened, and {counts[LOST]} places "
+        f"are lost. "
         f"{counts[UNSEEN]} are for the eyes and ears alone.",
         f"Read {name}/{report.NAME}: it lists all of them, by feature.",
     ]

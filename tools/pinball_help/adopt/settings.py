@@ -176,7 +176,8 @@ def overwrite(ctx: Context, _mode: str, entry: Given, given: Given, _out: Out) -
     coil = entry.says({"hold_coil_overwrite": "hold_coil", "coil_overwrite": "coil"}.get(given.key, "main_coil"))
     for it in given.inside():
         ctx.lowered.append((coil, it.key, it.text, it))
-    ctx.log(f"flippers.{given.key}" if f"flippers.{given.key}" in FEATURES else f"autofire_coils.{given.key}", given.place)
+    ctx.log(f"flippers.{given.key}" if f"flippers.{given.key}" in FEATURES else f"autofire_coils.{given.key}",
+            given.place)
 
 
 def lower_coils(ctx: Context) -> None:
@@ -287,7 +288,8 @@ def add_more(ctx: Context) -> None:
 
 def player_variable(ctx: Context, mode: str, entry: Given, given: Given, out: Out) -> None:
     hits = entry.names("events_when_hit") or [f"logicblock_{entry.key}_hit"]
-    step = (ctx.number(entry.says("count_interval", "1")) or 1) * (-1 if entry.says("direction").lower() == "down" else 1)
+    step = (ctx.number(entry.says("count_interval", "1")) or 1) * (-1
+                                                                   if entry.says("direction").lower() == "down" else 1)
     if not values.NAME.fullmatch(f"player_{given.text}"):
         ctx.lose("bad name", given)
         return
@@ -339,7 +341,8 @@ OWN: dict[tuple[str, str], Callable] = {
         ("hold_power32", "default_hold_power"), ("hold_pwm_mask", "default_hold_power"))},
     **{("coils", f"{it}_events"): coil_events(it) for it in ("pulse", "enable", "disable")},
     **{(it, "start_enabled"): start_enabled for it in ("shots", "counters", "accruals", "sequences")},
-    **{("shot_groups", it): group_events(it) for it in ("enable_events", "disable_events", "advance_events", "hit_events")},
+    **{("shot_groups", it): group_events(it) for it in ("enable_events", "disable_events", "advance_events",
+                                                        "hit_events")},
 }
 
 

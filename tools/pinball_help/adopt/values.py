@@ -137,7 +137,8 @@ def events(ctx: Context, mode: str, section: str, _kind: Call, _entry: Given, gi
         try:
             found += ctx.handled(owner, text, given)
         except NotSaid as why:
-            ctx.lose("(name)_hit" if "(" in text.partition("{")[0] else "other conditions", given, f"`{text[:60]}`: {why}")
+            ctx.lose("(name)_hit" if "(" in text.partition("{")[0] else "other conditions", given,
+                     f"`{text[:60]}`: {why}")
             continue
         name, condition, wait = parts_of(text)
         if wait:

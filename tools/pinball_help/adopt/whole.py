@@ -137,7 +137,8 @@ def listed(ctx: Context) -> None:
         seen.add(name)
     for asked, found in ctx.source.case:
         part = next((it for it in ctx.source.parts if asked.startswith(f"modes/{it.mode}")), ctx.source.parts[0])
-        ctx.log("letter case", Given("", part.files[0].root, part.files[0], 0, 1).place, f"`{asked[:80]}` is `{found[:80]}`")
+        ctx.log("letter case", Given("", part.files[0].root, part.files[0], 0, 1).place,
+                f"`{asked[:80]}` is `{found[:80]}`")
 
 
 # section by section
@@ -228,7 +229,8 @@ def of_player_vars(ctx: Context, mode: str, section: Given) -> None:
         elif not values.NAME.fullmatch(f"player_{entry.key}"):
             ctx.lose("bad name", entry)
         elif number:
-            ctx.change("", "ball_will_start{current_player.ball == 1}", {entry.key: {"int": str(number), "action": "set"}},
+            ctx.change("", "ball_will_start{current_player.ball == 1}",
+                       {entry.key: {"int": str(number), "action": "set"}},
                        entry, "the first value of a player's variable")
 
 
