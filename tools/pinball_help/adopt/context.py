@@ -3,7 +3,7 @@ import re
 from dataclasses import dataclass, field
 
 from ..schema import NAME
-from ..values import milliseconds
+from ..values import is_event, milliseconds
 from .draft import Draft, NoRoom, Taken, Value, Written, shortened
 from .expressions import Comparison, InMode, Known, NotSaid, Way, number, ways_of
 from .features import EFFECTS, FEATURES, REWRITTEN
@@ -95,6 +95,10 @@ class Context:
 
     def post(self, mode: str, event: str, names: list[str], given: Given, says: str = "",
              comments: bool = False) -> None:
+        wrong = [it for it in names if not re.fullmatch(NAME, it, re.ASCII)]
+        if wrong or not is_event(event):
+            self.lose("bad name", given, f"`{(wrong or [event])[0][:80]}` is no name, or too long")
+            return
         self.put(mode, "event_player", event, list(names), given, says, comments)
 
     def change(self, mode: str, event: str, changes: dict[str, Value], given: Given, says: str = "",
@@ -108,6 +112,9 @@ class Context:
     def player(self, mode: str, section: str, event: str, value: dict[str, Value], given: Given, says: str,
                comments: bool) -> None:
         """Adds to a player; what does not go with the entry that is there gets an event of its own."""
+        if not is_event(event):
+            self.lose("bad name", given, f"`{event[:80]}` is no name, or too long")
+            return
         try:
             self.put(mode, section, event, dict(value), given, says, comments)
         except Taken:

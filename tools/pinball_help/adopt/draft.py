@@ -10,6 +10,7 @@ from ..texts import MACHINE, VERSION, mode_text
 from .source import Place
 
 Value = str | list | dict
+NAME = re.compile(r"[A-Za-z0-9_.-]{1,64}")
 LONGEST_NAME = 64
 WIDTH = 100
 # what a plain scalar may be without quotes, in a block
@@ -54,14 +55,19 @@ class Draft:
     texts: dict[str, Sections] = field(default_factory=lambda: {"": {}})
     modes: list[str] = field(default_factory=list)
     heads: dict[str, list[str]] = field(default_factory=dict)  # the comment at the front of a text
+    known: set[tuple[str, str]] = field(default_factory=set)  # the entries of all texts: section and name
 
     def section(self, mode: str, name: str) -> dict[str, Written]:
         return self.texts.setdefault(mode, {}).setdefault(name, {})
 
     def put(self, mode: str, section: str, key: str, written: Written) -> None:
         """Adds an entry. Raises Taken if there is one of its name, here or in another text."""
-        if section in self.everywhere(key, mode) and section not in PLAYERS + SINGLE:
-            raise Taken(f"`{section}` has a `{key}` already")
+        if section not in PLAYERS + SINGLE:
+            if not NAME.fullmatch(key):
+                raise Taken(f"`{key[:80]}` is no name, or too long")
+            if (section, key) in self.known:
+                raise Taken(f"`{section}` has a `{key}` already")
+            self.known.add((section, key))
         inside = self.section(mode, section)
         if key not in inside:
             inside[key] = written
@@ -69,10 +75,6 @@ class Draft:
         if section not in PLAYERS:
             raise Taken(f"`{section}` has a `{key}` already")
         joined(inside[key], written)
-
-    def everywhere(self, key: str, _mode: str) -> set[str]:
-        """The sections that have an entry of a name, in any text."""
-        return {name for sections in self.texts.values() for name, inside in sections.items() if key in inside}
 
     def helper(self, name: str, settings: dict[str, Value], written: Written) -> str:
         """A mode of its own, with the sections of its entries still to come. Raises NoRoom if there are too many."""

@@ -134,6 +134,7 @@ def events(ctx: Context, mode: str, section: str, _kind: Call, _entry: Given, gi
     owner = "" if section == "mode" else mode
     found: list[str] = []
     for text in items_of(given)[:MOST_ITEMS]:
+        before = len(found)
         try:
             found += ctx.handled(owner, text, given)
         except NotSaid as why:
@@ -143,7 +144,9 @@ def events(ctx: Context, mode: str, section: str, _kind: Call, _entry: Given, gi
         name, condition, wait = parts_of(text)
         if wait:
             ctx.log("reset_events: {a: 1s}", given.place)
-        if condition:
+        if condition and len(found) == before:
+            ctx.lose("other conditions", given, f"`{text[:60]}` never holds")
+        elif condition:
             said(ctx, given, condition, found[-1:])
     return list(dict.fromkeys(found))
 
