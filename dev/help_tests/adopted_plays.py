@@ -200,6 +200,8 @@ COILS = (
          features=("coil_player forms",)),
     Play("a longer pulse than the coil bears", GAME + "coil_player:\n  s_a_active: {c_a: {pulse_ms: 90}}\n",
          press("s_a", 1000), ("1000 coil c_a pulse 20 1000",), features=("lowest power or time",)),
+    Play("a pulse that is shorter than any", GAME + "coil_player:\n  s_a_active: {c_a: {pulse_ms: 0.5ms}}\n",
+         press("s_a", 1000), ("1000 coil c_a pulse 1 1000",), features=("lowest power or time",)),
     Play("powers in eighths", GAME.replace("default_hold_power: 0.25",
                                            "hold_power: 2") + "coil_player:\n  s_a_active: {c_hold: enable}\n",
          press("s_a", 1000), ("1000 coil c_hold enable 250",), features=("powers in eighths", "old names")),

@@ -7,7 +7,7 @@ from ..machine_graph import graph_of
 from ..outline import Entry
 from ..program import NoAnswer, Program
 from ..scenery import Scenery, section_of
-from ..texts import Line, mode_text
+from ..texts import Line
 from .context import Context
 from .draft import SINGLE, Written
 from .source import Place
@@ -192,6 +192,3 @@ def drop_last(ctx: Context, why: str, share: int) -> None:
         key = list(sections[name])[-1]
         written = sections[name].pop(key)
         say(ctx, written, "", Complaint(why, "", "refused", key=key))
-
-
-__all__ = ["accept", "mode_text"]

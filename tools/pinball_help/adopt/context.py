@@ -3,11 +3,11 @@ import re
 from dataclasses import dataclass, field
 
 from ..schema import NAME
-from ..values import is_event, milliseconds
-from .draft import Draft, NoRoom, Taken, Value, Written, shortened
+from ..values import is_event
+from .draft import Draft, Taken, Value, Written, shortened
 from .expressions import Comparison, InMode, Known, NotSaid, Way, number, ways_of
 from .features import EFFECTS, FEATURES, REWRITTEN
-from .source import Given, Part, Place, Source
+from .source import Given, Place, Source
 
 GREATEST_TIME = (1 << 32) - 1
 TIMES = re.compile(r"(\d{1,10}(?:\.\d{1,6})?)\s*"
@@ -193,6 +193,13 @@ class Context:
         value = self.number(text)
         return value if value is not None and 0 <= value <= GREATEST_TIME else None
 
+    def pulse(self, text: str) -> int | None:
+        """Milliseconds of a pulse. One that is shorter than any here is the shortest."""
+        if (found := TIMES.fullmatch(text.strip().lower())) and found[2].startswith("ms") and float(found[1]) < 1:
+            return 1
+        value = self.time(text)
+        return value if value is None else 1 if value == 0 else value if value <= 5_000 else None
+
     def ways(self, event: str, condition: str) -> list[Way]:
         return ways_of(condition, self.known(event))
 
@@ -274,6 +281,3 @@ def parts_of(text: str) -> tuple[str, str, str]:
         head = head.rstrip() + tail
     name, _, wait = head.partition("|")
     return name.strip(), condition.strip(), wait.strip()
-
-
-__all__ = ["Context", "Done", "NoRoom", "NotSaid", "Part", "Taken", "milliseconds", "parts_of"]

@@ -4,13 +4,12 @@ import re
 from .. import powers
 from ..values import milliseconds, thousandths
 from . import values
-from .context import Context, parts_of, with_condition
+from .context import Context, parts_of
 from .draft import Value
-from .expressions import Comparison, InMode, NotSaid, Way, product
+from .expressions import InMode, NotSaid, Way, product
 from .source import Given
 
 MOST_FACTOR = 10
-SCORES_NOTHING = 0
 ENABLES, DISABLES, PULSES = ("enable", "on", "yes", "true"), ("disable", "off", "no", "false"), ("pulse", "single")
 
 
@@ -32,8 +31,7 @@ def heads(ctx: Context, mode: str, entry: Given, condition: str = "") -> list[tu
         return []
     if both:
         values.said(ctx, entry, both, [it for it, _ in found])
-    ticks = not found and both
-    if ticks:
+    if both and not found:
         ctx.lose("other conditions", entry, f"`{both[:60]}` never holds")
     return found
 
@@ -191,10 +189,12 @@ def with_settings(ctx: Context, given: Given, what: str) -> Value:
         if it.key == "action":
             ctx.keep(it)
         elif it.key == "pulse_ms":
-            value = ctx.time(it.text)
-            if value is None or not 1 <= value <= 5_000:
-                ctx.lose("lowest power or time", it, "the coil's own pulse")
+            value = ctx.pulse(it.text)
+            if value is None:
+                ctx.lose("lowest power or time", it, f"`{it.text[:40]}`: the coil's own pulse")
                 continue
+            if value != ctx.time(it.text):
+                ctx.log("lowest power or time", it.place, f"`{it.text[:40]}` is 1ms, the shortest pulse")
             found[it.key] = f"{value}ms"
             ctx.keep(it)
         elif powers.is_power(it.key) and it.key in ("pulse_power", "hold_power"):
@@ -331,6 +331,3 @@ def in_turn(ctx: Context, mode: str, entry: Given, found: list[str], names: list
     ctx.put(mode, "shots", pick, {"hit_events": found, "profile": pick}, entry, "the events come in turn")
     for state, name in zip(states, names):
         ctx.post(mode, f"{pick}_{state}_hit", [name], entry, "the events come in turn")
-
-
-__all__ = ["Comparison", "of_coils", "of_events", "of_random", "of_variables", "with_condition", "within_limits"]

@@ -1,11 +1,10 @@
 """What MPF has devices for on the playfield and the cabinet, and is said here by shots, modes, timers and coils."""
-import re
-
 from . import values
 from .context import Context
 from .delays import after, written
 from .draft import Value
 from .expressions import NotSaid
+from .features import FEATURES
 from .source import Given
 
 NO_CALL = values.Call("")
@@ -23,8 +22,6 @@ def events_of(ctx: Context, mode: str, entry: Given, *keys: str) -> list[str]:
 
 def rest(ctx: Context, feature: str, entry: Given, *known: str) -> None:
     """Says what settings of an entry are left out, and that the entry is rewritten."""
-    from .features import FEATURES
-
     ctx.log(feature, entry.place)
     other_tools = ("label", "debug", "tags", "console_log", "file_log", "number", "x", "y", "z", "show_tokens")
     for it in entry.inside():
@@ -389,13 +386,10 @@ def transition(ctx: Context, mode: str, entry: Given, move: Given, at: int, numb
             except NotSaid as why:
                 ctx.lose("state_machines", move, str(why))
     ctx.change(mode, name, {entry.key: {"int": str(numbers[target]), "action": "set"}}, move, f"to {target}")
-    posts = [*move.names("events_when_transitioning"), *(states[it] for it in sources[:1] if False)]
-    posts += states[target].names("events_when_started")
+    posts = [*move.names("events_when_transitioning"), *states[target].names("events_when_started")]
     if len(sources) == 1:
         posts = [*states[sources[0]].names("events_when_stopped"), *posts]
-    posts = [it for it in posts if values.NAME.fullmatch(str(it)) and values.may_be_posted(ctx, str(it))]
+    posts = [it for it in posts if values.NAME.fullmatch(it) and values.may_be_posted(ctx, it)]
     if posts:
-        ctx.post(mode, name, [str(it) for it in posts], move, f"to {target}")
+        ctx.post(mode, name, posts, move, f"to {target}")
 
-
-__all__ = ["re"]

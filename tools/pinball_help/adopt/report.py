@@ -5,7 +5,7 @@ import textwrap
 
 from .context import Context, Done
 from .draft import clean
-from .features import FEATURES, LOST, REWRITTEN, TABLE, UNSEEN, WEAKENED, WRITTEN, Feature
+from .features import FEATURES, LOST, REWRITTEN, TABLE, UNSEEN, WEAKENED, Feature
 
 NAME = "ADOPTED.md"
 HEADS = (
@@ -90,6 +90,3 @@ def table() -> list[str]:
 
 def row(feature: Feature) -> str:
     return f"| {feature.title} | {feature.common} | {feature.effect} | {feature.here} |"
-
-
-assert WRITTEN

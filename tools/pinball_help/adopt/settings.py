@@ -1,8 +1,7 @@
 """The sections that the profile has: their entries and settings, and the settings of MPF that are rewritten."""
-import re
 from typing import Callable
 
-from .. import powers, profile, tables
+from .. import powers, tables
 from ..values import milliseconds, thousandths
 from . import values
 from .context import Context
@@ -376,5 +375,3 @@ def own_modes(ctx: Context, mode: str, entry: Given, out: Out) -> None:
 
 
 AFTER: dict[str, tuple[Callable, ...]] = {"coils": (pulse_default, lowest), "mode": (own_modes, waits)}
-assert profile.PLAYERS
-__all__ = ["add_more", "lower_coils", "of_section", "re", "settings_of"]

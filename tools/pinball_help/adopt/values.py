@@ -43,6 +43,9 @@ def of_text(ctx: Context, section: str, kind: Call, given: Given, text: str) -> 
             ctx.log("powers in eighths", given.place, f"`{text[:40]}` is `{right}`")
         return right
     value = SCALARS[name](ctx, kind, given, text)
+    if value is None and section == "coils" and name == "Time" and ctx.pulse(text):
+        ctx.log("lowest power or time", given.place, f"`{text[:40]}` is 1ms, the shortest pulse")
+        return "1ms"
     if value is None and section == "coils":
         ctx.lose("lowest power or time", given, "left out: nobody can know what was meant")
     elif value is None and re.search(r"current_player|settings\.|machine\.|[*]", text):

@@ -3,7 +3,6 @@ from pathlib import Path
 from typing import Callable
 
 from .. import profile, tables
-from ..machine_graph import GAME
 from . import balls, players, playfield, settings, values
 from .context import Context
 from .draft import NoRoom, Taken, sections
@@ -308,6 +307,3 @@ def game(ctx: Context) -> None:
         sections["game"] = {}
         file = ctx.source.parts[0].files[0]
         ctx.log("no game", Given("", file.root, file, 0, 1).place)
-
-
-assert GAME
