@@ -173,6 +173,8 @@ LISTS = (
          logged(press("s_a", 1000)), ("1000 event a1", "1000 event a2", "1000 event a3"), features=("lax YAML",)),
     Play("an anchor", GAME + "event_player:\n  s_a_active: &both a1, a2\n  s_b_active: *both\n",
          logged(press("s_b", 1000)), ("1000 event a1", "1000 event a2"), features=("lax YAML",)),
+    Play("events that lead to each other", GAME + "event_player:\n  s_a_active: x1\n  x1: x2\n  x2: x1, x3\n",
+         press("s_a", 1000), ("1000 event x1",), features=("refused",)),
     Play("events of tags", GAME + "event_player:\n  sw_lane_active: lane\n  sw_lane_inactive: left\n",
          logged(press("s_b", 1000)), ("1000 event lane", "1020 event left"), features=("sw_TAG_active",)),
     Play("a score of an older version", GAME + "scoring:\n  s_a_active: {score: 1_000}\n",

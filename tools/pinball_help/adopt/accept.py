@@ -13,6 +13,8 @@ from .draft import SINGLE, Written
 from .source import Place
 
 ROUNDS = 80
+FEW_CYCLES = 4  # that are broken one by one
+MUCH = 64  # entries that are taken out at once, if all else takes too long
 LISTS = ("shots", "ball_switches")  # settings that lose one name
 INNER = ("coil_player", "variable_player")
 FEATURE_OF = {
@@ -28,10 +30,10 @@ SAID = {
 
 def accept(ctx: Context, program: Program, within: float) -> Answer:
     """The answer for the new machine, which is yes: what is refused is left out."""
-    end = time.monotonic() + within
+    end = time.process_time() + within
     share = 1
     for count in range(ROUNDS):
-        if time.monotonic() > end or count > ROUNDS // 2:
+        if time.process_time() > end or count > ROUNDS // 2:
             share *= 2
         texts = ctx.draft.files()
         answer = answer_of(program, texts)
@@ -39,8 +41,8 @@ def accept(ctx: Context, program: Program, within: float) -> Answer:
             return answer
         scene = Scenery({name: [Line(at, it) for at, it in enumerate(lines, 1)] for name, lines in texts.items()})
         complaints = answer.complaints if answer else ()
-        dropped = [drop(ctx, scene, it) for it in complaints]
-        if not any(dropped):
+        dropped = [drop(ctx, scene, it, count > FEW_CYCLES) for it in complaints]
+        if not any(dropped) or share > MUCH:
             drop_last(ctx, "the program has no answer for it" if answer is None else complaints[0].said, share)
     ctx.draft.texts, ctx.draft.modes = {"": {}}, []
     ctx.log("refused", Place(ctx.source.files[0].name, 1, len(ctx.source.files[0].lines)), "the whole machine", "lost")
@@ -56,10 +58,10 @@ def answer_of(program: Program, texts: dict[str, list[str]]) -> Answer | None:
         raise
 
 
-def drop(ctx: Context, scene: Scenery, complaint: Complaint) -> bool:
+def drop(ctx: Context, scene: Scenery, complaint: Complaint, all_cycles: bool) -> bool:
     """Leaves out what a complaint is about. Says whether it has."""
     if complaint.name == "Cycle":
-        return drop_step(ctx, scene, complaint)
+        return drop_cycles(ctx, scene, complaint, all_cycles)
     if complaint.name == "Limit" and not complaint.line:
         return drop_some(ctx, complaint)
     if not complaint.line:
@@ -139,11 +141,47 @@ def drop_section(ctx: Context, mode: str, section: str, complaint: Complaint) ->
     return found is not None
 
 
-def drop_step(ctx: Context, scene: Scenery, complaint: Complaint) -> bool:
-    """Breaks a cycle of events at the step that takes least out."""
-    graph: Graph = graph_of(scene)
+def steps_back(graph: Graph) -> list[tuple[str, str]]:
+    """Steps from an event to one that leads to it: without them no cycle is left."""
+    after: dict[str, list[str]] = {}
+    for it in graph.posts:
+        after.setdefault(it.event, []).append(it.posts)
+    found, done, on_the_way = [], set[str](), set[str]()
+    for first in after:
+        waiting = [] if first in done else [(first, iter(after[first]))]
+        on_the_way |= {first} if waiting else set()
+        while waiting:
+            event, rest = waiting[-1]
+            following = next(rest, None)
+            if following is None:
+                waiting.pop()
+                on_the_way.discard(event)
+                done.add(event)
+            elif following in on_the_way:
+                found.append((event, following))
+            elif following not in done:
+                on_the_way.add(following)
+                waiting.append((following, iter(after.get(following, ()))))
+    return found
+
+
+def drop_cycles(ctx: Context, scene: Scenery, complaint: Complaint, all_of_them: bool) -> bool:
+    """Breaks the cycle of a complaint, or all that there are."""
+    graph = graph_of(scene)
+    steps: dict[tuple[str, str], list[Post]] = {}
+    for it in graph.posts:
+        if it.entry is not None:
+            steps.setdefault((it.event, it.posts), []).append(it)
     ring = list(zip(complaint.words, [*complaint.words[1:], complaint.words[0]]))
-    steps = [(it, posted) for event, posted in ring for it in graph.steps(event, posted) if it.entry is not None]
+    dropped = drop_step(ctx, scene, complaint, [(it, posted) for event, posted in ring
+                                                for it in steps.get((event, posted), ())])
+    for event, posted in steps_back(graph) if all_of_them else ():
+        dropped |= drop_step(ctx, scene, complaint, [(it, posted) for it in steps.get((event, posted), ())])
+    return dropped
+
+
+def drop_step(ctx: Context, scene: Scenery, complaint: Complaint, steps: list[tuple[Post, str]]) -> bool:
+    """Takes out the step of a cycle that takes least with it."""
     order = ("event_player", "variable_player", "multiballs", "ball_saves", "counters", "accruals", "sequences",
              "shots")
 
@@ -163,22 +201,23 @@ def drop_step(ctx: Context, scene: Scenery, complaint: Complaint) -> bool:
     return False
 
 
-TABLES = {"events": "event_player", "bindings": "event_player", "switches": "switches", "coils": "coils",
-          "variables": "variable_player", "rows": "counters"}
+DEVICES = ("counters", "accruals", "sequences", "timers", "shots", "shot_groups", "ball_saves", "multiballs",
+           "ball_devices", "flippers", "autofire_coils")
+TABLES = {"switches": ("switches",), "coils": ("coils",), "variables": ("variable_player", "event_player"),
+          "rows": DEVICES,
+          "events": ("event_player", *DEVICES, "switches"),
+          "bindings": ("event_player", "coil_player", "variable_player")}
 
 
 def drop_some(ctx: Context, complaint: Complaint) -> bool:
-    """Takes the last entries out of what there is too much of."""
-    wanted = TABLES.get(complaint.words[0] if complaint.words else "", "")
-    for mode in reversed(list(ctx.draft.texts)):
-        inside = ctx.draft.texts[mode].get(wanted)
-        for key in list(inside or {})[-max(1, len(inside or {}) // 4) :]:
-            assert inside
-            say(ctx, inside[key], "", complaint)
-            del inside[key]
-        if inside is not None and inside:
-            return True
-    return False
+    """Takes the last half out of the section that has most of what there is too much of."""
+    wanted = TABLES.get(complaint.words[0] if complaint.words else "", ())
+    sections = [inside for of_mode in ctx.draft.texts.values() for name, inside in of_mode.items() if name in wanted]
+    most = max(sections, key=len, default={})
+    for key in list(most)[len(most) // 2 :]:
+        say(ctx, most[key], "", complaint)
+        del most[key]
+    return bool(sections)
 
 
 def drop_last(ctx: Context, why: str, share: int) -> None:

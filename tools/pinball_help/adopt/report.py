@@ -47,7 +47,8 @@ def sum_of(text: str) -> str:
 
 def counted(ctx: Context) -> str:
     counts = {effect: len({it.place for it in ctx.done if it.effect == effect}) for effect, _, _ in HEADS}
-    return ", ".join(f"{effect}: {count} places" for effect, count in counts.items()) + "."
+    kept = f"kept as they are: {len(ctx.kept)} lines, "
+    return kept + ", ".join(f"{effect}: {count} places" for effect, count in counts.items()) + "."
 
 
 def by_feature(some: list[Done]) -> list[str]:
