@@ -38,6 +38,7 @@ class Context:
     source: Source
     draft: Draft = field(default_factory=Draft)
     done: list[Done] = field(default_factory=list)
+    seen: set[Done] = field(default_factory=set)
     kept: set[tuple[str, int]] = field(default_factory=set)
     settings: dict[str, int] = field(default_factory=dict)  # numbers by default of the section `settings`
     tags: dict[str, list[str]] = field(default_factory=dict)  # the switches of each tag
@@ -71,7 +72,8 @@ class Context:
         effect = effect or row.effect
         assert effect in EFFECTS, effect
         one = Done(feature, place, effect, says)
-        if one not in self.done:
+        if one not in self.seen:
+            self.seen.add(one)
             self.done.append(one)
 
     def lose(self, feature: str, given: Given, says: str = "", effect: str = "") -> None:

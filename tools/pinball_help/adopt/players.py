@@ -2,6 +2,7 @@
 import re
 
 from .. import powers
+from ..outline import Node
 from ..values import milliseconds, thousandths
 from . import values
 from .context import Context, parts_of
@@ -143,9 +144,7 @@ def ticks(ctx: Context, mode: str, entry: Given) -> str:
 def of_coils(ctx: Context, mode: str, section: Given) -> None:
     for entry in section.inside():
         coils: dict[str, Value] = {}
-        given = entry.inside() or [
-            Given(item.text, type(item)(item.line), entry.file, item.line, item.line + 1)
-            for item in entry.node.texts()]
+        given = coils_of(entry)
         for it in given:
             if not values.NAME.fullmatch(it.key):
                 ctx.lose("bad name", it, f"`{it.key[:60]}`")
@@ -156,6 +155,16 @@ def of_coils(ctx: Context, mode: str, section: Given) -> None:
             says = f"{entry.key} in MPF" if differs(head, entry.key) else ""
             ctx.drive(where, head, coils, entry, says, comments=True)
             ctx.keep(entry)
+
+
+def coils_of(entry: Given) -> list[Given]:
+    """The coils of an entry, in any form: a mapping, a list of mappings or of names, or a text."""
+    found = entry.inside()
+    for item in entry.node.items or []:
+        found += Given("", item, entry.file, item.line, item.line).inside()
+    for item in entry.node.texts():
+        found.append(Given(item.text, Node(item.line), entry.file, item.line, item.line + 1))
+    return found
 
 
 def of_coil(ctx: Context, given: Given, entry: Given) -> Value | None:

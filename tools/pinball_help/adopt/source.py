@@ -11,6 +11,7 @@ from .laxer import laxer
 
 MOST_FILES = 300
 MOST_COMMENTS = 40  # lines of a comment above an entry
+MOST_OF_ANCHOR, MOST_OF_ALIASES = 200, 20_000  # values in what an alias stands for, and in all that aliases stand for
 
 
 @dataclass(frozen=True, slots=True)
@@ -145,7 +146,7 @@ class Reader:
                 names = section.words() or [it.key for it in section.inside()]
                 self.source.modes += [(it.removeprefix("-"), section) for it in names]
         for name in dict.fromkeys(it for it, _ in self.source.modes):
-            if not re.fullmatch(r"[\w.-]+", name, re.ASCII) or name.startswith("."):
+            if not re.fullmatch(r"[\w.-]{1,64}", name, re.ASCII) or name.startswith("."):
                 continue
             if path := self.find(("modes", name, "config", f"{name}.yaml")):
                 part = Part(name, [])
@@ -194,8 +195,8 @@ class Reader:
             if ".." in steps or name.startswith("/") or "\0" in name:
                 self.source.missing.append((name, config))
                 continue
-            found = self.find((*here, *steps))
             try:
+                found = self.find((*here, *steps))
                 if found is None:
                     raise FileNotFoundError(name)
                 self.take(part, found)
@@ -257,8 +258,15 @@ def with_aliases(root: Node, anchors: dict[int, str]) -> None:
         return
     entries = list(outline.entries(root))
     values = {anchors[it.line]: it.value for it in entries if it.line in anchors}
-    plain = {name: it for name, it in values.items() if not has_alias(it)}
+    sizes = {name: size_of(it) for name, it in values.items()}
+    plain = {name: it for name, it in values.items() if 0 < sizes[name] <= MOST_OF_ANCHOR}
+    room = MOST_OF_ALIASES
     for entry in entries:
+        texts = [entry.value.text, *(it.text for it in entry.value.items or []), *(
+            it.value.text for it in entry.value.entries or [] if it.key == "<<")]
+        room -= sum(sizes.get(it[1:], 0) for it in texts if it[:1] == "*")
+        if room < 0:
+            return
         if entry.value.text[:1] == "*" and entry.value.text[1:] in plain:
             entry.value = plain[entry.value.text[1:]]
         merge(entry.value, plain)
@@ -283,11 +291,13 @@ def merge(node: Node, anchors: dict[str, Node]) -> None:
     node.entries = merged
 
 
-def has_alias(node: Node) -> bool:
-    waiting = [node]
+def size_of(node: Node) -> int:
+    """How many values a value has in it; 0 if one of them is an alias."""
+    waiting, size = [node], 0
     while waiting:
         one = waiting.pop()
+        size += 1
         if one.text[:1] == "*" or any(it.key == "<<" for it in one.entries or []):
-            return True
+            return 0
         waiting += [it.value for it in one.entries or []] + (one.items or [])
-    return False
+    return size
