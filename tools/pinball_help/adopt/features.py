@@ -277,7 +277,7 @@ SETTINGS = (
     row("mode.events_when_started; mode.events_when_stopped", SOME, REWRITTEN, "an `event_player` of the mode",
         "`events_when_started` of a mode"),
     row("mode.use_wait_queue", SOME, WEAKENED, "left out: only a ball's end waits",
-        "`use_wait_queue`, if not for the end of a ball, or if nothing stops"),
+        "`use_wait_queue` with other starts, or without a stop"),
     row("mode.start_priority; mode.stop_priority; mode.restart_on_next_ball; mode.assets; mode.player_controlled", FEW,
         WEAKENED,
         "left out", "`start_priority` of a mode"),
