@@ -9,6 +9,7 @@ from dataclasses import asdict, replace
 from pathlib import Path
 
 from . import errors, hints, lines, picture, program, schema, short, trace, unused
+from .adopt import command as adopt
 from .answers import Answer, answer_of, complaint_of
 from .findings import Finding, as_json, cure_of, finding_of, shown
 from .printed import clean
@@ -199,6 +200,10 @@ def write_schema(asked: argparse.Namespace) -> int:
     return 0
 
 
+def write_adopted(asked: argparse.Namespace) -> int:
+    return adopt.write(asked, find)
+
+
 def find(asked: argparse.Namespace) -> Program:
     tool = program.find(asked.program)
     program.report(tool)
@@ -272,6 +277,9 @@ def add_views(commands: "argparse._SubParsersAction[argparse.ArgumentParser]") -
     one.add_argument("-o", "--output", default="-", metavar="FILE", help="where the page goes; else standard output")
     with_program(one)
     one.set_defaults(run=write_picture)
+    one = adopt.add(commands)
+    with_program(one)
+    one.set_defaults(run=write_adopted)
     one = commands.add_parser("schema", help="JSON Schemas, by which an editor completes what you write")
     one.add_argument("dir", metavar="FOLDER", help="where the two schemas go")
     one.set_defaults(run=write_schema)

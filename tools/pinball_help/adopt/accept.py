@@ -1,0 +1,233 @@
+"""Asks the program about the new machine, and leaves out what it refuses, the smallest part first."""
+import time
+
+from ..answers import Answer, Complaint
+from ..graph import Graph, Post
+from ..machine_graph import graph_of
+from ..outline import Entry
+from ..program import NoAnswer, Program
+from ..scenery import Scenery, section_of
+from ..texts import Line
+from .context import Context
+from .draft import SINGLE, Written
+from .source import Place
+
+ROUNDS = 80
+FEW_CYCLES = 4  # that are broken one by one
+MUCH = 64  # entries that are taken out at once, if all else takes too long
+LISTS = ("shots", "ball_switches")  # settings that lose one name
+INNER = ("coil_player", "variable_player")
+FEATURE_OF = {
+    "Name": "name not there", "PulseLimit": "lowest power or time", "PowerLimit": "lowest power or time",
+    "HoldNotAllowed": "hold not allowed", "Limit": "too many",
+}
+SAID = {
+    "Name": "nothing defines `{}`, or it may not be used so", "TimerAtEnd": "the timer is at its end before it runs",
+    "BallRoute": "balls do not come through the device", "Cycle": "its events lead to each other without end",
+    "Bound": "it may cause more than 100,000 lines", "Limit": "the machine has too many `{}`",
+}
+
+
+def accept(ctx: Context, program: Program, within: float) -> Answer:
+    """The answer for the new machine, which is yes: what is refused is left out."""
+    end = time.process_time() + within
+    share = 1
+    for count in range(ROUNDS):
+        if time.process_time() > end or count > ROUNDS // 2:
+            share *= 2
+        texts = ctx.draft.files()
+        answer = answer_of(program, texts)
+        if answer is not None and answer.accepted:
+            return answer
+        scene = Scenery({name: [Line(at, it) for at, it in enumerate(lines, 1)] for name, lines in texts.items()})
+        complaints = answer.complaints if answer else ()
+        dropped = [drop(ctx, scene, it, count > FEW_CYCLES) for it in complaints]
+        if not any(dropped) or share > MUCH:
+            drop_last(ctx, "the program has no answer for it" if answer is None else complaints[0].said, share)
+    ctx.draft.texts, ctx.draft.modes = {"": {}}, []
+    ctx.log("refused", Place(ctx.source.files[0].name, 1, len(ctx.source.files[0].lines)), "the whole machine", "lost")
+    return program.check_texts(ctx.draft.files())
+
+
+def answer_of(program: Program, texts: dict[str, list[str]]) -> Answer | None:
+    try:
+        return program.check_texts(texts)
+    except NoAnswer as error:
+        if "TooLong" in str(error) or "NoMemory" in str(error):
+            return None
+        raise
+
+
+def drop(ctx: Context, scene: Scenery, complaint: Complaint, all_cycles: bool) -> bool:
+    """Leaves out what a complaint is about. Says whether it has."""
+    if complaint.name == "Cycle":
+        return drop_cycles(ctx, scene, complaint, all_cycles)
+    if complaint.name == "Limit" and not complaint.line:
+        return drop_some(ctx, complaint)
+    if not complaint.line:
+        return False
+    entry = next(iter(it for it in scene.entries_at(complaint.text, complaint.line - 1) if it.key == complaint.key),
+                 None)
+    entry = entry or scene.around(complaint.text, complaint.line - 1)
+    if entry is None:
+        return False
+    return leave_out(ctx, scene, complaint.text, entry, complaint)
+
+
+def leave_out(ctx: Context, scene: Scenery, text: str, entry: Entry, complaint: Complaint) -> bool:
+    mode, section = scene.owner(text).replace("machine", ""), section_of(entry)
+    inside = ctx.draft.texts.get(mode, {}).get(section, {})
+    path = [*entry.path, entry][1:]
+    if section == "modes" or not path:
+        return drop_section(ctx, mode, section, complaint)
+    written = inside.get(path[0].key)
+    if written is None:
+        return drop_section(ctx, mode, section, complaint)
+    inner = path[1].key if len(path) > 1 else ""
+    if section == "event_player" and not inner:
+        return drop_name(ctx, inside, path[0].key, written, complaint)
+    if section in INNER and not inner:
+        inner = complaint.key
+    if section not in SINGLE and inner and isinstance(written.value, dict) and inner in written.value:
+        return drop_inner(ctx, inside, path[0].key, inner, complaint)
+    say(ctx, written, "", complaint)
+    del inside[path[0].key]
+    return True
+
+
+def drop_name(ctx: Context, inside: dict[str, Written], key: str, written: Written, complaint: Complaint) -> bool:
+    """Takes one event out of those that an entry posts."""
+    say(ctx, written, "", complaint)
+    if isinstance(written.value, list) and complaint.key in written.value and len(written.value) > 1:
+        written.value = [it for it in written.value if it != complaint.key]
+    else:
+        del inside[key]
+    return True
+
+
+def drop_inner(ctx: Context, inside: dict[str, Written], key: str, inner: str, complaint: Complaint) -> bool:
+    """Takes a setting, a coil or a variable out of an entry, or one name out of a list of it."""
+    written = inside[key]
+    assert isinstance(written.value, dict)
+    say(ctx, written, "" if inner in REQUIRED and inner not in LISTS else inner, complaint)
+    value = written.value[inner]
+    if inner in LISTS and isinstance(value, list) and complaint.key in value and len(value) > 1:
+        written.value[inner] = [it for it in value if it != complaint.key]
+        return True
+    del written.value[inner]
+    if not written.value or inner in REQUIRED:
+        del inside[key]
+    return True
+
+
+REQUIRED = ("main_coil", "activation_switch", "coil", "switch", "ball_switches", "shots", "events", "states",
+            "count_events",
+            "ball_count")
+
+
+def say(ctx: Context, written: Written, inner: str, complaint: Complaint) -> None:
+    place = written.lines.get(inner) or written.lines.get(complaint.key) or next(iter(written.places), None)
+    if place is None:
+        place = Place(ctx.source.files[0].name, 1, 1)
+    key = complaint.key or " ".join(complaint.words[:6])
+    says = SAID.get(complaint.name, "`{}`: " + complaint.said).format(key[:60])
+    ctx.log(FEATURE_OF.get(complaint.name, "refused"), place, says, "lost")
+
+
+def drop_section(ctx: Context, mode: str, section: str, complaint: Complaint) -> bool:
+    found = ctx.draft.texts.get(mode, {}).pop(section, None)
+    for written in (found or {}).values():
+        say(ctx, written, "", complaint)
+    return found is not None
+
+
+def steps_back(graph: Graph) -> list[tuple[str, str]]:
+    """Steps from an event to one that leads to it: without them no cycle is left."""
+    after: dict[str, list[str]] = {}
+    for it in graph.posts:
+        after.setdefault(it.event, []).append(it.posts)
+    found, done, on_the_way = [], set[str](), set[str]()
+    for first in after:
+        waiting = [] if first in done else [(first, iter(after[first]))]
+        on_the_way |= {first} if waiting else set()
+        while waiting:
+            event, rest = waiting[-1]
+            following = next(rest, None)
+            if following is None:
+                waiting.pop()
+                on_the_way.discard(event)
+                done.add(event)
+            elif following in on_the_way:
+                found.append((event, following))
+            elif following not in done:
+                on_the_way.add(following)
+                waiting.append((following, iter(after.get(following, ()))))
+    return found
+
+
+def drop_cycles(ctx: Context, scene: Scenery, complaint: Complaint, all_of_them: bool) -> bool:
+    """Breaks the cycle of a complaint, or all that there are."""
+    graph = graph_of(scene)
+    steps: dict[tuple[str, str], list[Post]] = {}
+    for it in graph.posts:
+        if it.entry is not None:
+            steps.setdefault((it.event, it.posts), []).append(it)
+    ring = list(zip(complaint.words, [*complaint.words[1:], complaint.words[0]]))
+    dropped = drop_step(ctx, scene, complaint, [(it, posted) for event, posted in ring
+                                                for it in steps.get((event, posted), ())])
+    for event, posted in steps_back(graph) if all_of_them else ():
+        dropped |= drop_step(ctx, scene, complaint, [(it, posted) for it in steps.get((event, posted), ())])
+    return dropped
+
+
+def drop_step(ctx: Context, scene: Scenery, complaint: Complaint, steps: list[tuple[Post, str]]) -> bool:
+    """Takes out the step of a cycle that takes least with it."""
+    order = ("event_player", "variable_player", "multiballs", "ball_saves", "counters", "accruals", "sequences",
+             "shots")
+
+    def rank(step: tuple[Post, str]) -> int:
+        assert step[0].entry
+        section = section_of(step[0].entry)
+        return order.index(section) if section in order else len(order)
+
+    for step, posted in sorted(steps, key=rank):
+        assert step.entry
+        named = Complaint(complaint.said, complaint.message, complaint.name, step.text, step.line + 1, posted)
+        section = section_of(step.entry)
+        if section == "variable_player":
+            named = Complaint(complaint.said, complaint.message, "Cycle", step.text, step.line + 1, step.entry.key)
+        if leave_out(ctx, scene, step.text, step.entry, named):
+            return True
+    return False
+
+
+DEVICES = ("counters", "accruals", "sequences", "timers", "shots", "shot_groups", "ball_saves", "multiballs",
+           "ball_devices", "flippers", "autofire_coils")
+TABLES = {"switches": ("switches",), "coils": ("coils",), "variables": ("variable_player", "event_player"),
+          "rows": DEVICES,
+          "events": ("event_player", *DEVICES, "switches"),
+          "bindings": ("event_player", "coil_player", "variable_player")}
+
+
+def drop_some(ctx: Context, complaint: Complaint) -> bool:
+    """Takes the last half out of the section that has most of what there is too much of."""
+    wanted = TABLES.get(complaint.words[0] if complaint.words else "", ())
+    sections = [inside for of_mode in ctx.draft.texts.values() for name, inside in of_mode.items() if name in wanted]
+    most = max(sections, key=len, default={})
+    for key in list(most)[len(most) // 2 :]:
+        say(ctx, most[key], "", complaint)
+        del most[key]
+    return bool(sections)
+
+
+def drop_last(ctx: Context, why: str, share: int) -> None:
+    """Takes the last entries out, where nobody can say which it is."""
+    for _ in range(share):
+        texts = [it for it in reversed(list(ctx.draft.texts)) if any(ctx.draft.texts[it].values())]
+        if not texts:
+            return
+        sections = ctx.draft.texts[texts[0]]
+        name = [it for it in sections if sections[it]][-1]
+        key = list(sections[name])[-1]
+        written = sections[name].pop(key)
+        say(ctx, written, "", Complaint(why, "", "refused", key=key))

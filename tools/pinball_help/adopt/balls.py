@@ -1,0 +1,330 @@
+"""Balls: holds, extra balls, a tilt, ball saves, multiballs, and plungers that the player fires."""
+from . import values
+from .context import Context
+from .delays import written
+from .draft import NoRoom, Taken, Value, Written
+from .playfield import NO_CALL, events_of, rest
+from .source import Given
+
+Out = dict[str, Value]
+EXTRA = "adopted_extra_balls"
+SHOOT_AGAIN = 10_000  # milliseconds, in MPF, where it is not written
+
+
+# ball saves and multiballs
+
+
+def of_save(ctx: Context, mode: str, entry: Given, out: Out) -> None:
+    grace = entry.at("grace_period")
+    if grace:
+        active, more = ctx.time(str(out.get("active_time", "0"))), ctx.time(grace.text)
+        if active and more:
+            out["active_time"] = written(active + more)
+        for it in (grace, entry.at("active_time") or grace):
+            ctx.log("ball_saves.grace_period", it.place, f"`active_time: {out.get('active_time', 0)}`")
+    if start := entry.at("timer_start_events"):
+        from_then(ctx, mode, entry, start, out)
+    if launch := entry.at("auto_launch"):
+        if launch.text.lower() in values.YES:
+            ctx.auto_launch.append(entry.key)
+        ctx.log("ball_saves.auto_launch", launch.place)
+    if ctx.tilt_events and out.get("enable_events"):
+        here = out.setdefault("disable_events", [])
+        assert isinstance(here, list)
+        here += [it for it in ctx.tilt_events if it not in here]
+        ctx.log("tilt", (entry.at("disable_events") or entry).place, "`tilt` disables it")
+
+
+def from_then(ctx: Context, mode: str, entry: Given, start: Given, out: Out) -> None:
+    """The time of a ball save begins at another event than the one that enables it."""
+    events = values.events(ctx, mode, "ball_saves", NO_CALL, entry, start) or []
+    enables = [str(it) for it in out.get("enable_events", [])]
+    if not events:
+        return
+    for it in (start, entry.at("enable_events") or start):
+        ctx.log("ball_saves.timer_start_events", it.place)
+    if not enables:
+        out["enable_events"] = list(events)
+        return
+    ready = ctx.own(f"{entry.key}_is_ready", 50)
+    ctx.draft.section(mode, "variable_player")
+    for event in enables:
+        ctx.change(mode, event, {ready: {"int": "1", "action": "set"}}, start, f"{entry.key} may be enabled")
+    ctx.change(mode, f"ball_save_{entry.key}_disabled", {ready: {"int": "0", "action": "set"}}, start, "until it was")
+    out["enable_events"] = [it if "{" in str(it) else f"{it}{{current_player.{ready} == 1}}" for it in events]
+
+
+def of_multiball(ctx: Context, mode: str, entry: Given, out: Out) -> None:
+    kind, count = entry.at("ball_count_type"), ctx.number(str(out.get("ball_count", "")))
+    if kind:
+        if kind.text.lower() == "add" and count is not None:
+            given = entry.at("ball_count")
+            out["ball_count"] = str(min(99, (ctx.number(given.text) if given else 1) or 1) + 1)
+        ctx.log("multiballs.ball_count_type", kind.place, f"`ball_count: {out.get('ball_count', '')}`")
+    again, grace = entry.at("shoot_again"), entry.at("grace_period")
+    time = ctx.time(again.text) if again else SHOOT_AGAIN
+    for it in (again, grace):
+        if it:
+            ctx.log("multiballs.shoot_again", it.place)
+    if time:
+        name = ctx.own(f"{entry.key}_shoot_again", 50)
+        time += (ctx.time(grace.text) or 0) if grace else 0
+        ctx.saves.append((mode, name, entry, time))
+    ctx.multiballs.append((entry.key, (ctx.number(str(out.get("ball_count", "2"))) or 2) - 1))
+
+
+def shoot_again(ctx: Context) -> None:
+    """The ball saves of multiballs, after all others."""
+    for mode, name, entry, time in ctx.saves:
+        if entry.key in ctx.draft.texts.get(mode, {}).get("multiballs", {}):
+            value: Out = {"active_time": written(time), "balls_to_save": "99",
+                          "enable_events": [f"multiball_{entry.key}_started"]}
+            if ctx.tilt_events:
+                value["disable_events"] = list(ctx.tilt_events)
+            ctx.put(mode, "ball_saves", name, value, entry, "shoot_again of the multiball, and its grace_period")
+
+
+# plungers and holds
+
+
+def launches(ctx: Context) -> None:
+    for name, given in ctx.launched.items():
+        written_device = ctx.draft.section("", "ball_devices").get(name)
+        if written_device is None or not isinstance(written_device.value, dict):
+            continue
+        device, coil = written_device.value, written_device.value.get("eject_coil")
+        if not isinstance(coil, str) or "trough" in device.get("tags", []):
+            ctx.lose("ball_devices.player_controlled_eject_event", given, "it has no coil, or is a trough", "lost")
+            continue
+        by_hand(ctx, written_device, "ball_devices.player_controlled_eject_event")
+        written_device.says.append(f"the player fires `{coil}`, so the device does not")
+        for event in values.events(ctx, "", "ball_devices", NO_CALL, given, given) or []:
+            ctx.drive("", event, {coil: "pulse"}, given, f"launches a ball from {name}")
+        if ctx.auto_launch or ctx.multiballs:
+            auto_launch(ctx, name, coil, given)
+
+
+def by_hand(ctx: Context, written_device: Written, feature: str) -> None:
+    """A ball device that ejects no ball by itself."""
+    assert isinstance(written_device.value, dict)
+    del written_device.value["eject_coil"]
+    written_device.value["mechanical_eject"] = "yes"
+    for key in ("eject_coil", "mechanical_eject"):
+        if place := written_device.lines.get(key):
+            ctx.log(feature, place, "`mechanical_eject: yes`, and no `eject_coil`")
+
+
+def auto_launch(ctx: Context, name: str, coil: str, given: Given) -> None:
+    """Launches a ball that is saved, or that a multiball adds, without the player."""
+    count = ctx.own(f"{name}_launches", 50)
+    for save in (*ctx.auto_launch, *(it for _, it, _, _ in ctx.saves)):
+        ctx.change("", f"ball_save_{save}_saving_ball", {count: "1"}, given, "a ball that is saved is launched")
+    for multiball, more in ctx.multiballs:
+        ctx.change("", f"multiball_{multiball}_started", {count: str(more)}, given,
+                   "the balls of a multiball are launched")
+    ctx.drive("", f"balldevice_{name}_ball_enter{{current_player.{count} >= 1}}", {coil: "pulse"}, given, "by itself")
+    ctx.change("", f"balldevice_{name}_ball_eject_success{{current_player.{count} >= 1}}", {count: "-1"}, given,
+               "it has left")
+    ctx.change("", "ball_will_start", {count: {"int": "0", "action": "set"}}, given, "a ball of a player is not")
+
+
+def of_holds(ctx: Context, mode: str, section: Given) -> None:
+    ctx.holds += [(mode, entry) for entry in section.inside()]
+    ctx.log("ball_holds", section.place)
+
+
+def holds(ctx: Context) -> None:
+    """Writes the ball holds, once all ball devices are known."""
+    for mode, entry in ctx.holds:
+        found = False
+        for name in entry.names("hold_devices"):
+            written_device = ctx.draft.section("", "ball_devices").get(name)
+            device = written_device.value if written_device else None
+            coil = device.get("eject_coil") if isinstance(device, dict) else None
+            if isinstance(device, dict) and isinstance(coil, str) and "trough" not in device.get("tags", []):
+                assert written_device
+                by_hand(ctx, written_device, "ball_holds")
+                written_device.says.append(f"it holds its balls for {entry.key}: {entry.place}")
+                hold(ctx, mode, entry, name, coil)
+                found = True
+        if found:
+            rest(ctx, "ball_holds", entry, "hold_devices", "balls_to_hold", "enable_events", "disable_events",
+                 "release_one_events", "release_all_events", "release_one_if_full_events")
+        else:
+            ctx.lose("ball_holds", entry, "no such ball device with a coil")
+
+
+def hold(ctx: Context, mode: str, entry: Given, name: str, coil: str) -> None:
+    go = ctx.own(f"ball_hold_{entry.key}_{name}_lets_go", 50)
+    ctx.drive("", go, {coil: "pulse"}, entry, f"lets a ball of {name} go")
+    for event in events_of(ctx, mode, entry, "release_one_events", "release_all_events", "release_one_if_full_events"):
+        ctx.post(mode, event, [go], entry, f"lets a ball of {name} go")
+    enables, disables = events_of(ctx, mode, entry, "enable_events"), events_of(ctx, mode, entry, "disable_events")
+    if mode:
+        enables = enables or [f"mode_{mode}_started"]
+        disables = [*disables, f"mode_{mode}_stopping"]
+        ctx.post(mode, f"mode_{mode}_stopping", [go], entry, "the mode ends, and with it the hold")
+    enables = ctx.relay(mode, enables, f"ball_hold_{entry.key}_enable", entry)
+    disables = ctx.relay(mode, disables, f"ball_hold_{entry.key}_disable", entry)
+    if enables:
+        ctx.put("", "counters", ctx.own(f"ball_hold_{entry.key}_{name}_off", 50), {
+            "count_events": [f"balldevice_{name}_ball_enter"], "disable_events": enables, "restart_events": disables,
+            "events_when_hit": [go],
+        }, entry, "while the hold is not enabled, a ball goes at once")
+    held = f"ball_hold_{entry.key}_held_ball"
+    if held in ctx.taken_names:
+        ctx.post("", f"balldevice_{name}_ball_enter", [held], entry, "the event of MPF, also while it is not enabled")
+
+
+# extra balls
+
+
+def of_extra(ctx: Context, mode: str, section: Given) -> None:
+    for entry in section.inside():
+        if not values.NAME.fullmatch(f"extra_ball_{entry.key}_awarded"):
+            ctx.lose("extra_balls", entry)
+            continue
+        group = entry.says("group")
+        awards = events_of(ctx, mode, entry, "award_events")
+        lights = events_of(ctx, mode, entry, "light_events", "lit_events")
+        if awards:
+            award(ctx, mode, entry, entry.key, awards)
+        lit = f"extra_ball_{group or entry.key}_lit"
+        for event in lights:
+            ctx.change(mode, event, {lit: "1"}, entry, "an extra ball is lit")
+        if lights and not group:
+            ctx.log("extra_balls", entry.place, "nothing awards what is lit: it has no group", "lost")
+        rest(ctx, "extra_balls", entry, "award_events", "light_events", "lit_events", "group", "max_per_game")
+    ctx.log("extra_balls", section.place)
+
+
+def of_extra_groups(ctx: Context, mode: str, section: Given) -> None:
+    for entry in section.inside():
+        if not values.NAME.fullmatch(f"extra_ball_{entry.key}_awarded"):
+            ctx.lose("extra_ball_groups", entry)
+            continue
+        lit = f"extra_ball_{entry.key}_lit"
+        for event in events_of(ctx, mode, entry, "light_events"):
+            ctx.change(mode, event, {lit: "1"}, entry, "an extra ball is lit")
+        taken = ctx.own(f"extra_ball_{entry.key}_taken")
+        wanted = events_of(ctx, mode, entry, "award_lit_events")
+        for event in [it for it in wanted if "{" not in it]:
+            ctx.post(mode, f"{event}{{current_player.{lit} >= 1}}", [taken], entry, "awards one that is lit")
+        if wanted:
+            ctx.change(mode, taken, {lit: "-1"}, entry, "one less is lit")
+            award(ctx, mode, entry, entry.key, [taken, *events_of(ctx, mode, entry, "award_events")])
+        rest(ctx, "extra_ball_groups", entry, "light_events", "award_lit_events", "award_events", "max_per_game")
+    ctx.log("extra_ball_groups", section.place)
+
+
+def award(ctx: Context, mode: str, entry: Given, name: str, awards: list[str]) -> None:
+    """A ball save without a time, in a mode after all others: so any other ball save comes first."""
+    awarded, count = f"extra_ball_{name}_awarded", f"extra_ball_{name}_count"
+    most = ctx.number(entry.says("max_per_game", "")) if entry.at("max_per_game") else None
+    for event in awards:
+        limited = most and "{" not in event
+        ctx.post(mode, f"{event}{{current_player.{count} < {most}}}" if limited else event, [awarded], entry,
+                 "awards an extra ball")
+        if most and not limited:
+            ctx.log("part of a rewrite", entry.place, "`max_per_game` of an award with a condition")
+    ctx.change("", awarded, {count: "1"}, entry, "counts them")
+    if EXTRA not in ctx.names:
+        ctx.names[EXTRA] = ctx.draft.helper(EXTRA, {"start_events": ["game_starting"], "stop_on_ball_end": "no"},
+                                            Written("",
+                                                    says=["extra balls: this mode is the last, so other ball saves "
+                                                          "come first"]))
+    try:
+        ctx.put(ctx.names[EXTRA], "ball_saves", ctx.own(f"extra_ball_{name}", 50), {"enable_events": [awarded]}, entry,
+                "it saves the next ball that nothing else saves")
+    except (Taken, NoRoom) as why:
+        ctx.lose("extra_balls", entry, str(why))
+
+
+# a tilt
+
+
+TILTED = "adopted_is_tilted"
+
+
+def tagged(ctx: Context, section: Given, key: str) -> list[str]:
+    """The events of the switches with the tag of a setting, which is that of its name where it is not written."""
+    tags = section.names(key) or [key.removesuffix("_switch_tag")]
+    return [f"sw_{tag}" for tag in tags if tag in ctx.tags]
+
+
+TILTS = {"tilt_warning_switch_tag": "tilt_warning_events", "tilt_switch_tag": "tilt_events",
+         "slam_tilt_switch_tag": "slam_tilt_events"}
+
+
+def tilts(ctx: Context, section: Given) -> bool:
+    """Whether something tilts: a switch with one of the tags, or an event."""
+    return any(tagged(ctx, section, tag) or section.at(events) for tag, events in TILTS.items())
+
+
+def of_tilt(ctx: Context, mode: str, section: Given) -> None:
+    if not section.is_mapping and section.text:
+        ctx.lose("tilt", section)
+        return
+    warnings, at_once, slams = (
+        [*tagged(ctx, section, tag), *events_of(ctx, mode, section, events)] for tag, events in TILTS.items())
+    number = ctx.number(section.says("warnings_to_tilt", "3"))
+    if warnings:
+        ctx.put(mode, "counters", ctx.own("tilt_warnings", 50), {
+            "count_events": warnings,
+            "multiple_hit_window": written(ctx.time(section.says("multiple_hit_window", "300ms")) or 0),
+            "count_complete_value": str(number or 3), "events_when_hit": ["tilt_warning"],
+            "events_when_complete": ["tilt"],
+            **({} if mode else {"restart_events": ["ball_started"]}),
+        }, section, "counts the warnings of a ball")
+    for event in at_once:
+        ctx.post(mode, event, ["tilt"], section, "tilts at once")
+    for event in slams:
+        ctx.post(mode, event, ["slam_tilt", "tilt"], section, "a slam tilt is a tilt: nothing ends a game")
+    if not warnings + at_once + slams:
+        ctx.log("tilt", section.place, "no switch has its tags, and no event tilts", "weakened")
+    rest(ctx, "tilt", section, "multiple_hit_window", "warnings_to_tilt", "tilt_warning_switch_tag", "tilt_switch_tag",
+         "tilt_warning_events", "tilt_events", "settle_time", "slam_tilt_switch_tag", "slam_tilt_events",
+         "reset_warnings_events")
+
+
+def tilted(ctx: Context) -> None:
+    """What a tilt turns off: flippers, autofire coils, and the modes that score."""
+    if not ctx.tilt_events:
+        return
+    for section in ("flippers", "autofire_coils"):
+        for written_device in ctx.draft.texts[""].get(section, {}).values():
+            if isinstance(written_device.value, dict):
+                here = written_device.value.setdefault("disable_events", ["ball_will_end"])
+                assert isinstance(here, list)
+                here += [it for it in ctx.tilt_events if it not in here]
+                place = written_device.lines.get("disable_events", written_device.places[0])
+                ctx.log("tilt", place, "`tilt` disables it")
+    for mode in sorted(ctx.listed):
+        sections = ctx.draft.texts.get(mode, {})
+        single = sections.get("mode", {})
+        value = {key: it.value for key, it in single.items()}
+        if str(value.get("game_mode", "yes")).lower() in values.NO:
+            continue
+        if str(value.get("use_wait_queue", "no")).lower() in values.YES:
+            not_after_a_tilt(ctx, single)
+        elif "variable_player" in sections and str(value.get("stop_on_ball_end", "yes")).lower() in values.YES:
+            written_stops = single.setdefault("stop_events", Written([]))
+            stops = written_stops.value
+            assert isinstance(stops, list)
+            for place in written_stops.places:
+                ctx.log("tilt", place, "`tilt` stops the mode, since it scores")
+            stops += [it for it in ctx.tilt_events if it not in stops]
+
+
+def not_after_a_tilt(ctx: Context, single: dict[str, Written]) -> None:
+    """A mode at the end of the ball, such as a bonus, does not start after a tilt."""
+    starts = single.get("start_events")
+    if starts is None or starts.value != ["ball_ending"] or not ctx.tilt_given:
+        return
+    for place in starts.places:
+        ctx.log("tilt", place, "the mode does not start after a tilt")
+    starts.value = [f"ball_ending{{current_player.{TILTED} == 0}}"]
+    if TILTED not in ctx.names:
+        ctx.names[TILTED] = TILTED
+        ctx.change("", "tilt", {TILTED: {"int": "1", "action": "set"}}, ctx.tilt_given, "no bonus after a tilt")
+        ctx.change("", "ball_will_start", {TILTED: {"int": "0", "action": "set"}}, ctx.tilt_given, "a new ball")

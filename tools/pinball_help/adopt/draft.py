@@ -1,0 +1,210 @@
+"""The new machine while it is made, and how its texts are written."""
+import re
+from dataclasses import dataclass, field
+from functools import cache
+from typing import Iterator
+
+from .. import tables
+from ..tables import MOST_MODES, Section
+from ..texts import MACHINE, VERSION, mode_text
+from .source import Place
+
+Value = str | list | dict
+NAME = re.compile(r"[A-Za-z0-9_.-]{1,64}")
+LONGEST_NAME = 64
+WIDTH = 100
+# what a plain scalar may be without quotes, in a block
+PLAIN = re.compile(r"(?![-?:](?:\s|$))[A-Za-z0-9_.+/-](?:[^\s:#]|:(?=\S)|(?<=\S)#|\s(?=[^\s#]))*", re.ASCII)
+FIRST = ("mode", "modes", "machine", "game", "switches", "coils", "ball_devices", "flippers", "autofire_coils")
+SINGLE = ("mode", "machine", "game")
+PLAYERS = ("event_player", "coil_player", "variable_player")
+
+
+@cache
+def sections(is_mode: bool) -> dict[str, Section]:
+    """The sections of the machine text, or of the text of a mode."""
+    return tables.sections(is_mode)
+
+
+class NoRoom(Exception):
+    """The profile has a limit, and it is reached."""
+
+
+class Taken(Exception):
+    """The entry is there already, and says another thing."""
+
+
+@dataclass
+class Written:
+    """An entry of the new machine, where it comes from, and what is said of it."""
+
+    value: Value
+    places: list[Place] = field(default_factory=list)
+    comments: list[str] = field(default_factory=list)
+    says: list[str] = field(default_factory=list)  # what rewrote it
+    lines: dict[str, Place] = field(default_factory=dict)  # where each setting, coil or variable of it comes from
+
+
+Sections = dict[str, dict[str, Written]]
+
+
+@dataclass
+class Draft:
+    """`texts` has the sections of the machine, whose mode is the empty name, and of each mode."""
+
+    texts: dict[str, Sections] = field(default_factory=lambda: {"": {}})
+    modes: list[str] = field(default_factory=list)
+    heads: dict[str, list[str]] = field(default_factory=dict)  # the comment at the front of a text
+    known: set[tuple[str, str]] = field(default_factory=set)  # the entries of all texts: section and name
+
+    def section(self, mode: str, name: str) -> dict[str, Written]:
+        return self.texts.setdefault(mode, {}).setdefault(name, {})
+
+    def put(self, mode: str, section: str, key: str, written: Written) -> None:
+        """Adds an entry. Raises Taken if there is one of its name, here or in another text."""
+        if section not in PLAYERS + SINGLE:
+            if not NAME.fullmatch(key):
+                raise Taken(f"`{key[:80]}` is no name, or too long")
+            if (section, key) in self.known:
+                raise Taken(f"`{section}` has a `{key}` already")
+            self.known.add((section, key))
+        inside = self.section(mode, section)
+        if key not in inside:
+            inside[key] = written
+            return
+        if section not in PLAYERS:
+            raise Taken(f"`{section}` has a `{key}` already")
+        joined(inside[key], written)
+
+    def helper(self, name: str, settings: dict[str, Value], written: Written) -> str:
+        """A mode of its own, with the sections of its entries still to come. Raises NoRoom if there are too many."""
+        if len(self.modes) >= MOST_MODES:
+            raise NoRoom(f"a machine has at most {MOST_MODES} modes")
+        mode, count = name, 1
+        while mode in self.modes or mode == "machine":
+            count += 1
+            mode = shortened(name, 60) + f"_{count}"
+        self.modes.append(mode)
+        self.heads[mode] = [f"{it}" for it in written.says]
+        for key, value in settings.items():
+            self.section(mode, "mode")[key] = Written(value)
+        return mode
+
+    def files(self) -> dict[str, list[str]]:
+        """The lines of each text."""
+        return {name: list(lines) for name, lines in ((self.name(it), self.lines(it)) for it in self.texts)}
+
+    def name(self, mode: str) -> str:
+        return mode_text(mode) if mode else MACHINE
+
+    def lines(self, mode: str) -> Iterator[str]:
+        yield VERSION
+        for line in self.heads.get(mode, []):
+            yield f"# {clean(line)}"
+        sections = dict(self.texts[mode])
+        if not mode and self.modes:
+            yield ""
+            yield "modes:"
+            yield from (f"  - {it}" for it in self.modes)
+        for name in sorted(sections, key=lambda it: FIRST.index(it) if it in FIRST else len(FIRST)):
+            if sections[name] or name == "game":
+                yield ""
+                yield f"{name}:"
+                for key, written in sections[name].items():
+                    yield from entry_lines(key, written)
+
+
+def joined(first: Written, other: Written) -> None:
+    """Joins two entries of a player for one event."""
+    if isinstance(first.value, list) and isinstance(other.value, list):
+        first.value += other.value
+    elif isinstance(first.value, dict) and isinstance(other.value, dict):
+        same = [it for it in other.value if it in first.value and first.value[it] != other.value[it]]
+        sums = {it: added(first.value[it], other.value[it]) for it in other.value if it in first.value}
+        if any(sums[it] is None for it in same):
+            raise Taken(f"two entries for one event do two things with `{same[0]}`")
+        both = {**first.value, **other.value, **{key: it for key, it in sums.items() if it is not None}}
+        first.value = both
+    else:
+        raise Taken("two entries for one event are of two kinds")
+    first.places += other.places
+    first.lines.update(other.lines)
+    first.comments += [it for it in other.comments if it not in first.comments]
+    first.says += [it for it in other.says if it not in first.says]
+
+
+def added(one: Value, other: Value) -> Value | None:
+    """What two changes of one variable add; none if they do not add."""
+    if isinstance(one, str) and isinstance(other, str) and re.fullmatch(r"-?\d+", one) and re.fullmatch(r"-?\d+",
+                                                                                                        other):
+        return str(int(one) + int(other))
+    return None
+
+
+def entry_lines(key: str, written: Written) -> Iterator[str]:
+    for line in written.comments:
+        yield f"  # {clean(line.lstrip('# '))}"
+    if written.says:
+        where = ", ".join(dict.fromkeys(map(str, written.places)))
+        yield f"  # {clean(where)}: {clean('; '.join(written.says))}"
+    yield from value_lines(scalar(key), written.value, 2)
+
+
+def value_lines(key: str, value: Value, depth: int) -> Iterator[str]:
+    margin = " " * depth
+    if isinstance(value, str):
+        yield f"{margin}{key}: {scalar(value)}"
+    elif isinstance(value, dict):
+        yield f"{margin}{key}:"
+        for inner, below in value.items():
+            yield from value_lines(scalar(inner), below, depth + 2)
+    else:
+        yield from list_lines(key, value, depth)
+
+
+def list_lines(key: str, items: list, depth: int) -> Iterator[str]:
+    margin = " " * depth
+    if all(isinstance(it, str) and PLAIN.fullmatch(it) for it in items):
+        line = f"{margin}{key}: {', '.join(items) or '[]'}"
+        if len(line) <= WIDTH and all(is_word(it) for it in items) and PLAIN.fullmatch(", ".join(items) or "a"):
+            yield line
+            return
+    yield f"{margin}{key}:"
+    for item in items:
+        if isinstance(item, dict):
+            for at, (inner, below) in enumerate(item.items()):
+                lines = list(value_lines(scalar(inner), below, depth + 4))
+                yield f"{margin}  - {lines[0].lstrip()}" if at == 0 else lines[0]
+                yield from lines[1:]
+        elif isinstance(item, list):
+            yield f"{margin}  - {scalar(', '.join(item))}"
+        else:
+            yield f"{margin}  - {scalar(item)}"
+
+
+def is_word(item: str) -> bool:
+    """Whether an item of a list is one word where a text is split at commas and blanks."""
+    return re.fullmatch(r"[^\s,{}]+(\{[^{}]*\})?", item) is not None
+
+
+def scalar(text: str) -> str:
+    """A text as YAML writes it."""
+    text = clean(text)
+    if PLAIN.fullmatch(text):
+        return text
+    return "'" + text.replace("'", "''") + "'"
+
+
+def clean(text: str) -> str:
+    """A text without what no text may have: control characters, and what is no character."""
+    return "".join(it if it.isprintable() and it not in "\ufeff\ufffe\uffff" and not "\ud800" <= it <= "\udfff"
+                   else "?" for it in text.replace("\t", " "))
+
+
+def shortened(name: str, most: int = LONGEST_NAME) -> str:
+    """A name that is short enough, and differs if the names do."""
+    name = re.sub(r"[^A-Za-z0-9_.-]", "_", name)
+    if len(name) <= most:
+        return name
+    check = sum((at + 1) * ord(it) for at, it in enumerate(name)) % 10_000
+    return f"{name[: most - 5]}_{check:04}"

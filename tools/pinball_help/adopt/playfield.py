@@ -1,0 +1,395 @@
+"""What MPF has devices for on the playfield and the cabinet, and is said here by shots, modes, timers and coils."""
+from . import values
+from .context import Context
+from .delays import after, written
+from .draft import Value
+from .expressions import NotSaid
+from .features import FEATURES
+from .source import Given
+
+NO_CALL = values.Call("")
+HOLD_DEFAULT = "1s"
+
+
+def events_of(ctx: Context, mode: str, entry: Given, *keys: str) -> list[str]:
+    """The events of some settings of an entry."""
+    found: list[str] = []
+    for given in entry.inside():
+        if given.key in keys:
+            found += values.events(ctx, mode, "", NO_CALL, entry, given) or []
+    return found
+
+
+def rest(ctx: Context, feature: str, entry: Given, *known: str) -> None:
+    """Says what settings of an entry are left out, and that the entry is rewritten."""
+    ctx.log(feature, entry.place)
+    other_tools = ("label", "debug", "tags", "console_log", "file_log", "number", "x", "y", "z", "show_tokens")
+    for it in entry.inside():
+        if f"{feature}.{it.key}" in FEATURES:
+            ctx.lose(f"{feature}.{it.key}", it)
+        elif it.key not in known and it.key not in other_tools:
+            ctx.lose("part of a rewrite", it, f"`{it.key[:60]}` of `{feature}`")
+
+
+def switches_of(ctx: Context, entry: Given, suffix: str = "") -> list[str]:
+    """The switches of an entry, by their names and by their tags."""
+    found = [*entry.names(f"switch{suffix}"), *entry.names(f"switches{suffix}")]
+    for key in (f"tag{suffix}", f"switch_tag{suffix}", f"switch_tags{suffix}",
+                f"tags{suffix}" if suffix else "switch_tag"):
+        for tag in entry.names(key):
+            found += ctx.tags.get(tag, [])
+    return [it for it in dict.fromkeys(found) if it in ctx.switches]
+
+
+# drop targets
+
+
+TARGET = "adopted_drop_target"
+RESETS = "ball_starting"
+
+
+def of_drop_targets(ctx: Context, mode: str, section: Given) -> None:
+    for entry in section.inside():
+        switch = next(iter(switches_of(ctx, entry)), "")
+        if not switch or not values.NAME.fullmatch(entry.key):
+            ctx.lose("drop_targets", entry, "no such switch")
+            continue
+        if TARGET not in ctx.names:
+            ctx.names[TARGET] = TARGET
+            ctx.put("", "shot_profiles", TARGET, {"states": [{"name": "up"}, {"name": "down"}]}, entry, "drop targets")
+        shot = f"drop_target_{entry.key}"
+        resets = ctx.relay(mode, events_of(ctx, mode, entry, "reset_events"), f"{shot}_reset", entry)
+        ctx.put("", "shots", shot, {"switch": switch, "profile": TARGET, "reset_events": resets or [RESETS]}, entry,
+                "a drop target")
+        ctx.targets[entry.key] = (shot, entry.says("reset_coil"))
+        coil = entry.says("reset_coil")
+        for event in resets if coil else []:
+            ctx.drive("", event, {coil: "pulse"}, entry, f"raises {entry.key}")
+        ctx.post("", f"{shot}_up_hit", [f"{shot}_down"], entry, f"the event that MPF posts for {entry.key}")
+        rest(ctx, "drop_targets", entry, "switch", "reset_coil", "reset_events")
+    ctx.log("drop_targets", section.place)
+
+
+def of_banks(ctx: Context, mode: str, section: Given) -> None:
+    ctx.banks += [(mode, entry) for entry in section.inside()]
+    ctx.log("drop_target_banks", section.place)
+
+
+def banks(ctx: Context) -> None:
+    """Writes the banks, once all drop targets are known."""
+    in_a_bank: set[str] = set()
+    for mode, entry in ctx.banks:
+        names = [it for it in entry.names("drop_targets") if it in ctx.targets and it not in in_a_bank][:16]
+        if not names or not values.NAME.fullmatch(entry.key):
+            ctx.lose("drop_target_banks", entry, "no such drop targets")
+            continue
+        in_a_bank |= {*names}
+        bank(ctx, mode, entry, [ctx.targets[it] for it in names])
+        rest(ctx, "drop_target_banks", entry, "drop_targets", "reset_coil", "reset_coils", "reset_events",
+             "reset_on_complete")
+
+
+def bank(ctx: Context, mode: str, entry: Given, targets: list[tuple[str, str]]) -> None:
+    group = f"drop_target_bank_{entry.key}"
+    raised = ctx.own(f"{group}_raise")
+    coils = [*entry.names("reset_coil"), *entry.names("reset_coils")] or [coil for _, coil in targets if coil]
+    resets = ctx.relay(mode, events_of(ctx, mode, entry, "reset_events"), f"{group}_reset", entry)
+    for event in resets or [RESETS]:
+        ctx.post("", event, [raised], entry, f"raises {entry.key}")
+    ctx.put("", "shot_groups", group, {"shots": [it for it, _ in targets], "reset_events": [raised]}, entry, "a bank")
+    ctx.post("", f"{group}_down_complete", [f"{group}_down"], entry, f"the event that MPF posts for {entry.key}")
+    wait = entry.at("reset_on_complete")
+    delay = ctx.time(wait.text) if wait and wait.text.lower() not in values.NO + ("yes", "true") else None
+    if wait and (delay is not None or wait.text.lower() in values.YES):
+        ctx.post("", after(ctx, "", f"{group}_down", delay or 0, entry), [raised], entry, "reset_on_complete")
+    if coils:
+        ctx.drive("", raised, {it: "pulse" for it in dict.fromkeys(coils)}, entry, f"raises {entry.key}")
+
+
+# diverters
+
+
+def of_diverters(ctx: Context, mode: str, section: Given) -> None:
+    for entry in section.inside():
+        coil = entry.says("activation_coil")
+        if not coil or not values.NAME.fullmatch(entry.key):
+            ctx.lose("diverters", entry, "it has no `activation_coil`")
+            continue
+        diverter(ctx, mode, entry, coil)
+        rest(ctx, "diverters", entry, "activation_coil", "type", "activation_time", "activate_events",
+             "deactivate_events",
+             "enable_events", "disable_events", "activation_switches", "deactivation_switches", "deactivation_coil")
+    ctx.log("diverters", section.place)
+
+
+def diverter(ctx: Context, mode: str, entry: Given, coil: str) -> None:
+    name = f"diverter_{entry.key}"
+    switches = [f"{it}_active" for it in entry.names("activation_switches") if it in ctx.switches]
+    starts = events_of(ctx, mode, entry, "activate_events")
+    stops = events_of(ctx, mode, entry, "deactivate_events")
+    stops += [f"{it}_active" for it in entry.names("deactivation_switches") if it in ctx.switches]
+    enables, disables = events_of(ctx, mode, entry, "enable_events"), events_of(ctx, mode, entry, "disable_events")
+    starts = ctx.relay(mode, starts + ([] if switches else enables), f"{name}_activate", entry)
+    if switches:
+        starts = starts + by_switch(ctx, mode, entry, name, switches, enables, disables)
+    stops = ctx.relay(mode, stops + disables, f"{name}_deactivate", entry)
+    stops += [f"mode_{mode}_stopping"] if mode else []
+    delay = ctx.time(entry.says("activation_time", "0")) or 0
+    if entry.says("type", "hold").lower() == "pulse" or not ctx.may_hold(coil):
+        pulsed(ctx, entry, name, coil, starts, stops)
+        return
+    timer = ctx.timer(name)
+    helper = ctx.mode(name, starts, stops + ([f"timer_{timer}_complete"] if delay else []), entry,
+                      "a diverter that is active")
+    ctx.put(helper, "coil_player", f"mode_{helper}_started", {coil: "enable"}, entry, "holds the coil")
+    ctx.drive("", f"mode_{helper}_stopped", {coil: "disable"}, entry, "whoever held the coil")
+    if delay:
+        ctx.put(helper, "timers", timer, {"end_value": "1", "tick_interval": written(delay), "start_running": "yes"},
+                entry,
+                "activation_time")
+
+
+def by_switch(ctx: Context, mode: str, entry: Given, name: str, switches: list[str], enables: list[str],
+              disables: list[str]) -> list[str]:
+    """Lets switches activate a diverter while it is enabled."""
+    activate = ctx.own(f"{name}_by_switch")
+    if not enables:
+        ctx.log("diverters", entry.place, "nothing enables it: its switches always activate it", "weakened")
+        for event in switches:
+            ctx.post(mode, event, [activate], entry, "activates it")
+        return [activate]
+    enabled = ctx.mode(f"{name}_enabled", ctx.relay(mode, enables, f"{name}_enable", entry),
+                       ctx.relay(mode, disables, f"{name}_disable", entry), entry, "a diverter that is enabled")
+    for event in switches:
+        ctx.post(enabled, event, [activate], entry, "activates it")
+    return [activate]
+
+
+def pulsed(ctx: Context, entry: Given, name: str, coil: str, starts: list[str], stops: list[str]) -> None:
+    """A diverter whose coils are pulsed; and one that is to be held by a coil that may not be is left out."""
+    if entry.says("type", "hold").lower() != "pulse":
+        ctx.lose("hold not allowed", entry, f"`{coil}` may not be held: the diverter is left out")
+        return
+    for event in starts:
+        ctx.drive("", event, {coil: "pulse"}, entry, "activates it")
+    off = entry.says("deactivation_coil")
+    for event in stops if off else []:
+        ctx.drive("", event, {off: "pulse"}, entry, "deactivates it")
+    if entry.at("activation_time"):
+        ctx.lose("part of a rewrite", entry.at("activation_time") or entry, "`activation_time` of a pulsed diverter")
+
+
+# kickbacks and spinners
+
+
+def of_kickbacks(ctx: Context, mode: str, section: Given) -> None:
+    for entry in section.inside():
+        coil, switch = entry.says("coil"), next(iter(switches_of(ctx, entry)), "")
+        if not coil or not switch or not values.NAME.fullmatch(entry.key):
+            ctx.lose("kickbacks", entry, "it needs a coil and a switch")
+            continue
+        name = f"kickback_{entry.key}"
+        enables = ctx.relay(mode, events_of(ctx, mode, entry, "enable_events"), f"{name}_enable", entry)
+        disables = ctx.relay(mode, events_of(ctx, mode, entry, "disable_events"), f"{name}_disable", entry)
+        enables = enables or ["ball_started"]
+        disables = list(dict.fromkeys([*(disables or ["ball_will_end"]), *ctx.tilt_events]))
+        ctx.put("", "autofire_coils", name, {
+            "coil": coil, "switch": switch, "enable_events": enables, "disable_events": [*disables, f"{switch}_active"],
+        }, entry, "it kicks once each time it is enabled")
+        ctx.put("", "counters", name, {
+            "count_events": [f"{switch}_active"], "count_complete_value": "1", "enable_events": enables,
+            "disable_events": disables, "events_when_complete": [f"{name}_fired"],
+        }, entry, "posts the event of a kick")
+        rest(ctx, "kickbacks", entry, "coil", "switch", "enable_events", "disable_events")
+    ctx.log("kickbacks", section.place)
+
+
+def of_spinners(ctx: Context, mode: str, section: Given) -> None:
+    for entry in section.inside():
+        switches = switches_of(ctx, entry)
+        if not switches or not values.NAME.fullmatch(entry.key):
+            ctx.lose("spinners", entry, "no such switch")
+            continue
+        name, turns = f"spinner_{entry.key}", [f"{it}_active" for it in switches]
+        delay = ctx.time(entry.says("active_ms", HOLD_DEFAULT)) or 1_000
+        turns = ctx.relay(mode, turns, f"{name}_turn", entry)
+        timer = ctx.timer(f"{name}_still")
+        helper = ctx.mode(name, turns, [f"timer_{timer}_complete"], entry, "a spinner that spins")
+        again: Value = [{"event": it, "action": "restart"} for it in turns]
+        ctx.put(helper, "timers", timer, {"end_value": "1", "tick_interval": written(delay), "start_running": "yes",
+                                          "control_events": again}, entry, "how long it has to be still")
+        ctx.post(helper, f"mode_{helper}_started", [f"{name}_active"], entry, "its first turn")
+        ctx.post(helper, f"timer_{timer}_complete", [f"{name}_inactive"], entry, "it is still")
+        for event in turns:
+            ctx.post("", event, [f"{name}_hit"], entry, "each turn")
+        if idle := ctx.time(entry.says("idle_ms", "")) if entry.at("idle_ms") else None:
+            ctx.post("", after(ctx, "", f"{name}_inactive", idle, entry), [f"{name}_idle"], entry, "idle_ms")
+        rest(ctx, "spinners", entry, "switch", "active_ms", "idle_ms", "playfield")
+    ctx.log("spinners", section.place)
+
+
+# switches that are pressed together, or for a time
+
+
+def of_combos(ctx: Context, mode: str, section: Given) -> None:
+    for entry in section.inside():
+        ones, others = switches_of(ctx, entry, "_1"), switches_of(ctx, entry, "_2")
+        if not ones or not others or not values.NAME.fullmatch(entry.key):
+            ctx.lose("combo_switches", entry, "it needs two switches")
+            continue
+        combo(ctx, mode, entry, ones, others)
+        rest(ctx, "combo_switches", entry, "switches_1", "switches_2", "tag_1", "tag_2", "max_offset_time", "hold_time",
+             "events_when_both", "events_when_inactive", "switch_1", "switch_2")
+    ctx.log("combo_switches", section.place)
+
+
+def combo(ctx: Context, mode: str, entry: Given, ones: list[str], others: list[str]) -> None:
+    name = f"combo_{entry.key}"
+    pressed = ctx.own(f"{name}_pressed")
+    offset = ctx.time(entry.says("max_offset_time", "0")) or 0
+    for side, (first, second) in enumerate(((ones, others), (others, ones)), 1):
+        stops = [f"{it}_inactive" for it in first]
+        timer = ctx.timer(f"{name}_{side}")
+        helper = ctx.mode(f"{name}_{side}", [f"{it}_active" for it in first],
+                          stops + ([f"timer_{timer}_complete"] if offset else []), entry, "one of two buttons is held")
+        if offset:
+            ctx.put(helper, "timers", timer,
+                    {"end_value": "1", "tick_interval": written(offset), "start_running": "yes"},
+                    entry, "max_offset_time")
+        for switch in second:
+            ctx.post(helper, f"{switch}_active", [pressed], entry, "both are held")
+    starts = ctx.relay(mode, [pressed], f"{name}_in_mode", entry)
+    both = ctx.mode(f"{name}_both", starts, [f"{it}_inactive" for it in (*ones, *others)], entry,
+                    "both buttons are held")
+    posts = names_or(ctx, entry, "events_when_both", f"{entry.key}_both")
+    hold = ctx.time(entry.says("hold_time", "0")) or 0
+    event = f"mode_{both}_started"
+    if hold:
+        timer = ctx.timer(f"{name}_hold")
+        ctx.put(both, "timers", timer, {"end_value": "1", "tick_interval": written(hold), "start_running": "yes"},
+                entry,
+                "hold_time")
+        event = f"timer_{timer}_complete"
+    ctx.post(both, event, posts, entry, "events_when_both")
+    ctx.post(both, f"mode_{both}_stopping", names_or(ctx, entry, "events_when_inactive", f"{entry.key}_inactive"),
+             entry,
+             "events_when_inactive")
+
+
+def names_or(ctx: Context, entry: Given, key: str, default: str) -> list[str]:
+    """The events that an entry posts; the default of MPF if none is written."""
+    given = entry.at(key)
+    if given is None:
+        return [default]
+    found = [it.partition("|")[0] for it in given.words()]
+    return [it for it in found if values.NAME.fullmatch(it) and values.may_be_posted(ctx, it)] or [default]
+
+
+def of_timed(ctx: Context, mode: str, section: Given) -> None:
+    for entry in section.inside():
+        switches = switches_of(ctx, entry)
+        delay = ctx.time(entry.says("time", "0"))
+        inactive = entry.says("state", "active").lower() in ("inactive", "0")
+        if not switches or not delay or inactive or not values.NAME.fullmatch(entry.key):
+            ctx.lose("timed_switches", entry, "it needs a switch and a time")
+            continue
+        if len(switches) > 1:
+            ctx.log("timed_switches", entry.place, "when one of several switches is let go, the time is over",
+                    "weakened")
+        name = f"timed_{entry.key}"
+        timer = ctx.timer(name)
+        starts = ctx.relay(mode, [f"{it}_active" for it in switches], f"{name}_begins", entry)
+        stops = [f"{it}_inactive" for it in switches]
+        helper = ctx.mode(name, starts, stops, entry, "a switch that is held")
+        ctx.put(helper, "timers", timer, {"end_value": "1", "tick_interval": written(delay), "start_running": "yes"},
+                entry,
+                "the time")
+        posts = names_or(ctx, entry, "events_when_active", f"{entry.key}_active")
+        held = ctx.mode(f"{name}_held", [f"timer_{timer}_complete"], stops, entry,
+                        "a switch that was held for the time")
+        ctx.post(held, f"mode_{held}_started", posts, entry, "events_when_active")
+        ctx.post(held, f"mode_{held}_stopping", names_or(ctx, entry, "events_when_released", f"{entry.key}_released"),
+                 entry, "events_when_released")
+        rest(ctx, "timed_switches", entry, "switches", "switch", "switch_tags", "switch_tag", "time", "state",
+             "events_when_active", "events_when_released")
+    ctx.log("timed_switches", section.place)
+
+
+# shots of several switches, and states
+
+
+def of_sequence_shots(ctx: Context, mode: str, section: Given) -> None:
+    for entry in section.inside():
+        steps = [f"{it}_active" for it in entry.names("switch_sequence") if it in ctx.switches]
+        given = entry.at("event_sequence")
+        try:
+            steps += [one for it in (given.words() if given else []) for one in ctx.handled(mode, it, entry)]
+        except NotSaid:
+            steps = []
+        if len(steps) < 2 or len(steps) > 16 or not values.NAME.fullmatch(entry.key):
+            ctx.lose("sequence_shots", entry, "it needs two switches or events")
+            continue
+        sequence(ctx, mode, entry, steps)
+        rest(ctx, "sequence_shots", entry, "switch_sequence", "event_sequence", "sequence_timeout")
+    ctx.log("sequence_shots", section.place)
+
+
+def sequence(ctx: Context, mode: str, entry: Given, steps: list[str]) -> None:
+    name = ctx.own(f"shot_{entry.key}", 40, "sequences ")
+    delay = ctx.time(entry.says("sequence_timeout", "0")) or 0
+    device: dict[str, Value] = {"disable_on_complete": "no", "events_when_complete": [f"{entry.key}_hit"]}
+    if not delay:
+        ctx.put(mode, "sequences", name, {"events": [[it] for it in steps], **device}, entry,
+                "a shot of several switches")
+        return
+    timer = ctx.timer(name)
+    starts = ctx.relay(mode, steps[:1], f"{name}_begins", entry)
+    stops = [f"timer_{timer}_complete", f"{entry.key}_hit"]
+    helper = ctx.mode(name, starts, stops, entry, "a shot of several switches within a time")
+    ctx.put(helper, "sequences", name, {"events": [[it] for it in steps[1:]], **device}, entry, "the other switches")
+    ctx.put(helper, "timers", timer, {"end_value": "1", "tick_interval": written(delay), "start_running": "yes"}, entry,
+            "sequence_timeout")
+    ctx.post(helper, f"timer_{timer}_complete", [f"{entry.key}_timeout"], entry, "sequence_timeout")
+
+
+def of_state_machines(ctx: Context, mode: str, section: Given) -> None:
+    for entry in section.inside():
+        given, moves = entry.at("states"), entry.at("transitions")
+        states = given.inside() if given else []
+        if not states or not moves or not values.NAME.fullmatch(f"player_{entry.key}"):
+            ctx.lose("state_machines", entry, "it needs `states` and `transitions`")
+            continue
+        order = sorted(states, key=lambda it: it.key != "start")
+        numbers = {it.key: at for at, it in enumerate(order)}
+        for at, item in enumerate(moves.node.items or [], 1):
+            move = Given("transition", item, moves.file, item.line, item.line + 1)
+            transition(ctx, mode, entry, move, at, numbers, {it.key: it for it in states})
+        rest(ctx, "state_machines", entry, "states", "transitions", "persist_state", "starting_state")
+    ctx.log("state_machines", section.place)
+
+
+def transition(ctx: Context, mode: str, entry: Given, move: Given, at: int, numbers: dict[str, int],
+               states: dict[str, Given]) -> None:
+    sources, target = move.names("source"), move.says("target")
+    if target not in numbers or not all(it in numbers for it in sources):
+        ctx.lose("state_machines", move, "no such state")
+        return
+    name = ctx.own(f"{entry.key}_goes_{at}")
+    for source in sources:
+        for event in events_of(ctx, mode, move, "events"):
+            condition = f"current_player.{entry.key} == {numbers[source]}"
+            try:
+                head, _, own = event.partition("{")
+                both = f"{head}{{{condition} and {own[:-1]}}}" if own else f"{head}{{{condition}}}"
+                for it in ctx.handled(mode, both, move):
+                    ctx.post(mode, it, [name], move, f"from {source} to {target}")
+            except NotSaid as why:
+                ctx.lose("state_machines", move, str(why))
+    ctx.change(mode, name, {entry.key: {"int": str(numbers[target]), "action": "set"}}, move, f"to {target}")
+    posts = [*move.names("events_when_transitioning"), *states[target].names("events_when_started")]
+    if len(sources) == 1:
+        posts = [*states[sources[0]].names("events_when_stopped"), *posts]
+    posts = [it for it in posts if values.NAME.fullmatch(it) and values.may_be_posted(ctx, it)]
+    if posts:
+        ctx.post(mode, name, posts, move, f"to {target}")
+

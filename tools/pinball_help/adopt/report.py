@@ -1,0 +1,93 @@
+"""ADOPTED.md, and the table of docs/from_mpf.md: both are made of the table of features."""
+import hashlib
+import re
+import textwrap
+
+from .context import Context, Done
+from .draft import clean
+from .features import FEATURES, LOST, REWRITTEN, TABLE, UNSEEN, WEAKENED, Feature
+
+NAME = "ADOPTED.md"
+HEADS = (
+    (LOST, "Lost", "These rules are gone, or never run."),
+    (WEAKENED, "Weakened", "These rules do less than in MPF, or do it at other times."),
+    (REWRITTEN, "Rewritten", "These are said in another way, and do what the words say."),
+    (UNSEEN, "Unseen", "These are for the eyes and ears, or for other programs. No rule changes."),
+)
+SUM = "<!-- written by adopt: {} {} -->"
+SUMS = re.compile(r"^<!-- written by adopt: ([0-9a-f]{64}) (.+) -->$", re.M)
+
+
+def report(ctx: Context, folder: str, unposted: list[tuple[str, str]], files: dict[str, str]) -> str:
+    lines = [
+        "# What became of the MPF folder",
+        "",
+        f"`pinball-help adopt` has made this folder of `{clean(folder)}`. `pinball check` accepts it. That answer is "
+        f"about",
+        "this folder, and not about what MPF runs: this page lists all that differs. Places are lines of the MPF "
+        "folder.",
+        "",
+        counted(ctx),
+    ]
+    for effect, title, about in HEADS:
+        some = [it for it in ctx.done if it.effect == effect]
+        if some:
+            lines += ["", f"## {title}", "", about, "", *by_feature(some)]
+    if unposted:
+        lines += ["", "## Handled, and nothing posts it", "",
+                  "These entries are written, and never run: nothing here posts the event.", ""]
+        lines += [f"- `{clean(name)}`: {clean(place)}" for name, place in unposted]
+    lines += ["", *(SUM.format(sum_of(text), name) for name, text in files.items()), ""]
+    return "\n".join(lines)
+
+
+def sum_of(text: str) -> str:
+    return hashlib.sha256(text.encode("utf-8", "surrogateescape")).hexdigest()
+
+
+def counted(ctx: Context) -> str:
+    counts = {effect: len({it.place for it in ctx.done if it.effect == effect}) for effect, _, _ in HEADS}
+    kept = f"kept as they are: {len(ctx.kept)} lines, "
+    return kept + ", ".join(f"{effect}: {count} places" for effect, count in counts.items()) + "."
+
+
+def by_feature(some: list[Done]) -> list[str]:
+    found: dict[str, list[Done]] = {}
+    for it in some:
+        found.setdefault(FEATURES[it.feature].title, []).append(it)
+    lines = []
+    for title, all_of_it in found.items():
+        here = FEATURES[all_of_it[0].feature].here
+        lines += wrapped(f"- **{plain(title)}**: {plain(here)}", "  ")
+        said: dict[str, list[Done]] = {}
+        for it in all_of_it:
+            said.setdefault(it.says, []).append(it)
+        for words, those in said.items():
+            places = ", ".join(dict.fromkeys(shown(it) for it in those))
+            lines += wrapped(f"  - {places}" + (f": {clean(words)}" if words else ""), "    ")
+    return lines
+
+
+def wrapped(line: str, margin: str) -> list[str]:
+    return textwrap.wrap(line, 110, subsequent_indent=margin, break_long_words=False, break_on_hyphens=False)
+
+
+def plain(cell: str) -> str:
+    """The words of a cell of the page's table."""
+    return cell.replace("\\|", "|")
+
+
+def shown(one: Done) -> str:
+    place = one.place
+    last = f"-{place.last}" if place.last > place.line else ""
+    return clean(f"{place.file}:{place.line}{last}")
+
+
+def table() -> list[str]:
+    """The table of the page."""
+    lines = ["| In MPF | How common | Here | |", "|---|---|---|---|"]
+    return lines + [row(it) for it in TABLE]
+
+
+def row(feature: Feature) -> str:
+    return f"| {feature.title} | {feature.common} | {feature.effect} | {feature.here} |"

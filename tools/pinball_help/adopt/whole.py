@@ -1,0 +1,309 @@
+"""Adopts a whole folder: what has to be known first, section by section, and what the sections need of each other."""
+from pathlib import Path
+from typing import Callable
+
+from .. import profile, tables
+from . import balls, players, playfield, settings, values
+from .context import Context
+from .draft import NoRoom, Taken, sections
+from .features import FEATURES
+from .source import Given, Part, Place, read
+
+OF_MPF = ("attract", "game", "tilt", "bonus", "high_score", "credits", "service", "carousel", "match")
+# MPF's sections that are rewritten
+REWRITTEN: dict[str, Callable[[Context, str, Given], None]] = {
+    "event_player": players.of_events,
+    "coil_player": players.of_coils,
+    "variable_player": players.of_variables,
+    "scoring": players.of_variables,
+    "random_event_player": players.of_random,
+    "drop_targets": playfield.of_drop_targets,
+    "drop_target_banks": playfield.of_banks,
+    "diverters": playfield.of_diverters,
+    "kickbacks": playfield.of_kickbacks,
+    "spinners": playfield.of_spinners,
+    "combo_switches": playfield.of_combos,
+    "timed_switches": playfield.of_timed,
+    "sequence_shots": playfield.of_sequence_shots,
+    "state_machines": playfield.of_state_machines,
+    "ball_holds": balls.of_holds,
+    "extra_balls": balls.of_extra,
+    "extra_ball_groups": balls.of_extra_groups,
+    "tilt": balls.of_tilt,
+}
+FIRST = ("switches", "coils", "ball_devices", "mode", "game", "machine", "flippers", "autofire_coils", "timers")
+LAST = ("event_player", "random_event_player", "coil_player", "variable_player", "scoring")
+settings.AFTER |= {"ball_saves": (balls.of_save,), "multiballs": (balls.of_multiball,)}
+
+
+def adopt(folder: Path) -> Context:
+    """Makes the new machine of a folder. Raises OSError or ValueError if its text of the machine cannot be read."""
+    ctx = Context(read(folder))
+    prepare(ctx)
+    for part in ctx.source.parts:
+        if part.mode:
+            ctx.draft.modes.append(part.mode)
+            ctx.draft.texts.setdefault(part.mode, {})
+    for part in ctx.source.parts:
+        of_part(ctx, part)
+    finish(ctx)
+    return ctx
+
+
+# what has to be known before
+
+
+def prepare(ctx: Context) -> None:
+    of_files(ctx)
+    for part in list(ctx.source.parts):
+        if part.mode and (len(ctx.listed) == tables.MOST_MODES or part.mode == "machine"):
+            ctx.source.parts.remove(part)
+            for section in part.sections():
+                ctx.lose("too many" if part.mode != "machine" else "bad name", section, f"the mode `{part.mode}`")
+        elif part.mode:
+            ctx.listed.add(part.mode)
+    for part in ctx.source.parts:
+        for section in part.sections():
+            for entry in section.inside():
+                learn(ctx, part, section, entry)
+        if part.mode and part.mode != "attract":
+            modes = [it for it in part.sections() if it.key == "mode"]
+            if not any(it.says("game_mode").lower() in values.NO for it in modes):
+                ctx.game_modes.add(part.mode)
+        for section in part.sections():
+            if section.key == "tilt" and section.is_mapping and balls.tilts(ctx, section):
+                ctx.tilt_events, ctx.tilt_given = ["tilt"], section
+    listed(ctx)
+    for section in ctx.source.parts[0].sections():
+        heads(ctx, section)
+
+
+def learn(ctx: Context, part: Part, section: Given, entry: Given) -> None:
+    """What other sections have to know of an entry."""
+    if section.key == "switches":
+        ctx.switches.add(entry.key)
+        for tag in entry.names("tags"):
+            ctx.tags.setdefault(tag, []).append(entry.key)
+    elif section.key in ("variable_player", "scoring"):
+        ctx.variables |= {it.key for it in entry.inside()}
+    elif section.key in ("player_vars", "state_machines"):
+        ctx.variables.add(entry.key)
+    elif section.key == "settings" and (value := entry.at("default")) and not value.is_mapping:
+        number = ctx.number(value.text.strip("'\""))
+        if number is not None:
+            ctx.settings[entry.key] = number
+    elif section.key == "mpf" and entry.key == "default_pulse_ms":
+        value = ctx.time(entry.text)
+        ctx.pulse_ms = str(value) if value and value <= 5_000 else ""
+
+
+def heads(ctx: Context, section: Given) -> None:
+    if section.key == "config":
+        ctx.log("config", section.place, ", ".join(section.words()[:20]))
+
+
+def of_files(ctx: Context) -> None:
+    """What is said of files: those that are not there, and lines that are no YAML."""
+    for name, given in ctx.source.missing:
+        ctx.lose("missing file", given, f"`{name[:80]}`")
+    for file in ctx.source.files:
+        for at in file.unread:
+            ctx.lose("not YAML", Given("", file.root, file, at, at + 1), f"`{file.lines[at].strip()[:60]}`")
+        for at in file.lax:
+            if at not in file.unclosed:
+                ctx.log("lax YAML", Place(file.name, at + 1, at + 1))
+        for at in file.unclosed:
+            ctx.lose("not closed", Given("", file.root, file, at, at + 1))
+
+
+def listed(ctx: Context) -> None:
+    """What is said of the modes that are listed."""
+    seen: set[str] = set()
+    for name, section in ctx.source.modes:
+        assert section
+        item = next((it for it in section.node.texts() if it.text.removeprefix("-") == name), None)
+        items = [it for it in section.node.texts() if it.text.removeprefix("-") == name]
+        item = items[-1] if name in seen and items else item
+        given = Given(name, section.node, section.file, item.line, item.line + 1) if item else section
+        if name in seen:
+            ctx.lose("entry twice", given, f"the mode `{name[:60]}`")
+        elif name not in ctx.listed and name in OF_MPF:
+            ctx.lose("modes of MPF", given, f"`{name}`", "unseen" if name in ("attract", "game", "service") else "lost")
+        elif name not in ctx.listed:
+            ctx.lose("missing file", given, f"the mode `{name[:60]}` has no text that can be read")
+        else:
+            ctx.keep(given)
+        seen.add(name)
+    for asked, found in ctx.source.case:
+        part = next((it for it in ctx.source.parts if asked.startswith(f"modes/{it.mode}")), ctx.source.parts[0])
+        ctx.log("letter case", Given("", part.files[0].root, part.files[0], 0, 1).place,
+                f"`{asked[:80]}` is `{found[:80]}`")
+
+
+# section by section
+
+
+def of_part(ctx: Context, part: Part) -> None:
+    comments_of_files(ctx, part)
+
+    def rank(section: Given) -> tuple[int, int]:
+        order = FIRST.index(section.key) - len(FIRST) if section.key in FIRST else section.key in LAST
+        return order, 0
+
+    seen: dict[str, str] = {}
+    for section in sorted(part.sections(), key=rank):
+        if section.key in seen and section.key in profile.sections():
+            ctx.log("section twice", section.place, f"`{section.key}`")
+        seen[section.key] = section.file.name
+        try:
+            of_section(ctx, part.mode, section)
+        except (NoRoom, Taken) as why:
+            ctx.lose("too many" if isinstance(why, NoRoom) else "entry twice", section, str(why), "lost")
+    if part.mode and "mode" not in seen:
+        settings.of_section(ctx, part.mode, Given("mode", type(part.files[0].root)(0, entries=[]), part.files[0], 0, 1))
+
+
+def comments_of_files(ctx: Context, part: Part) -> None:
+    """Keeps the comment at the front of a text."""
+    for line in part.files[0].lines[:60]:
+        if line.strip() and not line.startswith("#"):
+            break
+        if line.strip("# \t\r") and "config_version" not in line:
+            ctx.draft.heads.setdefault(part.mode, []).append(line.strip("# \t\r"))
+
+
+def of_section(ctx: Context, mode: str, section: Given) -> None:
+    key = section.key
+    if key in ("modes", "config"):
+        if mode or key == "modes" and section.is_mapping:
+            ctx.log("lists of events" if not mode else "bad value", section.place)
+        ctx.keep(section)
+    elif key in OTHER:
+        OTHER[key](ctx, mode, section)
+    elif key in REWRITTEN:
+        if key in profile.PLAYERS:
+            ctx.keep(section)
+        if not section.is_mapping and (section.text or section.is_list):
+            ctx.lose("bad value", section, f"`{key}` has no entries")
+            return
+        if key == "scoring":
+            ctx.log("scoring", section.place)
+        one_by_one(ctx, mode, section)
+    elif key in sections(False) or key in sections(True):
+        if key in sections(True) and key not in sections(False) and not mode and key == "mode":
+            ctx.lose("unknown section", section, "`mode` in the text of the machine")
+            return
+        settings.of_section(ctx, mode, section)
+    elif key in FEATURES:
+        ctx.lose(key, section)
+    else:
+        ctx.lose("unknown section", section, f"`{key[:60]}`")
+
+
+def one_by_one(ctx: Context, mode: str, section: Given) -> None:
+    """Rewrites the entries of a section; one that there is no room for is lost, and not the others."""
+    if section.key == "tilt":
+        REWRITTEN["tilt"](ctx, mode, section)
+        return
+    before = len(ctx.done)
+    for entry in section.node.entries or []:
+        alone = type(section.node)(section.node.line, section.node.start, section.node.end, "", [entry])
+        given = Given(section.key, alone, section.file, section.line, section.last)
+        try:
+            REWRITTEN[section.key](ctx, mode, given)
+        except (NoRoom, Taken) as why:
+            one = Given(entry.key, entry.value, section.file, entry.line, entry.last)
+            ctx.lose("too many" if isinstance(why, NoRoom) else "entry twice", one, str(why), "lost")
+    if before == len(ctx.done) and not section.node.entries and section.key in FEATURES:
+        ctx.log(section.key, section.place)
+
+
+def of_player_vars(ctx: Context, mode: str, section: Given) -> None:
+    ctx.log("player_vars", section.place)
+    for entry in section.inside():
+        value = entry.at("initial_value") or entry
+        number = ctx.number(value.text)
+        if entry.says("value_type", "int") not in ("int", "float") or number is None:
+            ctx.lose("player_vars of a text", value if value.text else entry, f"`{entry.key[:60]}`")
+        elif not values.NAME.fullmatch(f"player_{entry.key}"):
+            ctx.lose("bad name", entry)
+        elif number:
+            ctx.change("", "ball_will_start{current_player.ball == 1}",
+                       {entry.key: {"int": str(number), "action": "set"}},
+                       entry, "the first value of a player's variable")
+
+
+def of_dual_wound(ctx: Context, _mode: str, section: Given) -> None:
+    for entry in section.inside():
+        main, held = entry.says("main_coil"), entry.says("hold_coil")
+        ctx.dual[entry.key] = (main, held)
+        if not main or not held:
+            ctx.lose("dual_wound_coils", entry)
+    ctx.log("dual_wound_coils", section.place)
+
+
+def of_logic_blocks(ctx: Context, mode: str, section: Given) -> None:
+    ctx.log("logic_blocks", section.place)
+    for it in section.inside():
+        if it.key in ("counters", "accruals", "sequences"):
+            settings.of_section(ctx, mode, it)
+        else:
+            ctx.lose("unknown section", it)
+
+
+OTHER: dict[str, Callable[[Context, str, Given], None]] = {
+    "player_vars": of_player_vars, "dual_wound_coils": of_dual_wound, "logic_blocks": of_logic_blocks,
+}
+
+
+# what the sections need of each other
+
+
+def finish(ctx: Context) -> None:
+    settings.add_more(ctx)
+    settings.lower_coils(ctx)
+    for step in (playfield.banks, balls.launches, balls.holds, balls.shoot_again):
+        try:
+            step(ctx)
+        except (NoRoom, Taken) as why:
+            ctx.log("too many", ctx.source.parts[0].files and Given(
+                "", ctx.source.parts[0].files[0].root, ctx.source.parts[0].files[0], 0, 1).place, str(why))
+    balls.tilted(ctx)
+    dual_wound(ctx)
+    one_coil(ctx)
+    players.within_limits(ctx)
+    game(ctx)
+
+
+def dual_wound(ctx: Context) -> None:
+    for written in ctx.draft.section("", "flippers").values():
+        if isinstance(written.value, dict) and (found := ctx.dual.get(str(written.value.get("main_coil")))):
+            main, held = found
+            written.value["main_coil"] = main
+            written.value.setdefault("hold_coil", held)
+            written.says.append("the two windings of a coil")
+
+
+def one_coil(ctx: Context) -> None:
+    """A flipper of one coil that may be held is held, and never pulsed first."""
+    for written in ctx.draft.section("", "flippers").values():
+        value = written.value
+        if isinstance(value, dict) and not value.get("hold_coil") and ctx.may_hold(str(value.get("main_coil"))):
+            ctx.log("flipper of one coil", written.places[0], f"`{value.get('main_coil')}`")
+
+
+def game(ctx: Context) -> None:
+    """MPF has a game always; here only with a section `game`, and with a switch whose tag is `start`."""
+    sections = ctx.draft.texts[""]
+    if ctx.start_tag != "start":
+        for switch in ctx.tags.get(ctx.start_tag, []):
+            written = sections.get("switches", {}).get(switch)
+            if written and isinstance(written.value, dict):
+                tags = written.value.setdefault("tags", [])
+                assert isinstance(tags, list)
+                tags += ["start"] if "start" not in tags else []
+                written.says.append("the start button")
+    if "game" not in sections and (ctx.tags.get("start") or ctx.tags.get(ctx.start_tag)):
+        sections["game"] = {}
+        file = ctx.source.parts[0].files[0]
+        ctx.log("no game", Given("", file.root, file, 0, 1).place)
