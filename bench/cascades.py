@@ -55,8 +55,8 @@ def log(size: int = 16 * MIB) -> str:
 
 
 def largest(part: int = 1) -> Iterator[str]:
-    """One `part`-th of 4,096 events that post 16,384 events: a third of them in one chain, a third in five layers each
-    event of which posts four of the next layer, a third as fans of 64 events over all others. Accepted: no weight is
+    """One `part`-th of 4,096 events that post 16,384 events. A third of them are one chain. A third are five layers: an
+    event of a layer posts four of the next one. Of the last third, 64 events post the others. Accepted: no weight is
     above the limit."""
     events, draw = EVENTS // part, random.Random(4)
     third = events // 3

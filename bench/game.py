@@ -7,7 +7,8 @@ from texts import VERSION
 
 SWITCHES = 10
 LINES = 100_000
-# So many actions are carried out at each change. Every fifth changes its variable; the others set it to the value that it has.
+# So many actions are carried out at each change. Every fifth changes its variable. The others set theirs to the value
+# that it has.
 ACTIONS = 100
 EVERY = 5
 SUMS = range(EVERY, ACTIONS, EVERY)

@@ -69,7 +69,7 @@ def measured(command: list[str], path: pathlib.Path, runs: int) -> Cost:
 
 
 def measured_in_turn(commands: list[list[str]], paths: list[pathlib.Path], runs: int) -> list[Cost]:
-    """The same for each of these commands and its file: each is run once, and then all of them again. So where the
+    """The same for each of these commands and its file: each is run once, and then all of them again. So if the
     machine's speed changes, it changes for all."""
     pairs = [*zip(commands, paths)]
     results = [[timed(command, path) for command, path in pairs] for _ in range(runs)]

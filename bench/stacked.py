@@ -29,8 +29,8 @@ def settings(starts: str, stops: str, priority: int) -> str:
 
 
 def largest(part: int = 1) -> bytes:
-    """64 modes that share one `part`-th of 16,384 bindings: two of each start and stop it, and the others post an event
-    each, if they handle what other modes handle too. Accepted: what they post has no handler."""
+    """64 modes that share one `part`-th of 16,384 bindings: two of each start and stop it, and each of the
+    others posts an event, at one that other modes handle too. Accepted: what they post has no handler."""
     names = [f"m_{n}" for n in range(MODES)]
     machine = f"{VERSION}modes: {', '.join(names)}\n"
     return bundle(machine, {name: "".join(handlers(n, part)) for n, name in enumerate(names)})

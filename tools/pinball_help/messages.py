@@ -169,7 +169,7 @@ MESSAGES = {
         "The moment is before that of an earlier line.", "Sort the lines by their moments.", LOG
     ),
     "refused 2 TooLate": Message(
-        "The moment is 2^40 ms or more, some 34 years.", "Count from the start of the machine.", LOG
+        "The moment is 2^40 ms or more, almost 35 years.", "Count from the start of the machine.", LOG
     ),
     "refused 4 BoardFault": Message(
         "The board has not taken a command. The log ends here, and the coils are off.", "Look at the board.", LOG
