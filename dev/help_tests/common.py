@@ -1,5 +1,6 @@
 """What the tests of tools/pinball-help share: the list of tests, and the program that is asked."""
 import sys
+import time
 from pathlib import Path
 from typing import Callable
 
@@ -10,6 +11,7 @@ PROGRAM = Program(str(Path(sys.argv[1] if sys.argv[1:] else TOP / "crates/pinbal
 IS_UNPROVED = b"__asan_init" in Path(PROGRAM.path).read_bytes() if Path(PROGRAM.path).is_file() else False
 EXAMPLES = sorted(it.parent for it in (TOP / "examples").glob("*/expected-check"))
 TESTS: list[Callable[[], None]] = []
+QUIET = 0.14  # s: what the sum below takes on the computer on which limits of time were set, with nothing beside it
 
 
 class NotTried(Exception):
@@ -19,3 +21,17 @@ class NotTried(Exception):
 def test(function: Callable[[], None]) -> Callable[[], None]:
     TESTS.append(function)
     return function
+
+
+def slowness() -> float:
+    """How many times as long work takes here and now as on a quiet computer, by a fixed sum; 1 if it takes no longer.
+
+    Other work makes a computer slow, also by processor time. A limit of seconds is for a quiet one."""
+    start = time.process_time()
+    sum(it * it for it in range(2_000_000))
+    return max(1.0, (time.process_time() - start) / QUIET)
+
+
+def takes_longer(seconds: float, limit: float) -> bool:
+    """Whether so many seconds of processor time are more than a limit for a quiet computer."""
+    return seconds > limit and seconds > limit * slowness()

@@ -17,7 +17,7 @@ if __name__ == "__main__":
 
 from help_tests.adopted_draws import draw_folder
 from help_tests.adopted_plays import PLAYS, Play
-from help_tests.common import PROGRAM, TOP, test
+from help_tests.common import PROGRAM, TOP, takes_longer, test
 from help_tests.folders import damaged
 from pinball_help import outline
 from pinball_help.adopt import report, run
@@ -240,7 +240,7 @@ def wrong(seed: int, make: Callable[[random.Random, Path], Path]) -> str:
         answer = PROGRAM.check(room / "new")
         if not answer.accepted:
             return f"{seed}: {answer.complaints}"
-        if seconds > MOST_SECONDS:
+        if takes_longer(seconds, MOST_SECONDS):
             return f"{seed}: {seconds:.1f} s"
         left = any(it.says == "the whole machine" for it in made.context.done)
         return f"{seed}: nothing is left of it" if left and make is not hostile_folder else ""

@@ -18,7 +18,7 @@ if __name__ == "__main__":
     sys.dont_write_bytecode = True
     sys.path[:0] = [str(Path(__file__).resolve().parents[2] / it) for it in ("tools", "dev")]
 
-from help_tests.common import IS_UNPROVED, PROGRAM, TOP, NotTried, test
+from help_tests.common import IS_UNPROVED, PROGRAM, TOP, NotTried, takes_longer, test
 from help_tests.slips import SLIPS, Slip, planted
 from pinball_help import command, errors, short
 from pinball_help.findings import Finding
@@ -356,7 +356,7 @@ def the_errors_of_a_large_machine_take_a_second() -> None:
             subprocess.run([*words, option, str(MACHINES / "modern")], capture_output=True)
             after = resource.getrusage(resource.RUSAGE_CHILDREN)
             seconds.append(after.ru_utime + after.ru_stime - before.ru_utime - before.ru_stime)
-        assert min(seconds) <= 1, (option, seconds)
+        assert not takes_longer(min(seconds), 1), (option, seconds)
 
 
 @test

@@ -5,7 +5,6 @@ It is written once, and played by the log's time, over requests, and by clicks: 
 from typing import Any, Callable, Protocol
 
 State = dict[str, Any]
-LONG = ("the ball save is over",)  # what takes ten seconds, and happens by itself
 
 
 class Hand(Protocol):

@@ -18,12 +18,11 @@ from . import chromium, games
 from .chromium import Chromium
 from .harness import COMPLETE, TOP, Skipped, Table, equal, folder_of, played, test
 from .of_boards import board_and_table, hold_a_coil
-from .of_pages import HOSTILE, LABELS
+from .of_pages import HOSTILE, LABELS, PageHand
 
 WIDE, NARROW = (1280, 900), (390, 844)
 SHIFT = 8  # (the modifier of a mouse event)
 TARGET = 25  # px: the least height of a button
-QUICK, FAST = 3.16, 10  # speeds
 BROWSERS = threading.BoundedSemaphore(2)  # so many at once: each is a dozen processes
 AT_END = "(it => it.scrollTop + it.clientHeight > it.scrollHeight - 2)(document.getElementById('trace'))"
 LOOK = (
@@ -70,44 +69,41 @@ def keep(page: Chromium, name: str) -> None:
             page.shot(Path(folder) / f"{name}-{width}.png", width == NARROW[0])
 
 
-class ClickHand:
-    """Plays by clicks. The time stands still between them, and is fast while nobody can be late."""
+class ClickHand(PageHand):
+    """Plays by clicks and keys. The page carries them out in order, so each is awaited before the next."""
 
     def __init__(self, page: Chromium, table: Table):
-        self.page, self.table = page, table
-        self.pause()
-
-    def set_speed(self, speed: float) -> None:
-        if self.table.state()["speed"] != speed:
-            self.page.run(
-                f"(() => {{ const it = document.getElementById('speed'); it.value = Math.log10({speed});"
-                " it.dispatchEvent(new Event('input')); })()")
-            self.page.until(f"window.pinball.speed === {speed}")
+        self.page = page
+        super().__init__(table)
 
     def pause(self) -> None:
         self.page.click("#pause")
         self.page.until("window.pinball.paused")
 
-    def tap(self, switch: str) -> None:
+    def begin_tap(self, switch: str) -> None:
         self.page.click(f'[data-switch="{switch}"]')
-        begun = self.table.state()["now"]
-        self.until("it is over", lambda it: it["now"] >= begun + 120 and not it["held"])
+        self.page.until(f"window.pinball.active.includes('{switch}') && !window.pinball.held.length")
+
+    def step(self) -> None:
+        before = self.table.state()["steps"]
+        self.page.click("#step")
+        self.table.until(lambda it: it["steps"] > before)
 
     def hold(self, switch: str) -> None:
         self.page.key("keyDown", {"s_left_button": "z"}[switch])
+        self.page.until(f"window.pinball.held.includes('{switch}')")
 
     def let_go(self, switch: str) -> None:
         self.page.key("keyUp", {"s_left_button": "z"}[switch])
+        self.page.until("!window.pinball.held.length")
 
     def drain(self) -> None:
+        before = self.table.state()["loose"]
         self.page.click('[data-act="drain"]')
+        self.table.until(lambda it: it["loose"] < before)
 
     def until(self, what: str, holds: Callable[[dict[str, Any]], bool]) -> None:
-        self.set_speed(FAST if what in games.LONG else QUICK)
-        self.page.click("#pause")
-        self.page.until("!window.pinball.paused")  # (the button does what the page shows)
-        self.table.until(holds)
-        self.pause()
+        super().until(what, holds)
         self.page.until(f"(() => {{ {LOOK} return {SHOWN.get(what, 'true')}; }})()")
         if what in ("two balls lie in the trough", "the hurry-up runs", "the flipper is held", "the game is over"):
             keep(self.page, what.replace(" ", "-"))

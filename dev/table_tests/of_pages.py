@@ -50,13 +50,22 @@ class PageHand:
 
     def __init__(self, table: Table):
         self.table = table
-        table.do("pause")
         self.stays = {it["name"] for it in json.loads(table.get("/about"))["switches"] if it["stays"]}
+        self.pause()
+
+    def pause(self) -> None:
+        self.table.do("pause")
+
+    def begin_tap(self, switch: str) -> None:
+        self.table.do("tap", switch=switch)
+
+    def step(self) -> None:
+        self.table.do("step")
 
     def tap(self, switch: str) -> None:
         line = f" switch {switch} {'active' if switch in self.stays else 'inactive'}\n"
         before = self.table.get("/trace").count(line)
-        self.table.do("tap", switch=switch)
+        self.begin_tap(switch)
         self.until(f"{switch} was hit", lambda _: self.table.get("/trace").count(line) > before)
 
     def hold(self, switch: str) -> None:
@@ -72,8 +81,7 @@ class PageHand:
         for _ in range(MOST_STEPS):
             if holds(state := self.table.state()):
                 return
-            status, said = self.table.request("POST", "/step", b"{}", X_Pinball="1")
-            assert status == 200, f"{what}: {said.decode()}"
+            self.step()
         raise AssertionError(f"not within {MOST_STEPS} steps: {what}: {state}")
 
 
