@@ -130,10 +130,10 @@ def an_opened_log_goes_on_at_its_speed() -> None:
     with Table(COMPLETE, "--open", str(COMPLETE / "log")) as table:
         table.do("speed", speed=10)
         table.do("go")
-        table.until(lambda it: it["now"] > 3600)
+        # (the clock may be ahead of the steps while the program works)
+        table.until(lambda it: it["now"] > 3600 and games.score(it, 1) >= 10)
         table.do("pause")
-        state = table.state()
-        assert state["players"]["1"]["score"] >= 10 and state["future"] > 0, state
+        assert table.state()["future"] > 0
         table.do("tap", switch="s_lane_left")
         equal(table.until(lambda it: it["future"] == 0)["phase"], "ball in play")
 
