@@ -7,11 +7,10 @@ from ..printed import clean
 from ..program import Program
 from . import report, run
 
-ABOUT = "makes a folder that check accepts of the folder of an MPF machine"
+ABOUT = "makes a copy of an MPF machine that check accepts"
 EPILOG = (
     "NEW_FOLDER/ADOPTED.md lists what was rewritten, and what was left out. MPF_FOLDER is never changed. Run it again "
-    "after MPF_FOLDER has changed: if you have changed NEW_FOLDER meanwhile, it prints what differs, and writes "
-    "nothing. "
+    "after MPF_FOLDER has changed: if you have changed NEW_FOLDER too, it prints what differs, and writes nothing. "
     "The status is 0 if the folder is written, and 1 if it is not."
 )
 

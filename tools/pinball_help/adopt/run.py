@@ -151,8 +151,7 @@ def shown(adopted: Adopted, new: Path) -> list[str]:
     name = clean(str(new))
     return [
         f"{name}: pinball check answers yes, about this folder and not about what MPF runs.",
-        f"{counts[REWRITTEN]} places are rewritten. {counts[WEAKENED]} rules are weakened, and {counts[LOST]} places "
-        f"are lost. "
-        f"{counts[UNSEEN]} are for the eyes and ears alone.",
+        f"Places of the MPF folder: {counts[REWRITTEN]} rewritten, {counts[WEAKENED]} weakened, {counts[LOST]} lost, "
+        f"{counts[UNSEEN]} only unseen.",
         f"Read {name}/{report.NAME}: it lists all of them, by feature.",
     ]
