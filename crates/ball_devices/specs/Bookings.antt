@@ -135,6 +135,6 @@ Says Awaited to_devices playfield = 0 < to_devices
 Says Found to_devices playfield = (to_devices ≡ 0) × (0 < playfield)
 Says New to_devices playfield = (to_devices ≡ 0) × (playfield ≡ 0)
 
--- 1 where this holds
+-- 1 if this holds, 0 if not
 abbrev pub one : Bool → ℕ
 one b = cond b 1 0

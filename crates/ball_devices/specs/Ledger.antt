@@ -64,7 +64,7 @@ set_transit (Device d) n l = record l { to_devices = slice_set l.to_devices d.0 
 
 -- ---- bookings
 
--- Where a ball that enters a device comes from: one on its way to the device, else one on the playfield, else a new one.
+-- Where a ball that enters a device comes from: one on its way to it, else one on the playfield, else a new one.
 abbrev pub origin_of : RowId → Ledger → Origin
 origin_of d l = if nat_lt 0 (transit_to l (Device d)) then Awaited else (if nat_lt 0 l.playfield then Found else New)
 

@@ -24,7 +24,7 @@ impl BallDevice {
     ghost use Rattle.device_objects.specs.DeviceStep.{first_state};
     ghost use Rattle.ball_devices.specs.Kind.{IsBallDevice};
 
-    /// The ball device of a row, in its first state. None exactly where the row is of another kind.
+    /// The ball device of a row, in its first state. None exactly if the row is of another kind.
     pub fn new(row: &DeviceRow) -> Option<Self>
         ensures kind { IsSome result ↔ IsBallDevice row.now.settings }
         ensures row { IfSome result (λ d. ⟦<BallDevice as Device>⟧.row_of d ≡ row.now) }

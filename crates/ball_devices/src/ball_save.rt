@@ -24,7 +24,7 @@ impl BallSave {
     ghost use Rattle.device_objects.specs.DeviceStep.{first_state};
     ghost use Rattle.ball_devices.specs.Kind.{IsBallSave};
 
-    /// The ball save of a row, in its first state. None exactly where the row is of another kind.
+    /// The ball save of a row, in its first state. None exactly if the row is of another kind.
     pub fn new(row: &DeviceRow) -> Option<Self>
         ensures kind { IsSome result ↔ IsBallSave row.now.settings }
         ensures row { IfSome result (λ d. ⟦<BallSave as Device>⟧.row_of d ≡ row.now) }
@@ -90,7 +90,7 @@ fn first_state() -> SaveState
     }
 }
 
-/// The moment at which it ends by itself, where it is enabled now.
+/// The moment at which it ends by itself, if it is enabled now.
 fn end_of(settings: &SaveSettings, now: u64) -> Option<u64>
     requires { now < 2 ^ 40 }
     ensures { result ≡ end_of settings.now now }

@@ -23,7 +23,7 @@ impl Multiball {
     ghost use Rattle.device_objects.specs.DeviceStep.{first_state};
     ghost use Rattle.ball_devices.specs.Kind.{IsMultiball};
 
-    /// The multiball of a row, in its first state. None exactly where the row is of another kind.
+    /// The multiball of a row, in its first state. None exactly if the row is of another kind.
     pub fn new(row: &DeviceRow) -> Option<Self>
         ensures kind { IsSome result ↔ IsMultiball row.now.settings }
         ensures row { IfSome result (λ d. ⟦<Multiball as Device>⟧.row_of d ≡ row.now) }

@@ -42,7 +42,7 @@ module _ (plan : PlanView) (valid : HasEntries plan) (left : List ℕ) (order : 
         whole = λ e l. o.listed e l ∙ sym (grounded_is plan valid left order o e l) ∙ all_grounded e l;
       }
 
--- ---- where every event is grounded
+-- ---- if every event is grounded
 
 module _ (plan : PlanView) (valid : HasEntries plan) (all : (e : EventId) → e.0 < length plan.events → grounded plan e ≡ true) where
   pub ranks_least : IsLeastFitting plan (ranks plan)
@@ -75,6 +75,6 @@ module _ (plan : PlanView) (valid : HasEntries plan) (all : (e : EventId) → e.
     pub too_dear : ¬ (IsWithinLimit plan weights) → IsTooDear plan
     too_dear above = search (rules, ranks_least, both_ways, above_test, is_within_limit-true)
 
--- the same, where none is open
+-- the same, if none is open
 pub not_open-least : (plan : PlanView) → HasEntries plan → ((e : EventId) → e.0 < length plan.events → is_open plan e ≡ false) → IsLeastFitting plan (ranks plan)
 not_open-least plan valid none = ranks_least plan valid (λ e l. not-false (grounded plan e) (none e l))

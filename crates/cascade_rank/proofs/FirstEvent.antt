@@ -58,7 +58,7 @@ module _ (plan : PlanView) (p : EventId → Bool) where
             },
           )
 
-  -- where nothing is found no event passes
+  -- if nothing is found, no event passes
   pub first_event-None : first_event plan p ≡ None → (e : EventId) → e.0 < length plan.events → p e ≡ false
   first_event-None nothing e h =
       elim (cases_lt (position_or_len p (events_of plan)) (length (events_of plan))) [
@@ -75,7 +75,7 @@ module _ (plan : PlanView) (p : EventId → Bool) where
       let found : position p (events_of plan) ≡ Some e.0 = rw (at, count) (cond-true _ (Some e.0) None (lt-ltb e.0 (length plan.events) h)) in
       first_event-place ∙ ap (option_map event) found
 
-  -- where no event passes nothing is found
+  -- if no event passes, nothing is found
   pub first_event-nothing : ((e : EventId) → e.0 < length plan.events → p e ≡ false) → first_event plan p ≡ None
   first_event-nothing fails =
       let n = length plan.events in

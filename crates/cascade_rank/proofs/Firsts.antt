@@ -124,7 +124,7 @@ module _ (plan : PlanView) where
         least = λ d less. sym (ap p (event_number plan d.0 (omega (arith, less, l)))) ∙ fails_before_first p (events_of plan) d.0 no_event (omega (arith, less, is));
       }
 
-  -- there is one where an event passes
+  -- there is one if an event passes
   pub first_below : (p : EventId → Bool) (k : EventId) → k.0 < length plan.events → p k ≡ true → position_or_len p (events_of plan) < length plan.events
   first_below p k l h = elim (cases_lt (position_or_len p (events_of plan)) (length plan.events)) [
     | inl less ↦ less

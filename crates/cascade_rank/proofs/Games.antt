@@ -14,7 +14,7 @@ use Rattle.player_game.specs.Choices.{choices}
 event_of_game-below : (n : ℕ) (game : Option GameRules) → IfSome game (IsGameWithin n) → 0 < n → (which : GameEvent) → (event_of_game game which).0 < n
 event_of_game-below n game within some which = search (rules, cases_lt, All-get_or, get_or_past)
 
--- ---- where there is work in the game, the plan has an event
+-- ---- if there is work in the game, the plan has an event
 
 -- whether the work is not in the game
 abbrev IsOfMode : Work → Type 0

@@ -50,7 +50,7 @@ module _ (plan : PlanView) (valid : HasEntries plan) (left : List ℕ) (order : 
   grounded-order (suc k) e l h =
       closed e l (all_mentioned-weaker (grounded_in plan k) (is_in order) (cost_of_event plan e) (λ f m. grounded-order k f (mentioned_below plan valid e f m)) h)
 
-  -- an event is grounded where nothing is left of it
+  -- an event is grounded if nothing is left of it
   pub grounded_is : (e : EventId) → e.0 < length plan.events → grounded plan e ≡ (left_of left e == 0)
   grounded_is e l = same_bool (grounded plan e) (is_in order e) (grounded-order (length plan.events) e l) (order-grounded e) ∙ o.listed e l
 
@@ -114,7 +114,7 @@ module _ (plan : PlanView) where
       ∙ ap (rank plan) (event_number plan e.0 l)
 
 module _ (plan : PlanView) (weights : List ℕ) (are : AreRanks plan weights) where
-  -- where each is within the limit, they are the ranks
+  -- if each is within the limit, they are the ranks
   all_small : list_all (λ w. nat_le w greatest) weights ≡ true → weights ≡ ranks plan
   all_small h =
       let each = AllPass-from_list_all (λ w. nat_le w greatest) weights h in

@@ -14,6 +14,6 @@ coils-few plan valid = valid.coil_limit
 pub rows-few : (plan : PlanView) → IsValid plan → length plan.rows ≤ 1024
 rows-few plan valid = valid.row_limit
 
--- where there is no list of this number, it has no actions
+-- if there is no list of this number, it has no actions
 pub actions-few : (plan : PlanView) → IsValid plan → (l : ListId) → length (actions_at plan l) ≤ 1024
 actions-few plan valid l = search (rules, cases_lt, All-get_or, get_or_past)

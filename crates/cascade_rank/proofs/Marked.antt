@@ -31,7 +31,7 @@ actions_at_place plan p = actions_of_target plan (binding_at plan p).target
 abbrev pub actions_of_lists : PlanView → RowId → List Action
 actions_of_lists plan r = flat_map (λ k. actions_at plan (list_of_row plan r k)) (range_with_len 0 (list_count (row_at plan r).settings))
 
--- those of what passes a test, and of all where the others have none
+-- those of what passes a test, and of all if the others have none
 flat_map-filter : {X : Type 0} (p : X → Bool) (f : X → List Action) (xs : List X) → flat_map f (filter p xs) ≡ flat_map (λ x. if p x then f x else []) xs
 flat_map-filter p f [] = refl
 flat_map-filter p f (x ∷ xs) = search (rules, flat_map-filter p f xs)

@@ -23,7 +23,7 @@ all_mentioned_at p (Greater a b) e h m =
       | inr k ↦ all_mentioned_at p b e parts.1 k
     ]
 
--- a test that holds of each mentioned event where another does
+-- a test that holds of each mentioned event of which another does
 pub all_mentioned-weaker : (p q : EventId → Bool) (c : Cost) → ((e : EventId) → mentions e c ≡ true → p e ≡ true → q e ≡ true) → all_mentioned p c ≡ true → all_mentioned q c ≡ true
 all_mentioned-weaker p q (Lines n) h y = refl
 all_mentioned-weaker p q (Weight e) h y = h e (eq-eqb e.0 e.0 refl) y
@@ -38,7 +38,7 @@ all_mentioned-weaker p q (Greater a b) h y =
     let r = all_mentioned-weaker p q b (λ e m. h e (or_right (mentions e a) (mentions e b) m)) parts.1 in
     grind (arith, l, r)
 
--- where it fails, it fails of a mentioned event
+-- if it fails, it fails of a mentioned event
 pub all_mentioned-fails : (p : EventId → Bool) (c : Cost) → all_mentioned p c ≡ false → (e : EventId) × (mentions e c ≡ true) × (p e ≡ false)
 all_mentioned-fails p (Lines n) h = absurd (false≢true (sym h))
 all_mentioned-fails p (Weight e) h = (e, eq-eqb e.0 e.0 refl, h)
@@ -60,14 +60,14 @@ price-capped cap w (Weight e) = omega arith
 price-capped cap w (Both a b) = omega (arith, price-capped cap w a, price-capped cap w b)
 price-capped cap w (Greater a b) = omega (arith, price-capped cap w a, price-capped cap w b)
 
--- all are met exactly where none is unmet
+-- all are met exactly if none is unmet
 pub unmet-none : (p : EventId → Bool) (c : Cost) → all_mentioned p c ≡ (unmet p c == 0)
 unmet-none p (Lines n) = refl
 unmet-none p (Weight e) = search rules
 unmet-none p (Both a b) = grind (arith, nat_tests, unmet-none p a, unmet-none p b)
 unmet-none p (Greater a b) = grind (arith, nat_tests, unmet-none p a, unmet-none p b)
 
--- where one event more is met, its occurrences are no longer unmet
+-- if one event more is met, its occurrences are no longer unmet
 module _ (p q : EventId → Bool) (f : EventId) (fresh : p f ≡ false) (more : (e : EventId) → q e ≡ (p e || f.0 == e.0)) where
   one : (x y z : Bool) → y ≡ (x || z) → (z ≡ true → x ≡ false) → cond x 0 1 ≡ cond y 0 1 + cond z 1 0
   one x y z h k = search rules

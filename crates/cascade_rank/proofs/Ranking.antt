@@ -34,7 +34,7 @@ module _ (plan : PlanView) (valid : HasEntries plan) where
       let fits = fit e h in
       omega (arith, less, fits)
 
-  -- where all are grounded, the ranks fit
+  -- if all are grounded, the ranks fit
   pub rank-fits : ((e : EventId) → e.0 < length plan.events → grounded plan e ≡ true) → IsFitting plan (rank plan)
   rank-fits all e h =
       let same = rank-stable plan (length plan.events) e (all e h) in

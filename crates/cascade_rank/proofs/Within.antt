@@ -40,7 +40,7 @@ pub IsBelow-each_of : {X : Type 0} (n : ℕ) (f : X → Cost) (xs : List X) → 
 IsBelow-each_of n f [] h = tt
 IsBelow-each_of n f (x ∷ xs) h = (h.0, IsBelow-each_of n f xs h.1)
 
--- where each of a list is within, all that they cost is below
+-- if each of a list is within, all that they cost is below
 pub each_below : {X : Type 0} (n : ℕ) (f : X → Cost) (P : X → Type 0) → ((x : X) → P x → IsBelow n (f x)) → (xs : List X) → All P xs → IsBelow n (each_of f xs)
 each_below n f P each xs h = search (rules, IsBelow-each_of, recursion_from_All, All-weaker)
 
@@ -75,7 +75,7 @@ module _ (plan : PlanView) (valid : HasEntries plan) where
   pub mode_event-within : (m : ModeId) (which : ModeEvent) → m.0 < length plan.modes → (mode_event plan m which).0 < length plan.events
   mode_event-within m which inside = search rules
 
-  -- so is the end of the ball, where it waits for a mode
+  -- so is the end of the ball, when it waits for a mode
   IsBelow-end : (m : ModeId) → m.0 < length plan.modes → (holds : Bool) → IsBelow (length plan.events) (cost_if_led (if holds then Some (game_event plan BallEnded) else None))
   IsBelow-end m there true = let some = mode_event-within m Stopped there in game_event-below plan valid (omega (arith, some)) BallEnded
   IsBelow-end m there false = tt
@@ -92,7 +92,7 @@ module _ (plan : PlanView) (valid : HasEntries plan) where
   list_of_row-within : (r : RowId) → r.0 < length plan.rows → (k : ℕ) → k < list_count (row_at plan r).settings → (list_of_row plan r k).0 < length plan.lists
   list_of_row-within r l k less = omega (arith, less, (valid.rows r l).lists)
 
-  -- what a device of the plan answers to a call, where what telling costs is within
+  -- what a device of the plan answers to a call, if what telling costs is within
   module _ (tell : Telling → Cost) (within : (telling : Telling) → IsTellingWithin (length plan.rows) telling → IsBelow (length plan.events) (tell telling)) where
     IsBelow-action : (a : Action) → IsActionWithin plan a → IsBelow (length plan.events) (cost_of_action_by plan tell a)
     IsBelow-action a h = search (rules, game_event-below)
@@ -198,7 +198,7 @@ module _ (plan : PlanView) (valid : HasEntries plan) where
     ),
   )
 
-  -- a switch posts events of the plan; where there is none of its number, it posts nothing
+  -- a switch posts events of the plan; if there is none of its number, it posts nothing
   pub posts-below : (s : SwitchId) (active : Bool) → All (IsEventWithin (length plan.events)) (posts_of plan s active)
   posts-below s active = by active (elim (cases_lt s.0 (length plan.switches)) [
     | inl within ↦ All-get_or (IsSwitchWithin (length plan.events)) plan.switches s.0 no_switch within valid.switches
@@ -209,7 +209,7 @@ module _ (plan : PlanView) (valid : HasEntries plan) where
       by true h = h.0
       by false h = h.1
 
-  -- only devices of the plan listen to it; where there is none of its number, nothing does
+  -- only devices of the plan listen to it; if there is none of its number, nothing does
   pub listeners-below : (s : SwitchId) → All (IsListenerWithin (length plan.rows)) (listeners_of plan s)
   listeners-below s = search (rules, cases_lt, All-get_or, get_or_past, All-nil)
 

@@ -23,7 +23,7 @@ pub data Cost : Type 0 where
   Both : (a b : Cost) → Cost
   Greater : (a b : Cost) → Cost
 
--- the price of a cost where the event e weighs w e: a line is 1
+-- the price of a cost if the event e weighs w e: a line is 1
 abbrev pub price : (EventId → ℕ) → Cost → ℕ
 price w (Lines n) = n
 price w (Weight e) = w e
@@ -63,8 +63,8 @@ abbrev pub cost_of_drain : PlanView → Bool → Cost
 cost_of_drain plan drain = if drain then cost_of_post (game_event plan BallDrain) else Lines 0
 
 -- An action of a coil costs its line, whether its command is sent or skipped. One of a variable costs its line and the
--- post that follows it, whether the variable changes or not. A booking costs its line. A ball that enters a device costs
--- also the post of its event, and the dearer of the two that may follow: that it drains, or that the device that
+-- post that follows it, whether the variable changes or not. A booking costs its line. A ball that enters a device
+-- costs also the post of its event, and the dearer of the two that may follow: that it drains, or that the device that
 -- ejected it is told. To tell a device costs what `tell_cost` gives, and so do actions that ask for more balls.
 abbrev pub cost_of_action_by : PlanView → (Telling → Cost) → Action → Cost
 cost_of_action_by plan tell_cost (Post e) = cost_of_post e
@@ -129,7 +129,7 @@ cost_of_target plan (Act r act) = cost_of_call plan r (calls.Act act)
 abbrev pub cost_of_binding : PlanView → Binding → Cost
 cost_of_binding plan b = cost_of_target plan b.target
 
--- `ball_ended`, where the mode may have held the end of the ball
+-- `ball_ended`, if the mode may have held the end of the ball
 abbrev pub led_by_stopped : PlanView → ModeId → Option EventId
 led_by_stopped plan m = if may_hold_ball_end plan m then Some (game_event plan BallEnded) else None
 
@@ -172,11 +172,11 @@ cost_of_releases plan (Game which) = Lines 0
 abbrev pub cost_of_choice : PlanView → List GameEvent → Cost
 cost_of_choice plan posts = each_of (λ which. cost_of_post (game_event plan which)) posts
 
--- a line for each player there can be, where all scores are told
+-- a line for each player there can be, if all scores are told
 abbrev pub cost_of_scores : PlanView → GameEvent → Cost
 cost_of_scores plan which = Lines (if tells_scores which then most_players plan.game else 0)
 
--- one ball more is wanted, where a ball is asked for
+-- one ball more is wanted, if a ball is asked for
 abbrev pub cost_of_request : PlanView → GameEvent → Cost
 cost_of_request plan which = if asks_for_ball which then cost_of_telling plan (Wanted 1) else Lines 0
 
@@ -215,8 +215,8 @@ abbrev pub cost_of_playfield_switch : PlanView → SwitchId → Bool → Cost
 cost_of_playfield_switch plan switch active =
     if active && (switch_at plan switch).confirms_playfield then cost_of_telling plan (Arrived Playfield) else Lines 0
 
--- To accept a switch as active or inactive costs its line, the acts of the devices that listen to it, that a ball arrives
--- on the playfield, and its posts.
+-- To accept a switch as active or inactive costs its line, the acts of the devices that listen to it, that a ball
+-- arrives on the playfield, and its posts.
 abbrev pub cost_of_acceptance : PlanView → SwitchId → Bool → Cost
 cost_of_acceptance plan switch active =
     Both (Lines 1)

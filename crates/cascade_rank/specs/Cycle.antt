@@ -40,11 +40,11 @@ first_event plan p = find p (events_of plan)
 abbrev pub first_open : PlanView → Option EventId
 first_open plan = first_event plan (is_open plan)
 
--- the event to which a step from e goes; where there is none, its number is how many events the plan has
+-- the event to which a step from e goes; if there is none, its number is how many events the plan has
 abbrev pub next_open : PlanView → EventId → EventId
 next_open plan e = record { 0 = position_or_len (λ f. leads plan e f && is_open plan f) (events_of plan) }
 
--- the list without what comes before the first e, and empty where there is no e
+-- the list without what comes before the first e, and empty if there is no e
 abbrev pub from_first : EventId → List EventId → List EventId
 from_first e [] = []
 from_first e (d ∷ ds) = if d.0 == e.0 then d ∷ ds else from_first e ds

@@ -6,7 +6,7 @@ use Rattle.plan_tables.specs.{PlanView.PlanView, declared.entries.EventId.EventI
 abbrev pub events_of : PlanView → List EventId
 events_of plan = map (λ n. record { 0 = n }) (range_with_len 0 (length plan.events))
 
--- in place of an event where there is none
+-- in place of an event if there is none
 abbrev pub no_event : EventId
 no_event = record { 0 = 0 }
 

@@ -12,8 +12,8 @@ pub record AddsLeader (leader : EventId) (c : Cost) (old new : List (List EventI
   pub count : length new ≡ length old
   pub more : (f e : EventId) → f.0 < length old → times (leaders_to new f) e ≡ times (leaders_to old f) e + (if leader.0 == e.0 then occurrences f c else 0)
 
--- the events with numbers below n lead to each event as often as its weight is in what they cost, and `left` counts their
--- posts
+-- the events with numbers below n lead to each event as often as its weight is in what they cost, and `left` counts
+-- their posts
 pub record HasLeaders (plan : PlanView) (n : ℕ) (leaders : List (List EventId)) (left : List ℕ) : Type 0 where
   pub count : length leaders ≡ length plan.events
   pub left_count : length left ≡ n

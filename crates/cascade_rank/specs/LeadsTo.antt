@@ -3,7 +3,7 @@ use Rattle.std.specs.{Prelude.{◌≡◌, ℕ, zero, suc, ◌+◌, ◌-◌, ◌<
 use Rattle.plan_tables.specs.{PlanView.PlanView, declared.entries.EventId.EventId}
 use Rattle.cascade_rank.specs.{Events.nth_event, Cost.{mentions, all_mentioned, cost_of_event}, Weights.IsFitting}
 
--- e leads to f where the weight of f is in what e costs
+-- e leads to f if the weight of f is in what e costs
 abbrev pub leads : PlanView → EventId → EventId → Bool
 leads plan e f = mentions f (cost_of_event plan e)
 

@@ -4,7 +4,7 @@ use Rattle.plan_tables.specs.{PlanView.PlanView, declared.entries.EventId.EventI
 use Rattle.cascade_rank.specs.Cost.{Cost, Lines, Weight, Both, Greater, all_mentioned, cost_of_event}
 use Rattle.cascade_rank.specs.{LeadsTo.{grounded, is_open}, Order.left_of}
 
--- the least number of those of which p holds, or n where there is none
+-- the least number of those of which p holds, or n if there is none
 abbrev pub lowest : ℕ → (EventId → Bool) → Cost → ℕ
 lowest n p (Lines k) = n
 lowest n p (Weight e) = if p e then e.0 else n

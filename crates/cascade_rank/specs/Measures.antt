@@ -9,6 +9,6 @@ pub record AreAlike (a b : Cost) : Type 0 where
   pub price : (w : EventId → ℕ) → price w a ≡ price w b
   pub weights : weights_in a ≡ weights_in b
 
--- a price, as the greatest number of 128 bits where it is above that
+-- a price, or the greatest number of 128 bits if it is above that
 abbrev pub saturated : ℕ → ℕ
 saturated n = min n (2 ^ 128 - 1)

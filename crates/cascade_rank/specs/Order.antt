@@ -71,7 +71,7 @@ pub record IsWholeOrder (plan : PlanView) (order : List EventId) : Type 0 where
   pub short : length order ≤ length plan.events
   pub whole : (e : EventId) → e.0 < length plan.events → is_in order e ≡ true
 
--- each event weighs its rank, or one more than the greatest weight where that is more
+-- each event weighs its rank, or one more than the greatest weight if the rank is more than that
 pub record AreRanks (plan : PlanView) (weights : List ℕ) : Type 0 where
   pub count : length weights ≡ length plan.events
   pub each : (e : EventId) → e.0 < length plan.events → weight_of weights e ≡ min (greatest + 1) (rank plan e)

@@ -2,7 +2,7 @@
 use Rattle.std.specs.Prelude.{ℕ}
 use Rattle.plan_tables.specs.{Valid.IsTargetThere, declared.devices.Telling.{Telling, TheVariants.{Arrived, Wanted}}}
 
--- where a ball has arrived, its target is the playfield, or one of so many rows
+-- when a ball has arrived, its target is the playfield, or one of so many rows
 abbrev pub IsTellingWithin : ℕ → Telling → Type 0
 IsTellingWithin rows (Arrived target) = IsTargetThere rows target
 IsTellingWithin rows (Wanted n) = Unit {0}

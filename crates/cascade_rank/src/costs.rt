@@ -337,7 +337,7 @@ fn measure_scores<M: Measure>(measure: &mut M, plan: &Plan, which: GameEvent) ->
     }
 }
 
-/// What the first trough answers, if there is one, where a ball is asked for.
+/// What the first trough answers, if there is one, when a ball is asked for.
 fn measure_request<M: Measure>(measure: &mut M, plan: &Plan, which: GameEvent) -> M::Value
     ensures { M.Measures measure.old (cost_of_request plan.now which) measure.new result }
 {
@@ -348,7 +348,7 @@ fn measure_request<M: Measure>(measure: &mut M, plan: &Plan, which: GameEvent) -
     }
 }
 
-/// Where a ball has drained, the dearer of the dearest ball save that may save it, and all multiballs
+/// When a ball has drained, the dearer of the dearest ball save that may save it, and all multiballs
 /// that may end.
 fn measure_drained_ball<M: Measure>(measure: &mut M, plan: &Plan, which: GameEvent) -> M::Value
     ensures { M.Measures measure.old (cost_of_drained_ball plan.now which) measure.new result }

@@ -49,7 +49,7 @@ fn first_grounded(alloc: Global, plan: &Plan, left: &[usize]) -> Result<Vec<Even
     Ok(order)
 }
 
-/// One post less is left of each of these events, and where none is left the event goes last.
+/// One post less is left of each of these events, and when none is left, the event goes last.
 fn meet(leaders: &[EventId], left: &mut [usize], order: &mut Vec<EventId>) -> Result<(), AllocError>
     requires { CanMeet leaders.now left.old order.old.items }
     ensures { IfOk result (λ _. Meets leaders.now leaders.now left.old order.old.items left.new order.new.items) }

@@ -47,7 +47,7 @@ pub fn find(alloc: Global, plan: &Plan) -> Result<Weights, RankFault>
     }
 }
 
-/// What each event needs, or one more than the greatest weight where that is more: in the order, so
+/// What each event needs, or one more than the greatest weight if it needs more: in the order, so
 /// that what an event leads to is weighed before it.
 fn weigh(alloc: Global, plan: &Plan, order: &[EventId]) -> Result<Vec<u32>, AllocError>
     requires { IsWholeOrder plan.now order.now }

@@ -2,7 +2,7 @@
 //!
 //! What follows depends only on which events these are. So a post counts even if the variable may not
 //! change, or the condition of the binding may not be met. A ball that enters a device leads to the device's event, to
-//! `ball_drain`, and to what the devices answer that may be told of it.
+//! `ball_drain`, and to the answers of the devices that may be told of it.
 
 ghost use Rattle.std.specs.Prelude.{◌≡◌, ◌<◌, length, IfOk, OnOk};
 ghost use Rattle.plan_tables.specs.Valid.{IsValid};
@@ -55,7 +55,7 @@ impl Posts {
         }
     }
 
-    /// The events to which this one leads, in place of those before. Fails where memory runs out.
+    /// The events to which this one leads, in place of those before. Fails if memory runs out.
     pub(crate) fn of(&mut self, plan: &Plan, event: EventId) -> Result<&[EventId], AllocError>
         requires { event.0 < length plan.now.events }
         ensures posts { IfOk result (λ posts. posts.now ≡ weights_in (cost_of_event plan.now event)) }

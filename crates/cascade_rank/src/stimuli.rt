@@ -18,7 +18,7 @@ use crate::weights::Weights;
 use device_objects::Call;
 use plan_tables::{BallTarget, EventId, Listener, Plan, RowId, SwitchId, Telling};
 
-/// The greatest cost of any stimulus, or `u128::MAX` where that is less.
+/// The greatest cost of any stimulus, or `u128::MAX` if that is less.
 pub(crate) fn bound_of(plan: &Plan, weights: &[u32]) -> u128
     ensures { result ≡ saturated (price (weight_of weights.now) (cost_of_stimuli plan.now)) }
 {

@@ -62,7 +62,7 @@ fn first_short(plan: &Plan, weights: &[u32]) -> Option<(EventId, u128)>
     None
 }
 
-/// The bound of weights, or none where it or a weight is above the limit.
+/// The bound of weights, or none if it or a weight is above the limit.
 pub(crate) fn limited_bound(plan: &Plan, weights: &[u32]) -> Option<Bound>
     requires { length weights.now ≡ length plan.now.events }
     ensures within { IfSome result (λ bound. IsWithinLimit plan.now weights.now × (bound.0 ≡ bound_of plan.now (weight_of weights.now))) }

@@ -77,7 +77,7 @@ fn next(
     Ok(EventId(lowest_left(left, led)))
 }
 
-/// The lowest of these of which something is left, or the number of events where there is none.
+/// The lowest of these of which something is left, or the number of events if there is none.
 fn lowest_left(left: &[usize], posts: &[EventId]) -> u16
     requires within { All (IsEventWithin (length left.now)) posts.now }
     requires small { length left.now < 65536 }

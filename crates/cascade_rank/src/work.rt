@@ -23,7 +23,7 @@ pub(crate) fn led_by(plan: &Plan, event: EventId) -> Option<EventId>
 }
 
 /// The event with which a mode goes on from this one, if it goes on. From `started` it goes on
-/// where a stop was kept. From `stopped` it goes on to `ball_ended`, if it may hold the end of the ball.
+/// if a stop was kept. From `stopped` it goes on to `ball_ended`, if it may hold the end of the ball.
 fn next_event(plan: &Plan, mode: ModeId, which: ModeEvent) -> Option<EventId>
     requires { mode.0 < length plan.now.modes }
     ensures led { result ≡ led_by plan.now (works.Mode mode which) }

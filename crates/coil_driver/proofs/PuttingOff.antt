@@ -1,4 +1,4 @@
--- Coils are put off, one after another.
+-- Coils are turned off, one after another.
 use Rattle.std.proofs.Common.{◌≡◌, ℕ, suc, ◌+◌, ◌<◌, ◌≤◌, inl, inr, Bool, true, false, List, [], ◌∷◌, ◌++◌, length, take, filter, refl, sym, ap, ap₂, ◌∙◌, subst, length-append, arith}
 use Rattle.std.{specs.Prelude.{◌||◌, if◌then◌else◌}, proofs.lemmas.List.Elements.filter-append}
 use Rattle.std.proofs.lemmas.List.{append-nil, take_more, take_all, length-set, get_or-set_other}

@@ -7,7 +7,7 @@ use Rattle.written_machine.specs.{declared.line.{Line.Line, Happening.Happening}
 use Rattle.written_machine.specs.declared.line.Happening.TheVariants as lines
 use Rattle.coil_driver.specs.Board.{after_line, after_lines}
 
--- where it is a command, the guard sends it
+-- if it is a command, the guard sends it
 abbrev pub IsSent : List CoilState → Owner → ℕ → Happening → Type 0
 IsSent s owner now (lines.Coil command) = answer_asking command owner now s ≡ answers.Sent command
 IsSent s owner now _ = Unit {0}

@@ -6,8 +6,8 @@ use Rattle.coil_guard.specs.{Asked.after_asking, Boards.{HasFaulted, IsToldAfter
 use Rattle.written_machine.specs.declared.line.{Line.Line, Happening.Happening}
 use Rattle.written_machine.specs.declared.line.Happening.TheVariants as lines
 
--- what a board says of itself: the commands that it has taken, where it tells them; the count of its faults; and its answers
--- to the commands to come, where it tells them
+-- what a board says of itself: the commands that it has taken, if it tells them; the count of its faults; and its
+-- answers to the commands to come, if it tells them
 pub record BoardView : Type 0 where
   pub told : Option (List Command)
   pub fault_count : ℕ
@@ -34,7 +34,7 @@ pub record HasNotTaken (old new : BoardView) : Type 0 where
 
 -- ---- the commands of lines
 
--- the command that was sent, where that is what happened
+-- the command that was sent, if that is what happened
 abbrev pub command_of : Happening → List Command
 command_of (lines.Coil command) = command ∷ []
 command_of _ = []

@@ -61,7 +61,7 @@ IsServed trace (Some place) old new = HasStopped trace place old new
 
 -- ---- at the end
 
--- whether the coil is to be put off at a moment
+-- whether the coil is to be turned off at a moment
 abbrev pub is_due_off : ℕ → DriverView → CoilId → Bool
 is_due_off now d coil = is_on_at now (coil_at d.sent coil) || is_faulted d.faulted coil
 

@@ -9,8 +9,8 @@ abbrev pub is_faulted : Option CoilId → CoilId → Bool
 is_faulted None coil = false
 is_faulted (Some faulted) coil = coil.0 == faulted.0
 
--- Each of these coils is sent a disable, in order, also after a fault. Those whose disable the board has taken are put
--- off, and the others are counted.
+-- Each of these coils is sent a disable, in order, also after a fault. Those whose disable the board has taken are
+-- turned off, and the others are counted.
 abbrev pub ArePutOff : List CoilId → BoardView → List CoilId → ℕ → BoardView → Type 0
 ArePutOff [] old off faults new = (off ≡ []) × (faults ≡ 0) × (new ≡ old)
 ArePutOff (coil ∷ more) old off faults new =

@@ -106,7 +106,7 @@ impl<B: Board> Driver<B> {
         Ok(())
     }
 
-    /// Sends a command. Where the board does not take it, its coil is remembered.
+    /// Sends a command. If the board does not take it, its coil is remembered.
     fn send(&mut self, command: Command) -> Result<(), BoardFault>
         ensures { MatchResult result (λ _. HasSentAlone command self.old self.new) (λ _. HasFaultedAt command self.old self.new) }
     {
@@ -121,8 +121,8 @@ impl<B: Board> Driver<B> {
     /// taken, and to the coil whose command it has not taken: in the order of their numbers, and
     /// also after a fault. The plan has to have as many coils as the guard.
     ///
-    /// The report says which coils are put off, and how many faults there were. The board has taken
-    /// or refused these commands, and nothing else.
+    /// The report says which coils are turned off, and how many faults there were. The board has
+    /// taken or refused these commands, and nothing else.
     pub fn put_off(&mut self, plan: &Plan, now: u64) -> ShutReport
         requires { length self.old.sent ≡ length plan.now.coils }
         ensures { ArePutOff (filter (is_due_off now self.old) (coil_numbers plan.now)) self.old.board result.off.items result.faults self.new.board }
@@ -140,7 +140,7 @@ impl<B: Board> Driver<B> {
         report
     }
 
-    /// Whether a coil is to be put off. The guard holds it for off then.
+    /// Whether a coil is to be turned off. The guard holds it for off then.
     fn takes_off(&mut self, coil: CoilId, now: u64) -> bool
         requires { coil.0 < length self.old.sent }
         ensures due { result ≡ is_due_off now self.old coil }

@@ -1,9 +1,9 @@
-//! What became of the coils that were put off at the end.
+//! What became of the coils that were turned off at the end.
 
 use arrayvec::ArrayVec;
 use plan_tables::CoilId;
 
-/// What became of the coils at the end: each that was to be put off was sent a disable.
+/// What became of the coils at the end: each that was to be turned off was sent a disable.
 #[derive(Drop)]
 pub struct ShutReport {
     /// The coils whose disable the board has taken, in the order of their numbers.

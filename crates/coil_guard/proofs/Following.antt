@@ -31,7 +31,7 @@ new_follows limits = record {
               get_or_past (map off limits) coil.0 (off no_limits) (omega arith) ∙ sym (ap off (get_or_past limits coil.0 no_limits past))
         ]
 
--- ---- where there is no coil, nothing is sent
+-- ---- if there is no coil, nothing is sent
 
 is-there : (s : List CoilState) (coil : CoilId) (test : CoilState → Bool) → test (coil_at s coil) ≡ true → (test (off no_limits) ≡ true → ⊥) → coil.0 < length s
 is-there s coil test taken never = search (rules, cases_lt, get_or_past)

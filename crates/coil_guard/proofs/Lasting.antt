@@ -4,7 +4,8 @@ use Rattle.std.specs.List.{list_all, list_any}
 use Rattle.std.proofs.{lemmas.List.Folds.{list_all-append, list_any-append}, Math.Bool.{and-true, and-false, or-false}}
 use Rattle.coil_guard.specs.SentCommands.{Sending, lasts}
 
--- a: the first one begins; l: none of the later ones ends it; n: the new one does not; r: one of the later ones lasts; b: the new one begins
+-- a: the first one begins; l: none of the later ones ends it; n: the new one does not; r: one of the later ones lasts;
+-- b: the new one begins
 regroup : (a l n r b : Bool) → ((a && (l && n)) || ((r && n) || b)) ≡ ((((a && l) || r) && n) || b)
 regroup a l n r b = search rules
 

@@ -21,7 +21,7 @@ answer-within test n o is = search (rules, lowest-within)
 
 -- ---- a loop over the coils finds it
 
--- the first one of which the test is true, where it is true of none before
+-- the first one of which the test is true, if it is true of none before
 found : (test : CoilId → Bool) (n count : ℕ) → n < count → lowest test n ≡ None → test (record { 0 = n }) ≡ true → Some (record { 0 = n }) ≡ lowest test count
 found test n zero within none here = absurd (omega (arith, within))
 found test n (suc m) within none here =

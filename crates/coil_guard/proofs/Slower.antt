@@ -13,8 +13,8 @@ use Rattle.coil_guard.specs.Slower.{IsSameCommand, KeepTheirDistance, AreOnSlowe
 use Rattle.coil_guard.proofs.{Lasting.any-push, Following.{new_follows, calls_follow, followers_send_what_is_due}}
 use Rattle.coil_guard.proofs.OneCoil.{followed-off, followed-later, followed-other, followed-pulse, followed-disable}
 
--- What is sent to a coil that may not be held, after these: a pulse at which the coil does not rest, or a disable. Or it is
--- sent to another coil.
+-- What is sent to a coil that may not be held, after these: a pulse at which the coil does not rest, or a disable. Or
+-- it is sent to another coil.
 data IsStep (coil : CoilId) (limits : CoilLimits) (earlier : List Sending) (p : Sending) : Type 0 where
   pulse : (ms power : ℕ) → p ≡ pulse_sent coil ms power p.at → is_resting earlier coil p.at ≡ false → is_pulse_within limits ms power ≡ true → IsStep coil limits earlier p
   disable : p ≡ disable_sent coil p.at → IsStep coil limits earlier p

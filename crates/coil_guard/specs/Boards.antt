@@ -17,8 +17,8 @@ IsToldAfter command (Err fault) (Some taken) told = told ≡ Some taken
 IsToldAfter command (Ok done) (Some taken) None = Unit {0}
 IsToldAfter command (Ok done) (Some taken) (Some told) = told ≡ taken ++ command ∷ []
 
--- A board's answers to the commands to come: whether it takes each of the next ones, and whether it takes all that come after
--- those, where it tells.
+-- A board's answers to the commands to come: whether it takes each of the next ones, and whether it takes all that come
+-- after those, if it tells.
 pub record Answers : Type 0 where
   pub next : List Bool
   pub later : Option Bool
@@ -32,7 +32,7 @@ abbrev pub first_answer : List Bool → Option Bool → Option Bool
 first_answer [] later = later
 first_answer (taken ∷ more) later = Some taken
 
--- A board that has taken a command, or has not, has answered as it told. The answers that come after that stay as they were.
+-- A board that has taken a command, or has not, has answered as it told. The answers after that stay as they were.
 pub record IsAnswered (taken : Bool) (before after : Answers) : Type 0 where
   pub as_told : IfSome (first_answer before.next before.later) (λ told. told ≡ taken)
   pub others : after ≡ record { next = drop 1 before.next; later = before.later }
@@ -120,7 +120,7 @@ after_sending_many (suc n) b = after_sending_many n (after_sending b)
 abbrev pub is_fault_at : ℕ → Bool → ℕ → Bool
 is_fault_at k onwards number = (number == k) || (onwards && nat_le k number)
 
--- After any number of commands, the next one is a fault exactly where its number says so.
+-- After any number of commands, the next one is a fault exactly if its number says so.
 abbrev pub FuseFaultsFromKth : Type 0
 FuseFaultsFromKth =
     (k : ℕ) (onwards : Bool) (sent : ℕ)

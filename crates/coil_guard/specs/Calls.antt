@@ -91,7 +91,7 @@ is_pulse_due limits sent coil ms power now =
 abbrev pub is_enable_due : List CoilLimits → List Sending → CoilId → ℕ → Bool
 is_enable_due limits sent coil power = not (is_held sent coil) && is_hold_within (limits_at limits coil) power
 
--- A disable is to be sent where the coil is on, and a release to the lowest coil that is held for the owner.
+-- A disable is to be sent if the coil is on, and a release to the lowest coil that is held for the owner.
 abbrev pub due_by : List CoilLimits → List Sending → CoilCall → List Sending
 due_by limits sent (Pulse coil ms power now) =
     sent_if (is_pulse_due limits sent coil ms power now) (pulse_sent coil ms power now)

@@ -18,7 +18,7 @@ is_held_by owner c = is_holder owner c.holder
 
 -- ---- pulse
 
--- A pulse is sent where the coil is not held, is ready, and the pulse is within the limits.
+-- A pulse is sent if the coil is not held, is ready, and the pulse is within the limits.
 abbrev pub takes_pulse : ℕ → ℕ → ℕ → CoilState → Bool
 takes_pulse ms power now c = not (is_some c.holder) && (nat_le c.ready now && is_pulse_within c.limits ms power)
 
@@ -28,7 +28,7 @@ pulsed ms now c = record { limits = c.limits; pulse_end = now + ms; ready = now 
 
 -- ---- enable
 
--- An enable is sent where the coil is not held yet, and may be held with this power.
+-- An enable is sent if the coil is not held yet, and may be held with this power.
 abbrev pub takes_enable : ℕ → CoilState → Bool
 takes_enable power c = not (is_some c.holder) && is_hold_within c.limits power
 

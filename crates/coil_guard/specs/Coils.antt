@@ -6,7 +6,7 @@ use Rattle.coil_guard.specs.declared.command.Command.TheVariants as commands
 use Rattle.coil_guard.specs.{declared.state.CoilState.CoilState, Limits.no_limits, Lowest.lowest}
 use Rattle.coil_guard.specs.CoilStep.{off, is_on_at, is_held_by, takes_pulse, pulsed, takes_enable, enabled, disabled}
 
--- the coil of this number; where there is none, one to which nothing is ever sent
+-- the coil of this number; if there is none, one to which nothing is ever sent
 abbrev pub coil_at : List CoilState → CoilId → CoilState
 coil_at s coil = slice_index_or s coil.0 (off no_limits)
 
@@ -41,7 +41,7 @@ answer_enable coil power owner now s =
 
 -- ---- disable
 
--- It is sent where the coil is on.
+-- It is sent if the coil is on.
 abbrev pub after_disable : CoilId → ℕ → List CoilState → List CoilState
 after_disable coil now s = if is_on_at now (coil_at s coil) then set_coil coil (disabled (coil_at s coil)) s else s
 
@@ -54,7 +54,7 @@ answer_disable coil now s = if is_on_at now (coil_at s coil) then Sent (commands
 abbrev pub next_held : Owner → List CoilState → Option CoilId
 next_held owner s = lowest (λ coil. is_held_by owner (coil_at s coil)) (length s)
 
--- the coil, if it is one, is put off
+-- the coil, if it is one, is turned off
 abbrev pub put_off : Option CoilId → List CoilState → List CoilState
 put_off None s = s
 put_off (Some coil) s = set_coil coil (disabled (coil_at s coil)) s

@@ -20,7 +20,7 @@ CommandsAreWithinLimits =
     (limits : List CoilLimits) (calls : List CoilCall) → AreInOrder 0 calls
     → All (λ s. IsWithin limits s.command) (sent_from_new limits calls)
 
--- A coil that may not be held is on at no more moments in a row than its greatest pulse has.
+-- A coil that may not be held is on at no more moments in a row than its greatest pulse has milliseconds.
 abbrev pub StretchesAreWithinLimits : Type 0
 StretchesAreWithinLimits =
     (limits : List CoilLimits) (calls : List CoilCall) → AreInOrder 0 calls
@@ -56,7 +56,7 @@ LowestIsOn =
     → IsLowest (λ coil. is_on (sent_from_new limits calls) coil now) (length limits)
     (next_on now (state_from_new limits calls))
 
--- `release` puts off the lowest coil that is held for the owner.
+-- `release` turns off the lowest coil that is held for the owner.
 abbrev pub LowestIsReleased : Type 0
 LowestIsReleased =
     (limits : List CoilLimits) (calls : List CoilCall) → AreInOrder 0 calls → (owner : Owner)

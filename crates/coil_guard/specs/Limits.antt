@@ -3,7 +3,7 @@ use Rattle.std.specs.Prelude.{◌≡◌, ◌≤◌, ℕ, Bool, true, false, ◌&
 use Rattle.plan_tables.specs.declared.entries.{CoilId.CoilId, CoilLimits.CoilLimits}
 use Rattle.coil_guard.specs.declared.command.Command.{Command, TheVariants.{Pulse, Enable, Disable}}
 
--- in place of the limits where there is no coil: no pulse and no hold is within them
+-- in place of the limits if there is no coil: no pulse and no hold is within them
 abbrev pub no_limits : CoilLimits
 no_limits = record { max_pulse_ms = 0; max_pulse_power = 0; max_hold_power = 0; may_hold = false }
 

@@ -12,7 +12,7 @@ abbrev pub lowest : (CoilId → Bool) → ℕ → Option CoilId
 lowest test zero = None
 lowest test (suc n) = first_of_two (lowest test n) (if test (record { 0 = n }) then Some (record { 0 = n }) else None)
 
--- Of so many coils it is the lowest of which the test is true; none is where the test is true of none.
+-- Of so many coils it is the lowest of which the test is true; there is none if the test is true of none.
 abbrev pub IsLowest : (CoilId → Bool) → ℕ → Option CoilId → Type 0
 IsLowest test count None = (coil : CoilId) → coil.0 < count → test coil ≡ false
 IsLowest test count (Some coil) =

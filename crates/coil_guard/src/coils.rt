@@ -130,7 +130,7 @@ impl Coils {
 
     /// Puts off the lowest coil that the owner holds, and answers the command that is sent; none if
     /// the owner holds no coil, and then nothing has changed. Call it again until it answers none,
-    /// and all coils of the owner are put off in the order of their numbers.
+    /// and all coils of the owner are turned off in the order of their numbers.
     pub fn release(&mut self, owner: Owner, now: u64) -> Option<Command>
         ensures state { self.new ≡ after_release owner now self.old }
         ensures answer { result ≡ answer_release owner now self.old }

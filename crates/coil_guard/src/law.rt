@@ -9,8 +9,8 @@ ghost use Rattle.coil_guard.specs.Boards.{MemoryKeepsLatest, MemoryTellsAll, Fus
 /// not go back.
 ///
 /// Each pulse that is sent is within its coil's limits, and so is each enable. A coil that may not
-/// be held is never on at more moments in a row than its greatest pulse has: neither now, nor
-/// earlier, nor later if no more is sent.
+/// be held is never on at more moments in a row than its greatest pulse has milliseconds:
+/// neither now, nor earlier, nor later if no more is sent.
 ///
 /// It does nothing: its contract is the law, over the steps that the calls take.
 pub fn commands_are_within_limits()
@@ -34,9 +34,9 @@ pub fn limits_hold_on_a_slower_clock()
 /// The law of what `Coils` skips and finds, for the same lists of calls.
 ///
 /// What the next call sends follows from the limits and from the sent commands with their moments:
-/// a pulse and an enable are skipped exactly by their rules, and a disable exactly where the coil is
+/// a pulse and an enable are skipped exactly by their rules, and a disable exactly if the coil is
 /// off. From the last call on, `next_on` gives the lowest coil that is on by the sent commands, and
-/// `release` puts off the lowest coil that was enabled for the owner and not disabled after that.
+/// `release` turns off the lowest coil that was enabled for the owner and not disabled after that.
 ///
 /// It does nothing: its contract is the law, over the steps that the calls take.
 pub fn answers_are_by_commands()
@@ -60,7 +60,7 @@ pub fn guard_follows_commands()
 {}
 
 /// The law of `MemoryBoard`, for every list of commands that a new one takes: it keeps the latest
-/// 1,024 of them, counts them up to 1,025, and tells all while they are at most 1,024.
+/// 1,024 of them, counts them up to 1,025, and reports all as long as they are at most 1,024.
 ///
 /// It does nothing: its contract is the law, over the steps that `send` takes.
 pub fn memory_board_keeps_latest()

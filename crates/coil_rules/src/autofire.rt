@@ -24,7 +24,7 @@ impl Autofire {
     ghost use Rattle.device_objects.specs.DeviceStep.{first_state};
     ghost use Rattle.coil_rules.specs.Kind.{IsAutofire};
 
-    /// The autofire coil of a row, in its first state. None exactly where the row is of another kind.
+    /// The autofire coil of a row, in its first state. None exactly if the row is of another kind.
     pub fn new(row: &DeviceRow) -> Option<Self>
         ensures kind { IsSome result ↔ IsAutofire row.now.settings }
         ensures row { IfSome result (λ d. ⟦<Autofire as Device>⟧.row_of d ≡ row.now) }

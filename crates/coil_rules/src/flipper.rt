@@ -13,7 +13,7 @@ const ON: u16 = 0;
 /// The list of a flipper that goes off.
 const OFF: u16 = 1;
 
-/// A flipper: while it is enabled its switch puts it on. It goes off when its switch becomes inactive,
+/// A flipper: while it is enabled, its switch turns it on. It goes off when its switch becomes inactive,
 /// and when it is disabled.
 #[derive(Drop)]
 pub struct Flipper {
@@ -27,7 +27,7 @@ impl Flipper {
     ghost use Rattle.device_objects.specs.DeviceStep.{first_state};
     ghost use Rattle.coil_rules.specs.Kind.{IsFlipper};
 
-    /// The flipper of a row, in its first state. None exactly where the row is of another kind.
+    /// The flipper of a row, in its first state. None exactly if the row is of another kind.
     pub fn new(row: &DeviceRow) -> Option<Self>
         ensures kind { IsSome result ↔ IsFlipper row.now.settings }
         ensures row { IfSome result (λ d. ⟦<Flipper as Device>⟧.row_of d ≡ row.now) }

@@ -62,12 +62,12 @@ asked_by name path folder =
 abbrev pub asked_of : Option (Text × List Row) → Option AskView
 asked_of met = option_and_then (λ p. asked_by p.0 (first_of (codes "path") p.1) (first_of (codes "folder") p.1)) met
 
--- this, where nothing is wrong with the words
+-- this, if nothing is wrong with the words
 abbrev pub where_no_fault : Kinds → Option AskView → Option AskView
 where_no_fault [] asked = asked
 where_no_fault (kind ∷ more) asked = None
 
--- what the words ask for: nothing where `clap` finds a fault in them, such as a word too many
+-- what the words ask for: nothing if `clap` finds a fault in them, such as a word too many
 unfoldable pub asked_at : List Text → Option AskView
 asked_at words = where_no_fault (fault_of pinball_app words) (asked_of (subcommand_of pinball_app words))
 

@@ -16,12 +16,12 @@ live_app = with_rule live_program_app path_rule
 abbrev pub folder_in : List Row → Option Text
 folder_in rows = first_of (codes "path") rows
 
--- this, where nothing is wrong with the words
+-- this, if nothing is wrong with the words
 abbrev pub folder_if : Kinds → Option Text → Option Text
 folder_if [] folder = folder
 folder_if (kind ∷ more) folder = None
 
--- the folder that the words ask for: none where `clap` finds a fault in them, such as a word too many
+-- the folder that the words ask for: none if `clap` finds a fault in them, such as a word too many
 unfoldable pub folder_at : List Text → Option Text
 folder_at words = folder_if (fault_of live_app words) (folder_in (matches_of live_app words))
 

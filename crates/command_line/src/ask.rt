@@ -29,7 +29,7 @@ Examples:
 pub enum Ask {
     /// To check the configuration.
     Check {
-        /// The folder of the configuration. None where the bundle is on standard input.
+        /// The folder of the configuration. None if the bundle is on standard input.
         folder: Option<String>,
     },
     /// To verify the certificate of this path on the configuration.

@@ -55,7 +55,7 @@ text-few c accepted few short =
     let whole = length-append third (numbered_lines (codes "event") (zip c.plan.events c.weights)) in
     omega (arith, switches, events, length-names c.plan, switch_limit, event_limit, stated, heading, front, whole)
 
--- Where the rows are those of a bundle, the certificate of what is accepted is not longer than that.
+-- If the rows are those of a bundle, the certificate of what is accepted is not longer than that.
 pub certificate-few : (rows : Rows) (bundle : List ℕ) (c : CheckedView) → rows_at bundle ≡ Ok rows → checked_at rows ≡ Ok c → length (certificate_text c) ≤ 2 ^ 20
 certificate-few rows bundle c read is =
     let machine = rows_are_named bundle rows read in

@@ -70,7 +70,7 @@ first_other-some (x ∷ all) (right ∷ rights) s e = by (x.1 == right) refl (fi
         subst (IsFirstOther (x ∷ all) (right ∷ rights)) is
         (record { number = 0; within = omega arith; within_rights = omega arith; name_is = refl; right_is = refl; other = eqb-false x.1 right differ; first = λ n l. absurd (omega (arith, l)) })
 
--- where none is found, all are right
+-- if none is found, all are right
 pub first_other-none : (all : Numbered) (rights : List ℕ) → length all ≡ length rights → first_other all rights ≡ None → numbers_of all ≡ rights
 first_other-none [] [] count e = refl
 first_other-none [] (right ∷ rights) count e = absurd (omega (arith, count))
@@ -80,7 +80,7 @@ first_other-none (x ∷ all) (right ∷ rights) count e = by (x.1 == right) refl
     by : (t : Bool) → (x.1 == right) ≡ t → (first_other all rights ≡ None → numbers_of all ≡ rights) → cond t (first_other all rights) (Some (x.0, right)) ≡ None → x.1 ∷ numbers_of all ≡ right ∷ rights
     by x1 x2 more e = search (rules, eqb-true)
 
--- where all before a place are right, and the one there is not, it is found
+-- if all before a place are right, and the one there is not, it is found
 pub first_other-at : (all : Numbered) (rights : List ℕ) (k : ℕ) → k < length all → k < length rights → ((n : ℕ) → n < k → get_or (numbers_of all) n 0 ≡ get_or rights n 0) → get_or (numbers_of all) k 0 ≢ get_or rights k 0
     → first_other all rights ≡ Some (get_or (names_of all) k [], get_or rights k 0)
 first_other-at [] rights k l m same other = absurd (omega (arith, l))
@@ -117,7 +117,7 @@ module _ (plan : PlanView) where
 
 -- ---- the names
 
--- where no names are wrong
+-- if no names are wrong
 names-right : (plan : PlanView) (c : Certificate) → wrong_names plan c ≡ None → (names_of c.events ≡ plan.events) × HasItsSwitches plan c.switches
 names-right plan c is = by (same_names plan.events (names_of c.events)) refl is
   where
@@ -316,7 +316,7 @@ module _ (c : CheckedView) (verified : IsVerified c.plan c.weights c.bound) wher
       ∙ ap (first_other (zip names costs)) (sym (seconds-zip names costs costs_counted))
       ∙ first_other-same (zip names costs)
 
-  -- where its text is read as its certificate, it is accepted again
+  -- if its text is read as its certificate, it is accepted again
   pub certified_again : certificate_at (certificate_text c) ≡ Ok (certificate_of c) → certified_plan (certificate_text c) c.plan ≡ Ok c
   unfolding certified_plan
   certified_again read = search (rules, names_right, weights_are, verified_at-bound, cond-true, eq-eqb, costs_right)

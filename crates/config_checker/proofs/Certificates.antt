@@ -259,7 +259,7 @@ first_line line rest h = ap (parts 10) (append_assoc line (10 ∷ []) rest) ∙ 
 
 -- ---- a line with a number
 
--- where the word that begins it has neither a blank nor a line end
+-- if the word that begins it has neither a blank nor a line end
 module _ (word : List ℕ) (no_blank : list_all (λ b. not (b == 32)) word ≡ true) (no_end : list_all (λ b. not (b == 10)) word ≡ true) where
   words_are : (name : List ℕ) (number : ℕ) → IsWord name → number < 2 ^ 32 → parts 32 (words_of word (name, number)) ≡ word ∷ name ∷ decimal number ∷ []
   words_are name number h small = search (rules, name, number, small, slice_split_at, in_text, or_parts, not-true, slice_split_none, not_in_decimal, parted)

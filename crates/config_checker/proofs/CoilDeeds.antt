@@ -17,11 +17,11 @@ module _ (machine : List SectionRows) where
   abbrev pub IsDeedSound : List ℕ → Deed → Type 0
   IsDeedSound name deed = IsCoilSuch machine name (IsDeedWithin deed)
 
-  -- what the coil of a name says, where it is defined
+  -- what the coil of a name says, if it is defined
   named : (name : List ℕ) (c : Coil) → coil_called machine name ≡ Some c → defaults_called machine name ≡ defaults_of_coil c
   named name c is = ap (λ o. defaults_of_coil (unwrap_or o no_coil)) is
 
-  -- what is done by what the coil says is sound, where it is so for that coil
+  -- what is done by what the coil says is sound, if it is so for that coil
   sound : (name : List ℕ) (P : Coil → Type 0) (deed : Defaults → Deed) → ((c : Coil) → P c → IsDeedWithin (deed (defaults_of_coil c)) c) → IsCoilSuch machine name P → IsDeedSound name (deed (defaults_called machine name))
   sound name P deed gives h = search (rules, named)
 

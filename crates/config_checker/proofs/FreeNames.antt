@@ -1,5 +1,5 @@
--- The events that switches, blocks, timers, ball devices, ball saves, multiballs, shots and groups of shots post by their
--- own names are not reserved.
+-- The events that switches, blocks, timers, ball devices, ball saves, multiballs, shots and groups of shots post by
+-- their own names are not reserved.
 use Rattle.std.proofs.Common.{rules, ◌≡◌, ℕ, ◌+◌, ◌*◌, ◌==◌, Bool, false, ◌||◌, List, [], ◌∷◌, ◌++◌, slice_index, codes, refl}
 use Rattle.std.specs.{List.{All, list_any}, Str.bytes_eq}
 use Rattle.std.proofs.lemmas.{Bool.eq-eqb, List.Elements.All-from_recursion, Slice.Eq.bytes_eq-Decides}

@@ -77,7 +77,7 @@ module _ (rows : Rows) where
   pub limit-fault_with : (text : List ℕ) (fault : FaultView) → IsLimitFault rows fault → IsFaultWith rows text fault
   limit-fault_with text x2 h = search rules
 
-  -- what is reported where there is no plan is what the checker reports
+  -- what is reported if there is no plan is what the checker reports
   pub no-plan-found : (report : Report) → ReportsNoPlan rows report → GivesChecked (Err report) (checked_at rows)
   no-plan-found x1 x2 = search (rules, own-found, one-gives, limit-found)
 

@@ -1,6 +1,6 @@
 -- The plan of rows without faults of their own: nothing posts an event at which the machine itself does something, acts
--- are on rows of their own owner, each command to a coil is within the limits of the coil, and what is done with balls is
--- right.
+-- are on rows of their own owner, each command to a coil is within the limits of the coil, and what is done with balls
+-- is right.
 use Rattle.std.proofs.Common.{rules, ◌≡◌, ◌≢◌, ℕ, zero, suc, ◌<◌, Bool, true, false, ◌||◌, List, [], ◌∷◌, length, map, fold, get_or, Contains, ◌⊎◌, refl, sym, ap, ◌∙◌, true≢false, arith}
 use Rattle.std.specs.{Prelude.{Ok, Option, Some, None, option_map}, Str.bytes_eq, List.{All, flat_map}}
 use Rattle.std.proofs.lemmas.List.{get_or-map, Folds.list_any-append}
@@ -143,8 +143,7 @@ plan_bookings rows short none plan is = search (rules, doing_heard_once, rows_do
 
 -- ---- what is accepted
 
--- where no list in the rows is too long, and there are not too many modes, their plan is accepted with weights that
--- serve
+-- if no list in the rows is too long, and there are not too many modes, their plan is accepted with weights that serve
 pub plan_accepted : (rows : Rows) → AreListsShort rows → AreFewModes rows.modes → faults_of_rows rows ≡ [] → (c : CheckedView) → plan_at rows ≡ Ok c.plan → IsVerified c.plan c.weights c.bound → IsAccepted c
 plan_accepted rows short few none c is verified = record {
   valid = IsValid-plan_at rows short few c.plan is;

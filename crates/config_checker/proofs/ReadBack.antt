@@ -120,19 +120,19 @@ module _ (rows : Rows) where
   pub found-plan : (c : CheckedView) → checked_at rows ≡ Ok c → c.plan ≡ plan_of rows
   found-plan c is = (plan_at-Ok rows c.plan (found_is_verified c is).0).0
 
-  -- where no list in the rows is too long, and there are not too many modes, it is accepted
+  -- if no list in the rows is too long, and there are not too many modes, it is accepted
   pub found_is_accepted : AreListsShort rows → AreFewModes rows.modes → (c : CheckedView) → checked_at rows ≡ Ok c → IsAccepted c
   found_is_accepted short few c is =
       let from = found_is_verified c is in
       plan_accepted rows short few (found-none c is) c from.0 from.1
 
-  -- where those of their plan's events and switches are words, it is accepted again
+  -- if those of their plan's events and switches are words, it is accepted again
   module _ (words : (plan : PlanView) → plan_at rows ≡ Ok plan → IsWorded plan) where
     again : (c : CheckedView) → IsAcceptedOf rows c → IsReadAgain rows c
     again c (inl is) = let from = found_is_verified c is in verified-again c (found-none c is) from.0 from.1 (words c.plan from.0)
     again c (inr (text, is)) = let from = given_is_verified text c is in verified-again c (given-none text c is) from.0 from.1 (words c.plan from.0)
 
-  -- they are, where every name in the rows is a name
+  -- they are, if every name in the rows is a name
   named-words : All IsNamed rows.machine → All IsNamedMode rows.modes → (plan : PlanView) → plan_at rows ≡ Ok plan → IsWorded plan
   named-words machine modes plan made = subst IsWorded (sym (plan_at-Ok rows plan made).0) (events_are_words rows machine modes, switches_are_words rows machine modes)
 

@@ -36,11 +36,11 @@ IsTextOf c text = IsWritable c × (text ≡ text_of c)
 abbrev pub is_plain : List ℕ → Bool
 is_plain word = length word == 1 || not (slice_index word 0 == 48)
 
--- a number, where it is below 2^32
+-- a number, if it is below 2^32
 abbrev pub within_32_bits : ℕ → Option ℕ
 within_32_bits n = if nat_lt n (2 ^ 32) then Some n else None
 
--- the number that a word of digits says, where it is below 2^32
+-- the number that a word of digits says, if it is below 2^32
 abbrev pub number_in : List ℕ → Option ℕ
 number_in word = if is_plain word then option_and_then within_32_bits (number_at word) else None
 
@@ -103,9 +103,9 @@ abbrev pub first_event : Option Numbered → ℕ
 first_event None = 3
 first_event (Some switches) = 3 + length switches
 
--- Each function below gives the number of the first bad line, where there is one.
+-- Each function below gives the number of the first bad line, if there is one.
 
--- the certificate, where nothing comes after the events
+-- the certificate, if nothing comes after the events
 abbrev pub ended : ℕ → Option Numbered → Numbered × List (List ℕ) → Result Certificate ℕ
 ended bound switches x =
     if is_end x.1 then Ok (record { bound = bound; switches = switches; events = x.0 }) else Err (first_event switches + length x.0)

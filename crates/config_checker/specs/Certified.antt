@@ -6,7 +6,7 @@ use Rattle.written_machine.specs.CheckedView.{CheckedView}
 use Rattle.config_checker.specs.{declared.report.Report.Report, CertificateText.Certificate}
 use Rattle.config_checker.specs.Checking.{FaultView, numbers_of, bounded}
 
--- the plan with the weights and the bound, where they serve
+-- the plan with the weights and the bound, if they serve
 abbrev pub as_checked : PlanView → Result (List ℕ × Bound) Report → Result CheckedView Report
 as_checked plan (Ok x) = Ok (record { plan = plan; weights = x.0; bound = x.1.0 })
 as_checked plan (Err report) = Err report

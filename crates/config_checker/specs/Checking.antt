@@ -91,7 +91,7 @@ certified_plan text plan = certified plan (certificate_at text)
 abbrev pub faults_of_rows : Rows → List FaultView
 faults_of_rows rows = map row (row_faults rows)
 
--- A report lists them all. Only where there are none, it says what is wrong with the plan.
+-- A report lists them all. Only if there are none does it say what is wrong with the plan.
 abbrev pub faults_first : {X : Type 0} → List FaultView → Result X (List FaultView) → Result X (List FaultView)
 faults_first [] answer = answer
 faults_first (fault ∷ faults) answer = Err (fault ∷ faults)

@@ -24,7 +24,7 @@ IsPlanOf config plan = plan_at (rows_view config) ≡ Ok plan
 abbrev pub HasNoFaults : Config → Type 0
 HasNoFaults config = faults_of_rows (rows_view config) ≡ []
 
--- the report lists the faults of the configuration's rows, or where there are none, one fault that is there
+-- the report lists the faults of the configuration's rows, or if there are none, one fault that is there
 abbrev pub ReportsFaultsOf : Config → Report → Type 0
 ReportsFaultsOf config report = Reports (IsFaultOf (rows_view config)) (rows_view config) report
 

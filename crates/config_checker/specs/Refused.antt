@@ -28,8 +28,8 @@ IsLimitFault rows (certificate fault) = ⊥
 
 -- ---- with the least weights
 
--- The fault says what is wrong where no row has a fault: a table of the plan is above its limit, its events lead to each other,
--- or its least weights or their bound are above the limit.
+-- The fault says what is wrong if no row has a fault: a table of the plan is above its limit, its events lead to each
+-- other, or its least weights or their bound are above the limit.
 abbrev pub IsFaultOf : Rows → FaultView → Type 0
 IsFaultOf rows (row f) = ⊥
 IsFaultOf rows (limit t) = IsExceeded rows t
@@ -39,7 +39,7 @@ IsFaultOf rows (certificate fault) = ⊥
 
 -- ---- with a certificate
 
--- the switches are those of the plan, where they are stated
+-- the switches are those of the plan, if they are stated
 abbrev pub HasItsSwitches : PlanView → Option Numbered → Type 0
 HasItsSwitches plan None = Unit {0}
 HasItsSwitches plan (Some switches) = names_of switches ≡ entry_names plan Switches
@@ -121,7 +121,7 @@ IsFaultWith rows text (cycle names) = ⊥
 IsFaultWith rows text bound = HasTooMuch (plan_of rows) text
 IsFaultWith rows text (certificate fault) = IsCertificateFault (plan_of rows) text fault
 
--- A report lists all faults of the rows. Where they have none, it lists one fault that is there: of their plan or of
+-- A report lists all faults of the rows. If they have none, it lists one fault that is there: of their plan or of
 -- the certificate.
 abbrev pub IsReport : (FaultView → Type 0) → List FaultView → List FaultView → Type 0
 IsReport there [] faults = (fault : FaultView) × (faults ≡ fault ∷ []) × there fault
@@ -146,7 +146,7 @@ abbrev pub ReportsOwn : Rows → Report → Type 0
 ReportsOwn rows reports.NoMemory = Unit {0}
 ReportsOwn rows (reports.Faults faults) = AreOwn (faults_of_rows rows) (map fault_view faults.items)
 
--- the report where there is no plan: that of the faults of rows, or where there are none, of the table above its limit
+-- the report if there is no plan: that of the faults of rows, or if there are none, of the table above its limit
 abbrev pub ReportsNoPlan : Rows → Report → Type 0
 ReportsNoPlan rows reports.NoMemory = Unit {0}
 ReportsNoPlan rows (reports.Faults faults) =

@@ -14,7 +14,8 @@ certificate_fault_text (short name needed) = codes "Short " ++ name ++ codes " "
 certificate_fault_text (other_bound right) = codes "Bound " ++ decimal right
 certificate_fault_text (other_cost name right) = codes "Switch " ++ name ++ codes " " ++ decimal right
 
--- the line of a fault of a row, `fault 7 Limit TABLE`, `fault 8 Cycle E1 E2 ..`, `fault 9 Bound` or `fault 10 Certificate ..`, and LF
+-- the line of a fault of a row, `fault 7 Limit TABLE`, `fault 8 Cycle E1 E2 ..`, `fault 9 Bound` or
+-- `fault 10 Certificate ..`, and LF
 abbrev pub report_line : FaultView → List ℕ
 report_line (row f) = row_fault_line f
 report_line (limit t) = codes "fault 7 Limit " ++ table_name t ++ 10 ∷ []

@@ -28,7 +28,7 @@ use std::alloc::{AllocError, Global};
 ///
 /// # Errors
 ///
-/// Where rows have faults of their own, the report lists them all, each as a `Row` (see
+/// If rows have faults of their own, the report lists them all, each as a `Row` (see
 /// [`RowFaultKind`](row_faults::RowFaultKind)). They come by text, first the machine text and then
 /// the modes' as listed; in a text by line, on a line by number, and then as written. Those that
 /// print the same line are listed once.
@@ -65,7 +65,7 @@ pub fn check(alloc: Global, config: &Config) -> Result<Checked, Report>
 ///
 /// # Errors
 ///
-/// Where rows have faults of their own, the report lists them all, each as a `Row` (see
+/// If rows have faults of their own, the report lists them all, each as a `Row` (see
 /// [`RowFaultKind`](row_faults::RowFaultKind)). They come by text, first the machine text and then
 /// the modes' as listed; in a text by line, on a line by number, and then as written. Those that
 /// print the same line are listed once.

@@ -29,7 +29,7 @@ use Rattle.device_objects.proofs.Among.{In, here, there, contains, at_last, in_r
 
 -- ---- values
 
--- a value is at its end only where there is one
+-- a value is at its end only if there is one
 at_end-some : (direction : Direction) (end : Option ℤ) (value : ℤ) → is_at_end direction end value ≡ true → is_some end ≡ true
 at_end-some direction end value is = search rules
 
@@ -85,7 +85,7 @@ not_below_one i is = let low : suc i < 1 = ltb-true (suc i) 1 is in omega (arith
 one_below : (n : ℕ) → nat_lt 1 (suc (suc n)) ≡ false → ⊥
 one_below n is = true≢false (sym (lt-ltb 1 (suc (suc n)) (omega arith)) ∙ is)
 
--- where there is but one step, it completes the accrual
+-- if there is but one step, it completes the accrual
 alone : (steps i : ℕ) (done : List Bool) → nat_lt i steps ≡ true → nat_lt 1 steps ≡ false → accrual.is_open (slice_get done i) ≡ true
     → list_all (λ d. d) (take steps (slice_set done i true)) ≡ true
 alone zero i done within one opens = absurd (nat_lt-not_zero i within)

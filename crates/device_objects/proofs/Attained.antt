@@ -302,7 +302,7 @@ two : (t : TimerSettings) (act : Act) (lists : List ℕ) → IsAnswer (kinds.Tim
     → All (IsAnswer (kinds.Timer t) (calls.Act act)) ([] ∷ lists ∷ [])
 two t act lists first second = All-cons (IsAnswer (kinds.Timer t) (calls.Act act)) [] (lists ∷ []) first (one (IsAnswer (kinds.Timer t) (calls.Act act)) lists second)
 
--- a timer that runs completes where the value that the act gives it is at the end
+-- a timer that runs completes if the value that the act gives it is at the end
 completes : (t : TimerSettings) (act : Act) (value after : ℤ) → timer.act_step t act 0 (under_way value) ≡ timer.changed t 0 (under_way after) → is_at_end t.direction t.end after ≡ true
     → IsAnswer (kinds.Timer t) (calls.Act act) (timer_completing t)
 completes t act value after is ends = timer_answer t (calls.Act act) (timer_completing t) (under_way value) tt

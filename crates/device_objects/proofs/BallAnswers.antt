@@ -28,7 +28,7 @@ first-some first timeout is may = search rules
 
 -- ---- balls and attempts
 
--- where a ball counts, the device has a ball switch
+-- if a ball counts, the device has a ball switch
 some_switch : (n : ℕ) (bs : List BallSwitch) → All (λ b. b ≡ empty) (drop n bs) → list_any (λ b. b.counted) bs ≡ true
     → nat_lt 0 n ≡ true
 some_switch zero bs unused counts = search (rules, list_any_none, All-weaker)

@@ -39,7 +39,7 @@ unused : (n : ℕ) (b : BallSwitch) → (0 < n) → All (λ c. c ≡ empty) (dro
 unused zero b some = absurd (omega (arith, some))
 unused (suc n) b some = All-drop (λ c. c ≡ empty) n (replicate 15 empty) (All-replicate (λ c. c ≡ empty) 15 empty refl)
 
--- the number of the last attempt, where there is one
+-- the number of the last attempt, if there is one
 last_attempt : (most : Option ℕ) → is_some most ≡ true
     → (n : ℕ) × (1 ≤ n) × (n ≤ max 1 (unwrap_or most greatest_attempt)) × (may_try_again most n ≡ false)
 last_attempt most some = search rules

@@ -27,7 +27,7 @@ is_alarmed (kinds.BallDevice d) (states.BallDevice s) = true
 is_alarmed (kinds.BallSave b) (states.BallSave s) = true
 is_alarmed _ _ = false
 
--- where none can, a step arms none
+-- if none can, a step arms none
 unarmed : (settings : Settings) (call : Call) (now : ℕ) (world : World) (state : DeviceState) → is_alarmed settings state ≡ false
     → (k due : ℕ) → part_due (device_step settings call now world state).0 k ≡ Some due → part_due state k ≡ Some due
 unarmed settings call now world state not k due is = search rules

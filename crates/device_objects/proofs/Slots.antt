@@ -25,7 +25,7 @@ pub step_in_use-all : {S : Type 0} (P : S → Type 0) (step : S → S × List �
 step_in_use-all P step keeps slots None all = all
 step_in_use-all P step keeps slots (Some i) all = step_at-all P step keeps i slots (slice_get slots i) (λ s is. All-at P slots i s is all) all
 
--- what every slot answers, and what no slot answers where each player has one, is what the slots answer
+-- what every slot answers, and what no slot answers if each player has one, is what the slots answer
 module _ {S : Type 0} (P : List ℕ → Type 0) (step : S → S × List ℕ) (each : (s : S) → P (step s).1) where
   of_player : (is_none : Bool) (slots : List S) (i : ℕ) → P [] → P (step_in_use step slots (if is_none then None else Some i)).1
   of_player is_none slots i none = search rules

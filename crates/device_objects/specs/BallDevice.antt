@@ -217,7 +217,7 @@ abbrev pub count_due : BallSettings → ℕ → Option (ℕ × ℕ) → BallStat
 count_due d now None s = (s, [])
 count_due d now (Some a) s = count d now a.1 s
 
--- what is due first is done; where both are due at one moment, a ball switch before the attempt's end
+-- what is due first is done; if both are due at one moment, a ball switch before the attempt's end
 abbrev pub fire : BallSettings → ℕ → BallState → BallState × List ℕ
 fire d now s =
     if is_timeout_first (first_due s) (timeout_of s.eject)

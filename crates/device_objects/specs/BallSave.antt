@@ -21,7 +21,7 @@ saving = 2
 abbrev pub first_state : SaveState
 first_state = record { active = false; left = 0; due = None }
 
--- the moment at which it ends by itself, where it is enabled now
+-- the moment at which it ends by itself, if it is enabled now
 abbrev pub end_of : SaveSettings → ℕ → Option ℕ
 end_of b now = if b.active_time == 0 then None else Some (now + b.active_time)
 

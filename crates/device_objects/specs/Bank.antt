@@ -20,11 +20,11 @@ group_complete b state = suc b.shots * state_count b + state
 abbrev pub first_slot : BankSettings → ℕ → BankSlot
 first_slot b game = record { game = game; enabled = b.enabled; states = replicate 16 0 }
 
--- the next state: after the last comes the first where the profile loops, and else it stays
+-- the next state: after the last comes the first if the profile loops, and else it stays
 abbrev pub next_state : BankSettings → ℕ → ℕ
 next_state b state = if nat_lt state b.last_state then suc state else (if b.loops then 0 else state)
 
--- the states of the shots, where this one goes on from this state
+-- the states of the shots, when this one goes on from this state
 abbrev pub gone_on : BankSettings → ℕ → ℕ → List ℕ → List ℕ
 gone_on b i state states = slice_set states i (next_state b state)
 
@@ -41,7 +41,7 @@ abbrev pub is_complete : BankSettings → ℕ → List ℕ → Bool
 is_complete b state states =
     b.group && (not (next_state b state == state) && are_all_in b (next_state b state) states)
 
--- where a hit has left the states so: the list of the group that is complete
+-- when a hit has left the states so: the list of the group that is complete
 abbrev pub complete_lists : BankSettings → ℕ → List ℕ → List ℕ
 complete_lists b state states = if is_complete b state states then group_complete b (next_state b state) ∷ [] else []
 
@@ -54,7 +54,7 @@ hit b i state slot =
     )
     else (slot, hit_lists b i state)
 
--- a shot of this number in this state is hit; where there is no such shot or state, or it is disabled, nothing is done
+-- a shot of this number in this state is hit; if there is no such shot or state, or it is disabled, nothing is done
 abbrev pub hit_where : BankSettings → ℕ → Option Bool → Option ℕ → BankSlot → BankSlot × List ℕ
 hit_where b i (Some true) (Some state) slot = if nat_le state b.last_state then hit b i state slot else (slot, [])
 hit_where b i _ _ slot = (slot, [])
@@ -68,7 +68,7 @@ advance_where b i (Some state) slot = record slot { states = gone_on b i state s
 abbrev pub turned : ℕ → ℕ → List ℕ → List ℕ
 turned shots k states = drop k (take shots states) ++ take k (take shots states) ++ drop shots states
 
--- a slot that a shot's act has changed so, where the bank has the shot
+-- a slot that a shot's act has changed so, if the bank has the shot
 abbrev pub of_shot : BankSettings → ℕ → BankSlot → BankSlot → BankSlot
 of_shot b i changed slot = if nat_lt i b.shots then changed else slot
 

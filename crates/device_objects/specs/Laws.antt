@@ -46,8 +46,8 @@ pub record HasSaveShape (b : SaveSettings) (s : SaveState) : Type 0 where
 
 -- A state of the shape that the settings ask for. It is of their kind. A block or a bank has four slots, in each of
 -- which an accrual has 16 marks, and a bank its flags and 16 states of its profile. `HasBallShape` says what a ball
--- device has, and `HasSaveShape` what a ball save has. All else may be anything, such as a mark of a step that an accrual
--- does not have, or a next step that a sequence does not have.
+-- device has, and `HasSaveShape` what a ball save has. All else may be anything, such as a mark of a step that an
+-- accrual does not have, or a next step that a sequence does not have.
 abbrev pub HasShape : Settings → DeviceState → Type 0
 HasShape (kinds.Counter c) state = IsSomeAnd (counter_slots state) (λ slots. length slots ≡ 4)
 HasShape (kinds.Accrual a) state =

@@ -15,7 +15,7 @@ pub record SlotModel (S : Type 0) : Type 0 where
   -- what an act at this moment does to a slot that counts in this world, and the lists that it answers
   pub step : Act → ℕ → S → S × List ℕ
 
--- the slot on which the device acts: the current player's, where each player has one (without a current player,
+-- the slot on which the device acts: the current player's, if each player has one (without a current player,
 -- none), and else the first
 abbrev pub slot_in_use : Bool → World → Option ℕ
 slot_in_use persist world = if persist then (if world.player == 0 then None else Some (world.player - 1)) else Some 0
@@ -32,7 +32,7 @@ current m world slot = if is_of_other_game m.persist world (m.game_of slot) then
 abbrev pub put_at : {S : Type 0} → ℕ → List S → S × List ℕ → List S × List ℕ
 put_at i slots answer = (slice_set slots i answer.0, answer.1)
 
--- a step of the slot of this number, where there is one
+-- a step of the slot of this number, if there is one
 abbrev pub step_at : {S : Type 0} → (S → S × List ℕ) → ℕ → List S → Option S → List S × List ℕ
 step_at step i slots None = (slots, [])
 step_at step i slots (Some slot) = put_at i slots (step slot)

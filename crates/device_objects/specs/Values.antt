@@ -1,4 +1,4 @@
--- Values that move.
+-- The values of counters, timers and variables: how far from 0 they may be, and how they move.
 use Rattle.std.specs.Prelude.{ℕ, ℤ, pos, neg_ℤ, ◌+ℤ◌, ◌-ℤ◌, int_le, if◌then◌else◌}
 use Rattle.machine_settings.specs.declared.words.Direction.{Direction, TheVariants.{Up, Down}}
 

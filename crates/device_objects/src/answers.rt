@@ -222,7 +222,7 @@ fn with_hit_in(all: Outcomes, bank: &BankSettings, shot: usize, state: u8) -> Ou
     with(all, &hit_completing(bank, shot, state))
 }
 
-/// A shot that is hit, in whatever state; or nothing, where it is disabled.
+/// A shot that is hit, in whatever state; or nothing, if it is disabled.
 fn of_hit(bank: &BankSettings, shot: usize) -> Outcomes
     requires limits { IsWithinLimits (kinds.Bank bank.now) }
     requires shot { shot < bank.now.shots }

@@ -5,8 +5,8 @@ ghost use Rattle.device_objects.specs.Slots.{is_of_other_game, slot_in_use};
 
 use crate::state::World;
 
-/// The slot on which a device acts: the current player's, where each player has one, and else the first.
-/// None where each player has a slot and there is no current player.
+/// The slot on which a device acts: the current player's, if each player has one, and else the first.
+/// None if each player has a slot and there is no current player.
 pub fn slot_in_use(persist: bool, world: World) -> Option<usize>
     ensures { result ≡ slot_in_use persist world }
 {

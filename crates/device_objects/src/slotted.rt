@@ -39,7 +39,7 @@ pub trait SlotKind: Copy + Drop {
     /// What is seen of a slot.
     ghost seen: { Self.Slot → Self.Seen };
 
-    /// The kind of a row. None exactly where such a device cannot have the settings of the row.
+    /// The kind of a row. None exactly if such a device cannot have the settings of the row.
     fn of_row(row: &DeviceRow) -> Option<Self>
         ensures kind { IsSome result ↔ IsOfKind row.now.settings }
         ensures row { IfSome result (λ k. row_of k ≡ row.now) };
@@ -79,7 +79,7 @@ pub trait Resume: SlotKind {
     ghost use Rattle.std.specs.Prelude.{◌≡◌, map, IsSome, IfSome};
     ghost use Rattle.device_objects.specs.Laws.{HasShape};
 
-    /// The slots of a state. None only where the state is not of the shape that the settings ask for.
+    /// The slots of a state. None only if the state is not of the shape that the settings ask for.
     fn slots_of(&self, state: &DeviceState) -> Option<[Self::Slot; 4]>
         ensures shape { HasShape (Self.row_of self.now).settings state.now → IsSome result }
         ensures state { IfSome result (λ slots. Self.state_of (map Self.seen slots) ≡ state.now) };
@@ -96,7 +96,7 @@ impl<K: SlotKind> Slotted<K> {
     ghost use Rattle.std.specs.Prelude.{◌≡◌, ◌↔◌, IsSome, IfSome};
     ghost use Rattle.device_objects.specs.DeviceStep.{first_state};
 
-    /// The device of a row, in its first state. None exactly where the row is not of the kind, as `IsOfKind` says.
+    /// The device of a row, in its first state. None exactly if the row is not of the kind, as `IsOfKind` says.
     pub fn new(row: &DeviceRow) -> Option<Self>
         ensures kind { IsSome result ↔ K.IsOfKind row.now.settings }
         ensures row { IfSome result (λ d. ⟦<Slotted<K> as Device>⟧.row_of d ≡ row.now) }
@@ -114,7 +114,7 @@ impl<K: Resume> Slotted<K> {
     ghost use Rattle.std.specs.Prelude.{◌≡◌, ◌↔◌, IsSome, IfSome};
     ghost use Rattle.device_objects.specs.Laws.{HasShape};
 
-    /// The device of a row, in this state. None exactly where [`new`](Slotted::new) gives none, or the state is not of
+    /// The device of a row, in this state. None exactly if [`new`](Slotted::new) gives none, or the state is not of
     /// the shape that the row asks for.
     pub fn resume(row: &DeviceRow, state: &DeviceState) -> Option<Self>
         ensures kind { IsSome result ↔ (K.IsOfKind row.now.settings × HasShape row.now.settings state.now) }
@@ -175,7 +175,7 @@ impl<K: SlotKind> Device for Slotted<K> {
     }
 }
 
-/// What an act does to the slots: it is a step of the slot in use. Where no slot is in use, nothing is done.
+/// What an act does to the slots: it is a step of the slot in use. If no slot is in use, nothing is done.
 fn act_step<K: SlotKind>(
     kind: &K,
     slots: &mut [K::Slot],

@@ -5,7 +5,7 @@
 pub struct World {
     /// How many games have begun.
     pub games: u64,
-    /// The current player, from 1 to 4; 0 where there is none.
+    /// The current player, from 1 to 4; 0 if there is none.
     pub player: usize,
     /// How many balls are in play: 0 unless a ball is on.
     pub in_play: u32,
@@ -14,7 +14,7 @@ pub struct World {
 /// What a counter remembers for one player.
 #[derive(Clone, Copy)]
 pub struct CounterSlot {
-    /// The game to which it belongs, as [`World::games`] counts it; 0 where players have no slots of
+    /// The game to which it belongs, as [`World::games`] counts it; 0 if players have no slots of
     /// their own.
     pub game: u64,
     pub enabled: bool,
@@ -27,7 +27,7 @@ pub struct CounterSlot {
 /// What an accrual remembers for one player.
 #[derive(Clone, Copy)]
 pub struct AccrualSlot {
-    /// The game to which it belongs, as [`World::games`] counts it; 0 where players have no slots of
+    /// The game to which it belongs, as [`World::games`] counts it; 0 if players have no slots of
     /// their own.
     pub game: u64,
     pub enabled: bool,
@@ -38,7 +38,7 @@ pub struct AccrualSlot {
 /// What a sequence remembers for one player.
 #[derive(Clone, Copy)]
 pub struct SequenceSlot {
-    /// The game to which it belongs, as [`World::games`] counts it; 0 where players have no slots of
+    /// The game to which it belongs, as [`World::games`] counts it; 0 if players have no slots of
     /// their own.
     pub game: u64,
     pub enabled: bool,

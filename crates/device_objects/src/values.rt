@@ -1,4 +1,4 @@
-//! Values that move.
+//! The values of counters, timers and variables: how far from 0 they may be, and how they move.
 
 ghost use Rattle.std.specs.Prelude.{◌≡◌};
 ghost use Rattle.device_objects.specs.Values.{clamped, moved};

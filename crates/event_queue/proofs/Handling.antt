@@ -51,7 +51,7 @@ module _ (plan : PlanView) where
     joins-event : (takes : BindingId → Bool) → takes q ≡ false → put (runs_before plan) q (by_priority plan (filter takes (places_of plan e))) ≡ by_priority plan (filter (also takes q) (places_of plan e))
     joins-event takes fresh = joined plan takes q fresh (places_of plan e) (places_of-increase plan e) (has-event plan e q there on)
 
-    -- its event's order has room for it, where it does not take part
+    -- its event's order has room for it, if it does not take part
     pub order-room : (takes : BindingId → Bool) (orders : List (Vec BindingId Global)) → HasOrders plan takes orders → (d : Vec BindingId Global) → takes q ≡ false → length (get_or orders e.0 d).items < vec_capacity (get_or orders e.0 d)
     order-room takes orders has d fresh =
         let one = length-put (runs_before plan) q (by_priority plan (filter takes (places_of plan e))) in
@@ -62,7 +62,7 @@ module _ (plan : PlanView) where
         let room = (has.each e.0 d known).room in
         omega arith
 
-    -- and where it takes part, is this put into the order of the others
+    -- and if it takes part, is this put into the order of the others
     pub others-in_order : (takes : BindingId → Bool) → IsOrdered (runs_before plan) (by_priority plan (filter (without takes q) (places_of plan e)))
     others-in_order takes = search (rules, by_priority-in_order, AllPairs-filter, places_of-increase)
 

@@ -31,7 +31,7 @@ module _ (takes : BindingId → Bool) (q : BindingId) where
   pub without-itself : without takes q q ≡ false
   without-itself = and_right (takes q) (not (q.0 == q.0)) (not_from_true (q.0 == q.0) (eq-eqb q.0 q.0 refl))
 
--- where it took part, it does so again if it is taken out and joins once more
+-- if it took part, it does so again if it is taken out and joins once more
 pub without-also : (takes : BindingId → Bool) (q : BindingId) → takes q ≡ true → (p : BindingId) → takes p ≡ also (without takes q) q p
 without-also takes q took p = search rules
 

@@ -1,4 +1,5 @@
--- The places of bindings: which of them an event and a mode have, and who takes part while a mode's bindings join or leave.
+-- The places of bindings: which of them an event and a mode have, and who takes part while a mode's bindings join or
+-- leave.
 use Rattle.std.proofs.Common.{rules, ◌≡◌, ℕ, ◌+◌, ◌<◌, ◌≤◌, ◌==◌, ◌&&◌, ◌||◌, not, Bool, true, false, cond, List, [], ◌∷◌, ◌++◌, length, map, filter, take, get_or, slice_set, Vec, Global, refl, ap, sym, subst, ◌∙◌, inl, inr, append-nil, arith}
 use Rattle.std.specs.List.{All, AllPairs, range_with_len}
 use Rattle.std.proofs.lemmas.Bool.{cases_eq, eqb-true, eq-eqb, ne_eqb, and_from, or_from, not_from_false}
@@ -75,7 +76,7 @@ module _ (plan : PlanView) where
     places_in-own : All (λ p. is_own p ≡ true) (places_in plan m)
     places_in-own = filter_passes is_own (all_places plan)
 
--- ---- who takes part where a mode runs, or does not
+-- ---- who takes part when a mode runs, or does not
 
 part-own : (running : List Bool) (m : ModeId) (owner : Owner) → is_owner (Mode m) owner ≡ true → takes_part running owner ≡ get_or running m.0 false
 part-own running m owner is = search rules

@@ -43,7 +43,7 @@ module _ {X : Type 0} (before : X → X → Bool) where
     never : (x : X) → before x x ≡ false
     never x = false_from_ne_true (before x x) (λ is. true≢false (sym is ∙ order.one_way x x is))
 
-    -- what x was put into is left where the item at its place is taken out
+    -- what x was put into is left when the item at its place is taken out
     abbrev IsTakenOut : X → List X → List X → ℕ → Type 0
     IsTakenOut x ys zs k = k ≤ length ys → AllWithin (λ y. before y x ≡ true) ys 0 k → AllWithin (λ y. before y x ≡ false) ys k (length ys) → (k < length ys) × (remove ys k ≡ zs)
 

@@ -19,7 +19,7 @@ first_of None b = b
 first_of (Some a) None = Some a
 first_of (Some a) (Some b) = if comes_before b a then Some b else Some a
 
--- the alarm of a row that is due at this moment, or none where it is not due
+-- the alarm of a row that is due at this moment, or none if it is not due
 abbrev pub alarm_of : RowId → Option ℕ → Option (ℕ × RowId)
 alarm_of row due = option_map (λ moment. (moment, row)) due
 
@@ -40,7 +40,7 @@ pub record IsLeast (dues : List (Option ℕ)) (moment : ℕ) (row : RowId) : Typ
   pub earliest : (other : RowId) (at : ℕ) → due_of dues other ≡ Some at → moment ≤ at
   pub lowest : (other : RowId) → due_of dues other ≡ Some moment → row.0 ≤ other.0
 
--- Where there is no least alarm, no row is due. Where there is one, it is the least.
+-- If there is no least alarm, no row is due. If there is one, it is the least.
 pub record AlarmsGiveTheLeast : Type 0 where
   pub none : (dues : List (Option ℕ)) → least_of dues ≡ None → (row : RowId) → due_of dues row ≡ None
   pub least : (dues : List (Option ℕ)) (moment : ℕ) (row : RowId) → least_of dues ≡ Some (moment, row) → IsLeast dues moment row

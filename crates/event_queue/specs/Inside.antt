@@ -23,7 +23,7 @@ IsPlaceOf before x xs k = (k ≤ length xs) × IsPartitionPoint (λ y. before y 
 
 -- ---- alarms
 
--- an alarm, where there is one, put into alarms
+-- an alarm, if there is one, put into alarms
 abbrev pub put_alarm : Option (ℕ × RowId) → List (ℕ × RowId) → List (ℕ × RowId)
 put_alarm None alarms = alarms
 put_alarm (Some alarm) alarms = put comes_before alarm alarms

@@ -16,7 +16,7 @@ abbrev pub IsPushed : Posted → Result Unit Full → QueueView → QueueView �
 IsPushed event (Ok done) old new = (length old.waiting < old.size) × (new ≡ record { size = old.size; waiting = old.waiting ++ event ∷ [] })
 IsPushed event (Err full) old new = (length old.waiting ≡ old.size) × (new ≡ old)
 
--- the event that waits first is taken, where one waits
+-- the event that waits first is taken, if one waits
 abbrev pub IsTaken : Option Posted → QueueView → QueueView → Type 0
 IsTaken None old new = (old.waiting ≡ []) × (new ≡ old)
 IsTaken (Some first) old new = (old.waiting ≡ first ∷ new.waiting) × (new.size ≡ old.size)

@@ -61,7 +61,7 @@ impl Alarms {
         }
     }
 
-    /// As `set`, and slower where nothing changes. Takes the row's alarm out, and puts the new one
+    /// As `set`, and slower if nothing changes. Takes the row's alarm out, and puts the new one
     /// in: each time only the alarms on the shorter side of its place move. It is never inlined, so
     /// that `set` stays small.
     #[inline(never)]
@@ -84,7 +84,7 @@ impl Alarms {
     }
 
     /// The least moment at which a row is due, and of the rows that are due then the lowest. None
-    /// where no row is due. This looks through no rows.
+    /// if no row is due. This looks through no rows.
     pub fn least(&self) -> Option<(u64, RowId)>
         ensures least { result ≡ least_of self.now }
         ensures within { IfSome result (λ alarm. alarm.1.0 < length self.now) }
@@ -93,7 +93,7 @@ impl Alarms {
     }
 }
 
-/// Puts an alarm, where there is one, among those in order. There has to be room for it.
+/// Puts an alarm, if there is one, among those in order. There has to be room for it.
 fn put_in(ordered: &mut VecDeque<(u64, RowId)>, alarm: Option<(u64, RowId)>)
     requires ordered { IsOrdered comes_before ordered.old.items }
     requires room { length ordered.old.items < deque_capacity ordered.old }
@@ -110,7 +110,7 @@ fn put_in(ordered: &mut VecDeque<(u64, RowId)>, alarm: Option<(u64, RowId)>)
     }
 }
 
-/// Takes an alarm, where there is one, out of those in order, of which it is one.
+/// Takes an alarm, if there is one, out of those in order, of which it is one.
 fn take_out(ordered: &mut VecDeque<(u64, RowId)>, alarm: Option<(u64, RowId)>)
     requires { (rest : List (ℕ × RowId)) × IsOrdered comes_before rest × (ordered.old.items ≡ put_alarm alarm rest) }
     ensures items { (rest : List (ℕ × RowId)) → ordered.old.items ≡ put_alarm alarm rest → ordered.new.items ≡ rest }
@@ -141,7 +141,7 @@ fn place_of(ordered: &VecDeque<(u64, RowId)>, alarm: (u64, RowId)) -> usize
     ordered.partition_point(|other| comes_before(*other, alarm))
 }
 
-/// The alarm of a row that is due at this moment, or none where it is not due.
+/// The alarm of a row that is due at this moment, or none if it is not due.
 fn alarm_of(row: RowId, due: Option<u64>) -> Option<(u64, RowId)>
     ensures { result ≡ alarm_of row due }
 {

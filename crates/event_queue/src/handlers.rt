@@ -108,7 +108,7 @@ impl<'p> Handlers<'p> {
         self.handlers(event).get(k).copied()
     }
 
-    /// The places of the handlers of an event, in plan order: none where the plan has no such
+    /// The places of the handlers of an event, in plan order: none if the plan has no such
     /// event.
     fn handlers(&self, event: EventId) -> &[BindingId]
         ensures places { result.now ≡ in_order self.now.plan self.now.running event }

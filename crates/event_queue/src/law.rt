@@ -24,7 +24,7 @@ pub fn handlers_are_in_plan_order()
     ensures { HandlersAreInPlanOrder }
 {}
 
-/// The law of `Alarms`, for all due moments: where `least` gives nothing, no row is due. Where it
+/// The law of `Alarms`, for all due moments: if `least` gives nothing, no row is due. If it
 /// gives a moment and a row, this row is due at this moment, no row is due before it, and no lower
 /// row is due at it.
 ///

@@ -127,7 +127,7 @@ fn runs_before(one: u32, first: BindingId, other: u32, second: BindingId) -> boo
     other < one || one == other && first.0 < second.0
 }
 
-/// The priority of the binding at a place, 0 where there is none.
+/// The priority of the binding at a place, 0 if there is none.
 fn priority(bindings: &[Binding], place: BindingId) -> u32
     ensures { result ≡ (slice_index_or bindings.now place.0 no_binding).priority }
 {

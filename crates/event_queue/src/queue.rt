@@ -63,7 +63,7 @@ impl Queue {
         self.waiting.try_push_back(event).map_err(|_| Full)
     }
 
-    /// Takes the event that waits first, or none where none waits.
+    /// Takes the event that waits first, or none if none waits.
     pub fn take(&mut self) -> Option<Posted>
         ensures { IsTaken result self.old self.new }
     {

@@ -13,7 +13,7 @@ IsNameTableOf all t =
     ((t.above ≡ true) × (t.limit < length all))
     ⊎ ((t.above ≡ false) × (names_of t.set.keys ≡ all) × (length all ≤ t.limit))
 
--- it is the name's place among all names after this use, where the table keeps them all
+-- it is the name's place among all names after this use, if the table keeps them all
 abbrev pub IsNumberIn : NameTable → (name : List ℕ) → ℕ → Type 0
 IsNumberIn table name number =
     (all : List (List ℕ)) → IsNameTableOf all table → length (with_name all name) ≤ table.limit

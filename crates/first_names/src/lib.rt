@@ -7,13 +7,13 @@ ghost use Rattle.first_names.specs.FirstNames.{with_name, IsNameTableOf, IsNumbe
 use plan_tables::names::NameTable;
 use std::alloc::{AllocError, Global};
 
-/// One more use of a name, and the name's number. A name that is new goes last. Only then it is
-/// copied, and only up to the limit of the table: a name above it is left out, and the table says so
-/// from then on. Then the number has no meaning.
+/// One more use of a name, and the name's number. A name that is new goes last. It is copied
+/// only then, and only up to the limit of the table: a name above it is left out, and the table says
+/// so from then on. Then the number has no meaning.
 ///
 /// # Errors
 ///
-/// Where memory runs out. No clause says what the table has then, so it has to be dropped.
+/// If memory runs out. No clause says what the table has then, so drop it.
 pub fn note_name(alloc: Global, table: &mut NameTable, name: &[u8]) -> Result<usize, AllocError>
     ensures limit { OnOk result (table.new.limit ≡ table.old.limit) }
     ensures names { OnOk result ((all : List (List ℕ)) → IsNameTableOf all table.old → IsNameTableOf (with_name all name.now) table.new) }

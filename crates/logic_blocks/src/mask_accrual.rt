@@ -33,7 +33,7 @@ pub struct MaskSlot {
     game: u64,
     /// Whether it takes steps.
     enabled: bool,
-    /// Bit i is set where step i is done.
+    /// Bit i is set if step i is done.
     done: u16,
 }
 

@@ -38,7 +38,7 @@ impl Timer {
     ghost use Rattle.device_objects.specs.DeviceStep.{first_state};
     ghost use Rattle.logic_blocks.specs.Kind.{IsTimer};
 
-    /// The timer of a row, in its first state. None exactly where the row is of another kind.
+    /// The timer of a row, in its first state. None exactly if the row is of another kind.
     pub fn new(row: &DeviceRow) -> Option<Self>
         ensures kind { IsSome result ↔ IsTimer row.now.settings }
         ensures row { IfSome result (λ d. ⟦<Timer as Device>⟧.row_of d ≡ row.now) }

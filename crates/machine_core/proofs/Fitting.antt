@@ -67,7 +67,7 @@ module _ {A : Type 0} (row : A → DeviceRow) (state : A → DeviceState) (plan 
   pub not-right : (i : ℕ) (d : A) → i < length devices → d ≡ get_or devices i d → ¬ ((row d ≡ row_at plan (record { 0 = i })) × (state d ≡ first_state (row_at plan (record { 0 = i })).settings)) → ¬ (IsRight plan rows states i)
   not-right i d within read other right = other (right-row i d within read right, right-state i d within read right)
 
-  -- where each row has its device, and there are no more devices, they fit
+  -- if each row has its device, and there are no more devices, they fit
   module _ (all : (i : ℕ) → i < length plan.rows → IsRight plan rows states i) (few : length devices ≤ length plan.rows) where
     count : length devices ≡ length plan.rows
     count =

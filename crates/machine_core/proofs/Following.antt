@@ -19,11 +19,11 @@ use Rattle.written_machine.specs.EventStep.{do_before, do_after}
 use Rattle.written_machine.proofs.{Does.stop-by, Parts.does-calls, Silence.still-does}
 use Rattle.machine_core.specs.Core.{CoreView, HasHandlers, after, follow}
 
--- where the same modes run, the handlers are the same
+-- if the same modes run, the handlers are the same
 pub follow-still : (does : Machine → Machine) (c : CoreView) → HasHandlers c → running_of (does c.machine).modes ≡ running_of c.machine.modes → after does c ≡ follow does c
 follow-still does c was still = λ i. record { plan = c.plan; running = (was ∙ sym still) i; machine = does c.machine; room = c.room }
 
--- where nothing is done, the core stays as it is
+-- if nothing is done, the core stays as it is
 pub follow-nothing : (c : CoreView) → HasHandlers c → c ≡ follow (λ s. s) c
 follow-nothing c was = λ i. record { plan = c.plan; running = was i; machine = c.machine; room = c.room }
 
@@ -66,7 +66,7 @@ pub started-follows : (c entered_core new : CoreView) (m : ModeId) → entered_c
     → new ≡ follow (do_before c.plan (Mode m Started)) c
 started-follows c entered_core new m was is = search (rules, calls-still)
 
--- while its coils are put off too
+-- while its coils are turned off too
 freed-modes : (owner : Owner) (coils : List CoilId) (s : Machine) → (all_do (release_coil owner) coils s).modes ≡ s.modes
 freed-modes owner [] s = refl
 freed-modes owner (coil ∷ coils) s = search (rules, freed-modes owner coils (release_coil owner coil s))

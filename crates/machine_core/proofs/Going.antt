@@ -128,7 +128,7 @@ module _ (plan : PlanView) where
         let turned = set_device r (called plan call r s).0 s in
         goes-then s turned (call_device_by plan tell call r s) (goes-turn call r s) (goes-answer_by r (called plan call r s).1 turned)
 
-  -- ---- where nobody is told
+  -- ---- if nobody is told
 
   pub goes-tell_nobody : (telling : Telling) (s : Machine) → Goes plan s (tell_nobody telling s)
   goes-tell_nobody telling s = goes-none s

@@ -1,4 +1,4 @@
--- The coils that an owner holds are put off, the lowest first.
+-- The coils that an owner holds are turned off, the lowest first.
 use Rattle.std.proofs.Common.{rules, ◌≡◌, ℕ, zero, suc, ◌+◌, ◌-◌, ◌<◌, ◌≤◌, Bool, true, false, if◌then◌else◌, Option, None, Some, option_map, List, [], ◌∷◌, ◌++◌, length, take, drop, get_or, refl, sym, ap, ◌∙◌, subst, length-append, arith}
 use Rattle.std.proofs.lemmas.{Bool.{cond-true, cond-false}, Option.same_Some}
 use Rattle.std.proofs.lemmas.List.{take-append-drop, drop_more, take_more, take_all, length-set, get_or-set_same, get_or-set_other}
@@ -50,7 +50,7 @@ module _ (plan : PlanView) (owner : Owner) where
   -- ---- the lowest that it holds
 
   module _ (s : Machine) (all : length s.coils ≡ length plan.coils) where
-    -- where there is none, nothing is put off
+    -- if there is none, nothing is turned off
     pub released-end : None ≡ next_held owner s.coils → release_coils plan owner s ≡ s
     released-end none =
         let test = λ (c : CoilId). is_held_by owner (coil_at s.coils c) in
@@ -90,7 +90,7 @@ module _ (plan : PlanView) (owner : Owner) where
           sym (take-append-drop coil.0 ns)
           ∙ ap (λ cs. take coil.0 ns ++ cs) (drop_more ns coil.0 coil (omega (arith, there, count)) ∙ ap (λ (c : CoilId). c ∷ drop (coil.0 + 1) ns) (number-at coil.0 coil there))
 
-      -- it is put off first, and then the others
+      -- it is turned off first, and then the others
       pub released-first : release_coils plan owner s ≡ release_coils plan owner let_go
       released-first = search (rules, coil, split, all_do-append, none-below, there, is, cond-true, asked-is, not-released, own, others)
 
@@ -103,7 +103,7 @@ module _ (plan : PlanView) (owner : Owner) where
 
   -- ---- the code's loop
 
-  -- the coils that are held now, put off now, are all, put off at the start
+  -- the coils that are held now, turned off now, are all, turned off at the start
   pub record IsReleasing (start now : CoreView) : Type 0 where
     pub left : after (release_coils plan owner) now ≡ after (release_coils plan owner) start
     pub all : length now.machine.coils ≡ length plan.coils
@@ -125,7 +125,7 @@ module _ (plan : PlanView) (owner : Owner) where
             put_off_now o = put_off o now.machine.coils
         by (Some c) e n = cc
 
-    -- one more is put off
+    -- one more is turned off
     module _ (command : Command) (answer : Some command ≡ answer_release owner now.machine.moment now.machine.coils)
         (released : CoreView) (released_is : released ≡ after (λ s. set_coils (after_release owner s.moment s.coils) s) now) where
       record IsNext : Type 0 where
@@ -180,7 +180,7 @@ module _ (plan : PlanView) (owner : Owner) where
 
 -- ---- a mode stops
 
--- where all that is done leaves room, the stop of its devices does
+-- if all that is done leaves room, the stop of its devices does
 pub stopped-room : (plan : PlanView) (kept : Bool) (m : ModeId) (work : Work) (room : ℕ) (s : Machine) → work ≡ Mode m Stopping → IsWithin room (do_after plan kept work s) → IsWithin room (call_devices plan calls.ModeStop m s)
 stopped-room plan kept m work room s is h = search (rules, is, release-grows, length-append)
 

@@ -20,12 +20,12 @@ room-before room s t g h = record {
   few = let a = g.known in let b = h.few in omega (arith, a, b);
 }
 
--- where all that is left to do leaves room, its first does
+-- if all that is left to do leaves room, its first does
 pub room-first : {X : Type 0} (f : PlanView → X → Machine → Machine) → ((plan : PlanView) (x : X) (s : Machine) → Grows s (f plan x s)) → (now all : CoreView) (x : X) (xs left : List X) → left ≡ x ∷ xs
     → after (all_do (f now.plan) left) now ≡ all → IsWithin all.room all.machine → IsWithin now.room (f now.plan x now.machine)
 room-first f each now all x xs left e is h = search (rules, room-before, all_do-grows)
 
--- where all that is left to do comes to a state, so does the rest after the first
+-- if all that is left to do comes to a state, so does the rest after the first
 pub all_do-first : {X : Type 0} (f : PlanView → X → Machine → Machine) (now next all : CoreView) (x : X) (xs left : List X) → left ≡ x ∷ xs
     → after (all_do (f now.plan) left) now ≡ all → next ≡ after (f now.plan x) now → after (all_do (f next.plan) xs) next ≡ all
 all_do-first f now next all x xs left e is n = search rules
@@ -40,7 +40,7 @@ drop-found (y ∷ ys) (suc k) x h = search (rules, drop-found ys k x h)
 pub taken-is : (result : Option Posted) (old new : QueueView) (c d : CoreView) → IsTaken result old new → c.machine.waiting ≡ old.waiting → c.room ≡ old.size → d ≡ record c { machine = record c.machine { waiting = new.waiting }; room = new.size } → TakesFirst result c d
 taken-is x1 old new c d x6 waits room is = search rules
 
--- where all that is left to post leaves room, its first has it
+-- if all that is left to post leaves room, its first has it
 pub post-room : (owner : Owner) (now all : CoreView) (e : EventId) (es left : List EventId) → left ≡ e ∷ es → after (all_do (post owner) left) now ≡ all → IsWithin all.room all.machine → length now.machine.waiting < now.room
 post-room owner now all e es left is whole h =
     let room = room-first (λ plan. post owner) (λ plan. post-grows owner) now all e es left is whole h in
@@ -68,7 +68,7 @@ game-room now all e es left is whole h =
     let fits = room.waiting in
     omega (arith, fits, length-append now.machine.waiting (record { event = game_event now.plan e; owner = owners.Machine } ∷ []))
 
--- where a change of a variable that is told leaves room, there is room for its line and its event
+-- if a change of a variable that is told leaves room, there is room for its line and its event
 told-fits : (owner : Owner) (player : ℕ) (v : VariableId) (e : EventId) (value : ℤ) (room : ℕ) (s : Machine) → IsWithin room (tell_change owner player v e (Some value) s) → (length s.lines < room) × (length s.waiting < room)
 told-fits owner player v e value room s h = search (rules, length-append)
 

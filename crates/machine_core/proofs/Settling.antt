@@ -20,7 +20,7 @@ follows-handles does start now is = subst HasHandlers (sym is) refl
 pub follow-none : (c : CoreView) → HasHandlers c → c ≡ follow (plan_steps c.plan 0) c
 follow-none c was = λ i. record { plan = c.plan; running = was i; machine = c.machine; room = c.room }
 
--- where an event is taken and its line written, devices can still be called
+-- when an event is taken and its line written, devices can still be called
 pub written-calls : (now took written : CoreView) (first : Posted) (rest : List Posted) → took ≡ after (λ s. record s { waiting = rest }) now → written ≡ after (write first.owner (happenings.Event first.event)) took
     → CanCall now → CanCall written
 written-calls now took written first rest took_is written_is h = search rules

@@ -49,7 +49,7 @@ module _ (event : EventId) where
   abbrev handled : PlanView → Machine → Machine
   handled plan s = all_do (do_handler plan) (in_order plan (running_of s.modes) event) s
 
-  -- the whole, where the work and whether a stop was kept are known
+  -- the whole, if the work and whether a stop was kept are known
   abbrev whole : PlanView → Work → Bool → Machine → Machine
   whole plan work kept s = do_after plan kept work (handled plan (do_before plan work s))
 
@@ -92,6 +92,6 @@ module _ (event : EventId) where
         pub last-is : (last : CoreView) → last ≡ follow (do_after then.plan kept (work_of then.plan event)) then → last ≡ follow (after_taken old.plan event) old
         last-is last is = work-is last (is ∙ ap (λ (w : Work). follow (do_after then.plan kept w) then) (sym then-work))
 
-        -- where the machine has no work, the handlers were the last
+        -- if the machine has no work, the handlers were the last
         pub none-is : work ≡ Nothing → then ≡ follow (after_taken old.plan event) old
         none-is none = work-is then (follow-nothing then then-handles ∙ ap (λ (w : Work). follow (do_after then.plan kept w) then) (sym none))

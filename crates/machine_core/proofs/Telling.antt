@@ -17,7 +17,7 @@ find-nothing p (r ∷ rows) none = ap (λ (b : Bool). cond b (Some r) (find p ro
 pub unless-some : {A : Type 0} (o : Option A) → is_some o ≡ false → o ≡ None
 unless-some x1 e = search rules
 
--- where no device is due, none is Away
+-- if no device is due, none is Away
 pub none-away : (plan : PlanView) (target : BallTarget) (s : Machine) → least_of (map due_of s.devices) ≡ None → first_away plan target s ≡ None
 none-away plan target s none = find-nothing (λ r. is_device_away (device_at s r)) (filter (λ r. feeds target (row_at plan r).settings) (row_numbers plan)) not_away
   where

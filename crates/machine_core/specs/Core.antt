@@ -23,7 +23,7 @@ pub record CoreView : Type 0 where
 abbrev pub after : (Machine → Machine) → CoreView → CoreView
 after does c = record c { machine = does c.machine }
 
--- the same, where which modes run may have changed: its handlers are those of the modes that run now
+-- the same, when which modes run may have changed: its handlers are those of the modes that run now
 abbrev pub follow : (Machine → Machine) → CoreView → CoreView
 follow does c = record {
   plan = c.plan;
@@ -68,7 +68,8 @@ pub record IsWorkOfGame (plan : PlanView) (which : GameEvent) (s : Machine) (wor
   pub requests : work.requests ≡ (step_at plan which s).requests
   pub finals : work.finals ≡ (step_at plan which s).finals
 
--- the machine is that of the core's plan: it has its modes, devices and coils, the handlers of the modes that run, and all its switches
+-- the machine is that of the core's plan: it has its modes, devices and coils, the handlers of the modes that run, and
+-- all its switches
 pub record IsWhole (c : CoreView) : Type 0 where
   pub devices : HasDevices c.plan c.machine.devices
   pub coils : length c.machine.coils ≡ length c.plan.coils
@@ -77,7 +78,7 @@ pub record IsWhole (c : CoreView) : Type 0 where
   pub kinds : length c.machine.switches.kinds ≡ length c.plan.switches
   pub complete : IsComplete c.machine.switches
 
--- the event that waits first is taken, where one waits
+-- the event that waits first is taken, if one waits
 abbrev pub TakesFirst : Option Posted → CoreView → CoreView → Type 0
 TakesFirst None old new = (old.machine.waiting ≡ []) × (new ≡ old)
 TakesFirst (Some first) old new = (rest : List Posted) × (old.machine.waiting ≡ first ∷ rest) × (new ≡ after (λ s. record s { waiting = rest }) old)

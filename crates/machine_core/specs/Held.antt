@@ -1,4 +1,4 @@
--- What a core holds.
+-- How the parts that a core holds fit together.
 use Rattle.std.specs.Prelude.{◌≡◌, ℕ, ◌<◌, ◌≤◌, ◌^◌, Option, List, length, map}
 use Rattle.plan_tables.specs.{PlanView.PlanView, declared.devices.DeviceRow.DeviceRow}
 use Rattle.device_objects.specs.{declared.state.DeviceState.DeviceState, DeviceStep.due_of}

@@ -4,7 +4,7 @@ use Rattle.plan_tables.specs.declared.entries.Action.{Action, TheVariants.{Post,
 use Rattle.plan_tables.specs.declared.entries.Work.{Work, TheVariants.{Nothing, Mode, Game}}
 use Rattle.written_machine.specs.{EventStep.is_kept, Machine.Machine}
 
--- where there is work, whether a stop is kept for the mode that becomes active
+-- if there is work, whether a stop is kept for the mode that becomes active
 abbrev pub kept_at : Work → Machine → Option Bool
 kept_at Nothing s = None
 kept_at (Mode m which) s = Some (is_kept (Mode m which) s)

@@ -1,4 +1,4 @@
--- What a stimulus is, and what an alarm comes from, to the written machine.
+-- A stimulus, and the source of an alarm, as the written machine has them.
 use Rattle.std.specs.Prelude.{ℕ}
 use Rattle.written_machine.specs.Run.{Source, switch, device, Stimulus, SwitchChange, Alarm, Wait}
 use Rattle.machine_core.specs.declared.stimulus.{Source.Source as HeldSource, Stimulus.Stimulus as HeldStimulus}

@@ -27,7 +27,7 @@ pub(crate) trait Tells {
         ensures { core.new ≡ after (tell core.old.plan telling) core.old };
 }
 
-/// An action. Where another device is to know of it, that one is told last.
+/// An action. If another device is to know of it, that one is told last.
 #[inline]
 pub(crate) fn run_by<D: Device, T: Tells>(core: &mut Core<'_, D>, owner: Owner, action: &Action)
     requires action { IsActionWithin core.old.plan action.now }
@@ -84,7 +84,7 @@ fn run_rare_by<D: Device, T: Tells>(core: &mut Core<'_, D>, owner: Owner, action
     }
 }
 
-/// A ball enters a device: that is booked, and its event posted. Where the ball was on its way
+/// A ball enters a device: that is booked, and its event posted. If the ball was on its way
 /// there, the device that ejected it is told; else it may have drained.
 fn enter<D: Device, T: Tells>(
     core: &mut Core<'_, D>,
@@ -110,7 +110,7 @@ fn enter<D: Device, T: Tells>(
     }
 }
 
-/// The event of a ball that drains is posted, where that is to be and a ball is on.
+/// The event of a ball that drains is posted, if that is to be and a ball is on.
 fn post_drain<D: Device>(core: &mut Core<'_, D>, owner: Owner, drain: bool)
     requires game { drain ≡ true → HasGame core.old.plan }
     requires room { IsWithin core.old.room (drain_if core.old.plan owner drain core.old.machine) }

@@ -56,7 +56,7 @@ use written_machine::{Happening, Line};
 /// Moments are milliseconds.
 ///
 /// `begin` does what a stimulus does, and `settle` takes the event steps after it. Only `new` takes
-/// memory. `stop_devices` stops the devices and gives them back; where a core is dropped, they are
+/// memory. `stop_devices` stops the devices and gives them back; when a core is dropped, they are
 /// dropped as they are.
 #[derive(Drop)]
 pub struct Core<'p, D: Device> {
@@ -436,7 +436,7 @@ impl<'p, D: Device> Core<'p, D> {
         lists
     }
 
-    /// Whether the condition of a binding is met; it is where there is none.
+    /// Whether the condition of a binding is met; it is if there is none.
     pub(crate) fn meets(&self, condition: Option<Condition>) -> bool
         requires { IsConditionWithin self.now.plan condition }
         ensures { result ≡ is_met self.now.plan self.now.machine.players condition }
@@ -444,7 +444,7 @@ impl<'p, D: Device> Core<'p, D> {
         self.players.meets(condition)
     }
 
-    /// An action on a variable of the current player. Where the variable changes, its line is
+    /// An action on a variable of the current player. If the variable changes, its line is
     /// written, and its event posted.
     // Inlined like `write`: it is done for each action on a variable.
     #[inline(always)]
@@ -528,7 +528,8 @@ impl<'p, D: Device> Core<'p, D> {
         self.write(owner, happening);
     }
 
-    /// The first coil that the owner holds is put off, if one is. Reports the command that is sent.
+    /// The first coil that the owner holds is turned off, if one is. Reports the command that is
+    /// sent.
     pub(crate) fn release(&mut self, owner: Owner) -> Option<Command>
         ensures released { self.new ≡ after (λ s. set_coils (after_release owner s.moment s.coils) s) self.old }
         ensures command { result ≡ answer_release owner self.old.machine.moment self.old.machine.coils }
@@ -536,7 +537,7 @@ impl<'p, D: Device> Core<'p, D> {
         self.coils.release(owner, self.moment)
     }
 
-    /// A switch that there is has a new raw level. Reports where it is accepted at once.
+    /// A switch that there is has a new raw level. Reports the change if it is accepted at once.
     pub(crate) fn change(&mut self, at: u64, switch: SwitchId, level: bool) -> Option<Change>
         requires at { at < 2 ^ 40 }
         requires switch { switch.0 < length self.old.machine.switches.kinds }
@@ -626,7 +627,7 @@ fn stop_one<D: Device>(device: &mut D, now: u64, world: World)
     let _ = call_one(device, Call::ModeStop, now, world);
 }
 
-/// Of an alarm of a switch and one of a device the one that comes first: the switch's, where they
+/// Of an alarm of a switch and one of a device the one that comes first: the switch's, if they
 /// are due at one moment.
 fn first_of(switch: Option<(u64, SwitchId)>, device: Option<(u64, RowId)>) -> Option<(u64, Source)>
     ensures { option_map alarm_view result ≡ first_of (option_map (λ d. (d.0, of_switch d.1)) switch) (option_map (λ d. (d.0, of_device d.1)) device) }

@@ -72,7 +72,7 @@ fn is_active_save(state: &DeviceState) -> bool
     }
 }
 
-/// Where only one ball is left in play, the multiballs end.
+/// If only one ball is left in play, the multiballs end.
 fn end_multiballs<D: Device>(core: &mut Core<'_, D>)
     requires calls { CanCall core.old }
     requires room { IsWithin core.old.room (end_multiballs core.old.plan core.old.machine) }

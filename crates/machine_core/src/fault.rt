@@ -13,8 +13,8 @@ pub enum CoreFault {
     /// Memory ran out.
     #[error("NoMemory")]
     NoMemory,
-    /// The first row whose device is not the one of the row, in its first state. Where there are
-    /// too few devices it is the first row without one, and where there are too many the first
+    /// The first row whose device is not the one of the row, in its first state. If there are
+    /// too few devices, it is the first row without one, and if there are too many, the first
     /// number without a row.
     #[error("WrongDevice {}", .0.0)]
     WrongDevice(RowId),

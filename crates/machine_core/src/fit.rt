@@ -8,8 +8,8 @@ ghost use Rattle.machine_core.specs.Fit.{IsFit, IsFirstWrong};
 use device_objects::{Device, first_state, is_same_row, is_same_state};
 use plan_tables::{Plan, RowId};
 
-/// The first row whose device is not the one of the row, in its first state. Where there are too
-/// few devices it is the first row without one, and where there are too many the first number
+/// The first row whose device is not the one of the row, in its first state. If there are too
+/// few devices, it is the first row without one, and if there are too many, the first number
 /// without a row.
 pub(crate) fn first_wrong<D: Device>(plan: &Plan, devices: &[D]) -> Option<RowId>
     ensures fit { IfNone result (IsFit plan.now (map D.row_of devices.now) (map D.state_of devices.now)) }

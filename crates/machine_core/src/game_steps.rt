@@ -23,7 +23,7 @@ pub(crate) fn step_game<D: Device>(core: &mut Core<'_, D>, event: GameEvent)
     post_game(core, work.posts.as_slice());
 }
 
-/// One ball more is wanted, where that is so.
+/// One ball more is wanted, if `asks` holds.
 fn ask_ball<D: Device>(core: &mut Core<'_, D>, asks: bool)
     requires calls { CanCall core.old }
     requires room { IsWithin core.old.room (ask_ball core.old.plan asks core.old.machine) }
@@ -34,7 +34,7 @@ fn ask_ball<D: Device>(core: &mut Core<'_, D>, asks: bool)
     }
 }
 
-/// The scores of all players are told, where that is so.
+/// The scores of all players are told, if `tells` holds.
 fn tell_scores<D: Device>(core: &mut Core<'_, D>, tells: bool)
     requires { IsWithin core.old.room (write_finals core.old.plan tells core.old.machine) }
     ensures { core.new ≡ after (write_finals core.old.plan tells) core.old }

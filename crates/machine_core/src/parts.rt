@@ -168,7 +168,7 @@ fn take_step<D: Device>(core: &mut Core<'_, D>, event: EventId)
     }
 }
 
-/// The machine's work at an event: none where the plan has no such event.
+/// The machine's work at an event: none if the plan has no such event.
 fn work_of(plan: &Plan, event: EventId) -> Work
     ensures work { result ≡ work_of plan.now event }
     ensures of_plan { IsWorkOf plan.now result }
@@ -179,7 +179,7 @@ fn work_of(plan: &Plan, event: EventId) -> Work
     plan.work(event)
 }
 
-/// The machine's work before the handlers of an event. Where it has work at the event, reports
+/// The machine's work before the handlers of an event. If it has work at the event, reports
 /// whether a stop was kept for the mode that is active from now on.
 fn work_before<D: Device>(core: &mut Core<'_, D>, event: EventId) -> Option<bool>
     requires handlers { HasHandlers core.old }
@@ -286,7 +286,7 @@ fn handle<D: Device>(core: &mut Core<'_, D>, event: EventId)
     }
 }
 
-/// A binding does nothing where its condition is not met.
+/// A binding does nothing if its condition is not met.
 fn run_binding<D: Device>(core: &mut Core<'_, D>, binding: Binding)
     requires binding { IsBindingWithin core.old.plan binding }
     requires calls { CanCall core.old }
@@ -354,7 +354,7 @@ fn stop<D: Device>(core: &mut Core<'_, D>, mode: ModeId)
     post_if(core, posts, events.stopping);
 }
 
-/// The machine posts the event, where that is so.
+/// The machine posts the event, if `posts` holds.
 fn post_if<D: Device>(core: &mut Core<'_, D>, posts: bool, event: EventId)
     requires { IsWithin core.old.room (post_if posts event core.old.machine) }
     ensures { core.new ≡ after (post_if posts event) core.old }
@@ -364,7 +364,7 @@ fn post_if<D: Device>(core: &mut Core<'_, D>, posts: bool, event: EventId)
     }
 }
 
-/// The coils that an owner holds are put off, in the order of their numbers.
+/// The coils that an owner holds are turned off, in the order of their numbers.
 fn release_coils<D: Device>(core: &mut Core<'_, D>, owner: Owner)
     requires coils { length core.old.machine.coils ≡ length core.old.plan.coils }
     requires room { IsWithin core.old.room (release_coils core.old.plan owner core.old.machine) }

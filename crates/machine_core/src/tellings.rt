@@ -40,7 +40,7 @@ fn told_device<D: Device>(core: &Core<'_, D>, telling: Telling) -> Option<RowId>
 }
 
 /// The first device whose ball is on its way to the target. It waits for the ball until its timeout,
-/// and so it is due: where no device is, none is looked at.
+/// and so it is due: if no device is due, none is looked at.
 fn first_away<D: Device>(core: &Core<'_, D>, target: BallTarget) -> Option<RowId>
     requires target { IsTargetThere (length core.now.plan.rows) target }
     requires devices { HasDevices core.now.plan core.now.machine.devices }

@@ -11,7 +11,7 @@ latest_coil name found c = if bytes_eq name c.name.text then Some c else found
 abbrev pub coil_called : List SectionRows → List ℕ → Option Coil
 coil_called machine name = fold (latest_coil name) None (flat_map coils_in machine)
 
--- in place of a coil where there is none, with numbers in their ranges: then there is no plan
+-- in place of a coil if there is none, with numbers in their ranges: then there is no plan
 abbrev pub no_coil : Coil
 no_coil = record {
   name = record { line = 0; text = [] };

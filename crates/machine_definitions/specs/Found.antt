@@ -136,7 +136,7 @@ shots_among sections = flat_map shots_in (section_rows sections)
 abbrev pub profiles_among : List Section → List Profile
 profiles_among sections = map profile_of (flat_map shot_profiles_in (section_rows sections))
 
--- what all fields of `Definitions` hold, where it is of these rows
+-- what all fields of `Definitions` hold, if it is of these rows
 pub record IsDefined {S : Type 0} (rows : Rows) (coils : HashMap (Bor (List ℕ)) (Bor entry_rows.Entry) S) (switches quick : HashSet (Bor (List ℕ)) S) (devices : HashMap (Bor (List ℕ)) (Bor entry_rows.Entry) S) (shots : HashMap (Bor (List ℕ)) (Bor entry_rows.Entry) S)
     (found : HashMap (Bor (List ℕ)) profiles.Profile S) (standard : profiles.Profile) : Type 0 where
   pub coils_found : HasCoils rows.machine coils

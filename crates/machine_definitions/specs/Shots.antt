@@ -56,6 +56,6 @@ profile_called rows name = fold (latest_profile name) None (map profile_of (flat
 abbrev pub has_profile : Rows → List ℕ → Bool
 has_profile rows name = bytes_eq name default_profile || is_some (profile_called rows name)
 
--- the profile of this name; where no entry defines one, the standard one
+-- the profile of this name; if no entry defines one, the standard one
 abbrev pub profile_of_name : Rows → List ℕ → Profile
 profile_of_name rows name = unwrap_or (profile_called rows name) standard_profile

@@ -141,7 +141,7 @@ impl<'a> Definitions<'a> {
         name == DEFAULT_PROFILE || self.profiles.contains_key(name)
     }
 
-    /// The profile of this name; where no entry defines one, that of shots whose entries name none.
+    /// The profile of this name; if no entry defines one, that of shots whose entries name none.
     pub fn profile(&self, name: &[u8]) -> &Profile<'a>
         ensures { profile_view result.now ≡ profile_of_name self.now name.now }
     {

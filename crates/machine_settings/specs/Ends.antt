@@ -1,4 +1,4 @@
--- The ends that values reach.
+-- When a value has reached or passed its end.
 use Rattle.std.specs.Prelude.{ℤ, int_le, Bool, false, Option, None, Some}
 use Rattle.machine_settings.specs.declared.words.Direction.{Direction, TheVariants.{Up, Down}}
 

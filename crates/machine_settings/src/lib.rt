@@ -1,4 +1,4 @@
-//! What is set of the parts of a machine, in words, numbers and flags: as a configuration says it, and as a plan has it.
+//! The settings of a machine's parts that are words, numbers and flags, as a configuration and as a plan have them.
 //!
 //! What is set by a name, such as a coil or an event, is not here: in a plan it is a number.
 #![tactic(auto)]

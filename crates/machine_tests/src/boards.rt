@@ -117,7 +117,7 @@ impl<'t> Judge<'t> {
         (taken, None)
     }
 
-    /// A coil is put off.
+    /// A coil is turned off.
     fn put_off(&mut self, coil: CoilId) {
         let (off, faults) = self.ends;
         self.ends = if self.send(Command::Disable { coil }) {
@@ -127,7 +127,7 @@ impl<'t> Judge<'t> {
         };
     }
 
-    /// Each coil is put off that is on at this moment, and the one whose command the board has not taken.
+    /// Each coil is turned off that is on at this moment, and the one whose command the board has not taken.
     fn put_all_off(&mut self, coils: &[Coil; 256], now: u64, faulted: Option<CoilId>) {
         let mut number = 0u16;
         for coil in coils {
@@ -286,7 +286,7 @@ fn course_of(pen: &mut Pen, checked: &Checked, log: &str) -> Course {
     course
 }
 
-/// Adds the commands that a board took; and how many coils are put off at the end, and how many commands fault then.
+/// Adds the commands that a board took; and how many coils are turned off at the end, and how many commands fault then.
 fn add_end(pen: &mut Pen, taken: &Taken, end: &End) {
     if let Ok(taken) = taken.try_borrow() {
         for command in taken.iter() {
@@ -302,8 +302,8 @@ fn add_end(pen: &mut Pen, taken: &Taken, end: &End) {
     }
 }
 
-/// Answers to a log: what a board takes that faults at no command; how many coils are put off at the end, and how many
-/// commands fault; how many trials there are; and what is wrong.
+/// Answers to a log: what a board takes that faults at no command; how many coils are turned off at the end, and how
+/// many commands fault; how many trials there are; and what is wrong.
 pub(crate) fn boarded(pen: &mut Pen, checked: &Checked, log: &str) {
     let course = course_of(pen, checked, log);
     let mut trials = Trials::new(pen.alloc);

@@ -76,7 +76,7 @@ impl Device for Counted {
     }
 }
 
-/// The counter of the row that a word names by its number, after a hit where `+` stands before it.
+/// The counter of the row that a word names by its number, after a hit if `+` stands before it.
 fn counter_of(checked: &Checked, word: &str) -> Option<Counter> {
     let number = word.trim_start_matches('+').parse::<usize>().ok()?;
     let mut counter = Counter::new(checked.plan().rows().get(number)?)?;
@@ -154,7 +154,7 @@ fn box_of(
     Some(counted)
 }
 
-/// The boxes of the rows that the words name. Their counts are added to the others. Where memory is out some are
+/// The boxes of the rows that the words name. Their counts are added to the others. If memory runs out, some are
 /// missing.
 pub(crate) fn boxes_of(
     alloc: Global,
@@ -188,7 +188,7 @@ pub(crate) fn boxed(pen: &mut Pen, checked: &Checked, words: &str) {
 }
 
 // Row 0 is the machine's, 1 and 2 are of a mode. A pair has the stops and the drops of a box: those of
-// all boxes while there is a rig, and those at the end. A rig pulses a coil, and puts it off at the end.
+// all boxes while there is a rig, and those at the end. A rig pulses a coil, and turns it off at the end.
 const BOXES: &str = "\
 modes: m
 switches:

@@ -130,7 +130,7 @@ switches:
 »?
 check 999 - => fault 7 Limit switches¶";
 
-// Another fault than that of a line is reported only where each line of the text is right.
+// Another fault than that of a line is reported only if each line of the text is right.
 const CERTIFICATES: &str = "\
 ?
 check 999 pinball-certificate 1¶bound 0¶ => pinball-certificate 2¶bound 0¶

@@ -1,4 +1,5 @@
-//! What rigs are made to do: to play a log, whose course is noted, or the first steps of a course.
+//! What rigs are made to do: to play a log and note each step, or to take the first steps of that
+//! again.
 
 use crate::spares::first_box;
 use crate::steps::number_at;
@@ -27,7 +28,7 @@ pub(crate) struct Step {
     sent: usize,
 }
 
-/// The steps of a log, and what its lines say is sent. Where memory is out some are missing, and the runs are other
+/// The steps of a log, and what its lines say is sent. If memory runs out, some are missing, and the runs are other
 /// than they are to be.
 #[derive(Drop)]
 pub(crate) struct Course {
@@ -79,7 +80,7 @@ pub(crate) fn coil_of(command: Command) -> CoilId {
     }
 }
 
-/// A box of a device for each row. Where memory is out some are missing, and there is no rig of them.
+/// A box of a device for each row. If memory runs out, some are missing, and there is no rig of them.
 pub(crate) fn devices_of(alloc: Global, checked: &Checked) -> Vec<Box<dyn Device>> {
     let mut devices: Vec<Box<dyn Device>> = Vec::new(alloc);
     for row in checked.plan().rows() {
@@ -155,7 +156,7 @@ fn note_log<D: Device>(
 /// What a rig is to do.
 #[derive(Clone, Copy)]
 pub(crate) enum Script<'a> {
-    /// To play a log, whose course is noted.
+    /// To play a log, and note each step.
     Play(&'a str),
     /// To take these steps.
     Take(&'a [Step]),
@@ -182,7 +183,7 @@ fn is_followed<D: Device>(
 pub(crate) enum End {
     Refused,
     Dropped,
-    /// It is shut down: how many coils are put off then, and how many commands fault.
+    /// It is shut down: how many coils are turned off then, and how many commands fault.
     Shut(usize, u16),
 }
 

@@ -1,5 +1,5 @@
 //! A device that sees what the board has taken when the device is stopped. At the end of a rig, whether it is shut down
-//! or dropped, halted or not, all coils are put off before a device is stopped.
+//! or dropped, halted or not, all coils are turned off before a device is stopped.
 
 use crate::cases::{Subject, assert_rows};
 use crate::fuses::board_of;
@@ -98,8 +98,8 @@ fn run<D: Device>(alloc: Global, checked: &Checked, device: D, board: FuseBoard,
     }
 }
 
-/// How many commands a board had taken when the device was stopped, and how many at the end, where the board faults at
-/// its command of a number. There are none where memory is out.
+/// How many commands a board had taken when the device was stopped, and how many at the end, if the board faults at
+/// its command of a number. There are none if memory runs out.
 fn counts_of(
     alloc: Global,
     checked: &Checked,
@@ -127,8 +127,8 @@ pub(crate) fn ended(pen: &mut Pen, checked: &Checked, words: &str) {
     }
 }
 
-// The switch pulses one coil and enables another. Both are put off at the end. Where the board faults at command 1, the
-// rig is halted: it puts off the coil of that command alone.
+// The switch pulses one coil and enables another. Both are turned off at the end. If the board faults at command 1, the
+// rig is halted: it turns off the coil of that command alone.
 const ENDS: &str = "\
 switches:
   s: {debounce: quick}

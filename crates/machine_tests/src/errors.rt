@@ -1,4 +1,4 @@
-//! What each error says of itself, each variant of it.
+//! What each variant of each error says.
 
 use crate::asserts::assert_text;
 use cascade_rank::RankFault;

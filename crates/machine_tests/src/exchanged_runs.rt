@@ -248,7 +248,7 @@ fn run<'h, D: Device, M: Make<D>>(
     lines
 }
 
-/// The devices of the rows as they begin, with plain code. Where memory is out some are missing, and there is no rig
+/// The devices of the rows as they begin, with plain code. If memory runs out, some are missing, and there is no rig
 /// of them: so what makes them needs no `?`, which is slow to prove.
 fn first_devices<D: Device, M: Make<D>>(alloc: Global, make: &M, seats: &[Seat]) -> Vec<D> {
     let mut devices = Vec::new(alloc);
@@ -299,7 +299,7 @@ fn run_both<D: Device, M: Make<D>>(
     }
 }
 
-/// A seat for each row. Where memory is out some are missing.
+/// A seat for each row. If memory runs out, some are missing.
 fn seats_of(alloc: Global, checked: &Checked) -> Vec<Seat> {
     let mut seats = Vec::new(alloc);
     for row in checked.plan().rows() {

@@ -15,7 +15,7 @@ use std::rc::Rc;
 use worked_rows::Pen;
 use written_machine::{Happening, Line};
 
-/// The row of a number, which is beyond the last one where it is none.
+/// The row of a number. A number that is too great gives one beyond the last row.
 fn row_of(number: u64) -> RowId {
     RowId(u16::try_from(number).unwrap_or(u16::MAX))
 }
@@ -44,7 +44,7 @@ fn add_exchange<D: Device, B: Board>(
     }
 }
 
-/// Has a rig take one change, of switch 0. Then adds the answer where a device is to take the place of that of
+/// Has a rig take one change, of switch 0. Then adds the answer when a device is to take the place of that of
 /// a row, and what has become of each box while the rig is there.
 fn add_change<D: Device, B: Board>(
     pen: &mut Pen,
@@ -58,7 +58,7 @@ fn add_change<D: Device, B: Board>(
     add_counts(pen, all);
 }
 
-/// Adds the answer where a device is to take the place of that of a row in the rig of these boxes.
+/// Adds the answer when a device is to take the place of that of a row in the rig of these boxes.
 fn add_with<D: Device>(
     pen: &mut Pen,
     checked: &Checked,
@@ -72,7 +72,7 @@ fn add_with<D: Device>(
     }
 }
 
-/// Adds the answer where the last box is to take the place of that of a row in the rig of the others. The board
+/// Adds the answer when the last box is to take the place of that of a row in the rig of the others. The board
 /// faults at its command of this number, if it is not 0.
 fn add_with_last<D: Device>(
     pen: &mut Pen,
@@ -156,7 +156,7 @@ fn mask_for<D: Device, M: Make<D>>(
     make.resumed(row, &state?)
 }
 
-/// Adds the lines of the inputs before, then the answer where the mask of a word is to take the place of the
+/// Adds the lines of the inputs before, then the answer when the mask of a word is to take the place of the
 /// device of a row, and the lines of the inputs after.
 fn add_swap<D: Device, B: Board, M: Make<D>>(
     pen: &mut Pen,
@@ -175,7 +175,7 @@ fn add_swap<D: Device, B: Board, M: Make<D>>(
     add_inputs(pen, plan, rig, after);
 }
 
-/// Adds the answer where a mask is to take the place of one of these devices.
+/// Adds the answer when a mask is to take the place of one of these devices.
 fn add_swap_with<D: Device, M: Make<D>>(
     pen: &mut Pen,
     checked: &Checked,

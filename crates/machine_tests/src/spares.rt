@@ -208,7 +208,7 @@ fn mask_in(alloc: Global, row: &DeviceRow, state: &DeviceState) -> Option<Box<dy
     Some(boxed(alloc, MaskBank::resume(row, state))?)
 }
 
-/// What makes devices. It makes none where memory is out, or where there is no such code.
+/// What makes devices. It makes none if memory runs out, or if there is no such code.
 pub(crate) trait Make<D> {
     /// The device of a row as it begins.
     fn first(&self, row: &DeviceRow, is_mask: bool) -> Option<D>;

@@ -11,7 +11,7 @@ use std::alloc::Global;
 use worked_rows::Pen;
 use written_machine::Line;
 
-/// The word of a text at this place as a number, the greatest where it is none.
+/// The word of a text at this place as a number, the greatest if it is none.
 pub(crate) fn number_at(text: &str, place: usize) -> u64 {
     let word = text.split_whitespace().nth(place).unwrap_or("");
     word.parse::<u64>().unwrap_or(u64::MAX)

@@ -14,7 +14,7 @@ pub none_here : {R : Type 0} (s : SectionRows) (ss all : List SectionRows) (view
     → map view rows ≡ entries_in s.content → (length rows == 0) ≡ true → entry_names ss ≡ entry_names all
 none_here s ss all view rows is are empty = search (rules, nil_from_length, eqb-true)
 
--- the entries of the machine text are new where none is taken, so they fail only if memory runs out
+-- the entries of the machine text are new if none is taken, so they fail only if memory runs out
 pub only_memory : (e : ConfigFault) (text : List ℕ) (keys : List (List ℕ)) (es : List EntryName) → keys ≡ [] → AreDistinct es → FailsRows e (entries_new_at text keys es) → e ≡ faults.NoMemory
 only_memory x1 text keys es none distinct h = search (rules, new_complete, nothing_in)
 

@@ -16,11 +16,11 @@ pub record AreModesApart (machine : List SectionRows) (modes : List ModeRead) : 
   pub with_machine : (m : ModeRead) → Contains modes m → AreApart machine m.mode.sections
   pub of_modes : (m n : ModeRead) → Contains modes m → Contains modes n → m.mode.name ≢ n.mode.name → AreApart m.mode.sections n.mode.sections
 
--- where there are none
+-- if there are none
 pub none_apart : (machine : List SectionRows) (modes : List ModeRead) → modes ≡ [] → AreModesApart machine modes
 none_apart machine modes none = search rules
 
--- a mode whose entries are new where these are taken
+-- a mode whose entries are new if these are taken
 pub record IsNewMode (taken : List (List ℕ)) (m : ModeRead) : Type 0 where
   pub distinct : AreDistinct (mode_entries m)
   pub fresh : AreFresh taken (mode_entries m)

@@ -34,7 +34,7 @@ split_cr x1 e = search (rules, eqb-true, at_cr_lf)
 split_end : (b : ℕ) (bs : List ℕ) (lf cr : Bool) → b == 10 ≡ lf → b == 13 ≡ cr → (lf || (cr && begins_lf bs)) ≡ true → Splits (b ∷ bs)
 split_end b bs x3 x4 l c e = search (rules, eqb-true, at_lf, split_cr)
 
--- a byte in front of a line, where no line ends
+-- a byte at which no line ends, in front of a line
 longer : (a : ℕ) (text line behind : List ℕ) → ends_line a text ≡ false → IsFirstLine line text behind → IsFirstLine (a ∷ line) (a ∷ text) behind
 longer a text line behind e h = search (rules, longer_first)
 

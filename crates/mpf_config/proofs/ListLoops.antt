@@ -10,7 +10,7 @@ mapped_at f xs i x lt is = ap (map f) (drop_more xs i x lt) ∙ ap (λ y. f y �
 found_or : {T : Type 0} (b : Bool) (x : T) (o : Option (ℕ × T)) → is_some (if b then Some (0, x) else behind_one o) ≡ (b || is_some o)
 found_or b x o = search rules
 
--- a name is found where it is among the names
+-- a name is found if it is among the names
 found_among : {T : Type 0} (name_of : T → List ℕ) (name : List ℕ) (xs : List T) → is_some (found_in name_of name xs) ≡ is_among (map name_of xs) name
 found_among name_of name [] = refl
 found_among name_of name (x ∷ xs) = search (rules, found_or, found_among name_of name xs)
@@ -18,7 +18,7 @@ found_among name_of name (x ∷ xs) = search (rules, found_or, found_among name_
 seen : {R T : Type 0} (view : R → T) (o : Option (ℕ × Bor R)) → is_some (found_view view o) ≡ is_some o
 seen view o = search rules
 
--- a name is not among the names where none was found
+-- a name is not among the names if none was found
 pub not_among : {R T : Type 0} (view : R → T) (name_of : T → List ℕ) (name : List ℕ) (xs : List T) (o : Option (ℕ × Bor R)) (none answer : Bool)
     → found_view view o ≡ found_in name_of name xs → is_some o ≡ not none → none ≡ answer → not (is_among (map name_of xs) name) ≡ answer
 not_among view name_of name xs o none answer found is e = search (rules, found_among, seen)

@@ -25,7 +25,7 @@ use Rattle.yaml_bytes.proofs.{Steps.{bind_ok, guard_false, ok_is}, Each.{here, t
 abbrev pub Found : Type 0
 Found = List (Option ModeRead)
 
--- the place of a mode: as it was where there is no text of the mode, and else what its text says
+-- the place of a mode: as it was if there is no text of the mode, and else what its text says
 abbrev pub IsTaken : Sizes → List Text → Written → Option ModeRead → Option ModeRead → Type 0
 IsTaken sizes ts w before after =
     ((has_text ts (mode_text_of w) ≡ false) × (after ≡ before)) ⊎ ((m : ModeRead) × (after ≡ Some m) × IsModeRead sizes ts w m)
@@ -172,7 +172,7 @@ read_still sizes t ts w m h =
 
 -- ---- one text, taken to its place
 
--- the place of a mode: what the text says where it is that of the mode, and else as it was
+-- the place of a mode: what the text says if it is that of the mode, and else as it was
 abbrev IsPlaced : Text → List (List ℕ) → Written → Option ModeRead → Option ModeRead → Type 0
 IsPlaced t taken w before after =
     ((t.name ≢ mode_text_of w) × (after ≡ before))
@@ -207,7 +207,7 @@ placed_behind t taken before found x5 = search rules
 abbrev place_of : Text → List Written → Option (ℕ × Written)
 place_of t ws = found_in mode_text_of t.name ws
 
--- the first, where it is the one, or one behind it
+-- the first, if it is the one, or one behind it
 abbrev first_or : Bool → Text → Written → List Written → Option (ℕ × Written)
 first_or same t w ws = cond same (Some (0, w)) (behind_one (place_of t ws))
 
@@ -320,7 +320,7 @@ nothing_taken (w ∷ ws) [] long = absurd (omega (arith, long))
 nothing_taken (w ∷ ws) (before ∷ found) long = (inl (refl, refl), nothing_taken ws found (omega (arith, long)))
 
 module _ (machine : List SectionRows) where
-  -- the keys that are taken where these are found
+  -- the keys that are taken when these are found
   abbrev keys_at : Found → List (List ℕ)
   keys_at found = taken_by (entry_keys machine) (found_of found)
 
@@ -427,7 +427,7 @@ module _ (sizes : Sizes) (t : Text) (ts : List Text) where
       (taken_behind w before after first h.0, all_behind ws found out rest h.1)
   all_behind ws found out other h = absurd h
 
--- it is above the limits where the text of a listed mode is
+-- it is above the limits if the text of a listed mode is
 abbrev pub IsAboveWhere : Sizes → Type 0 → List Text → List Written → Type 0
 IsAboveWhere sizes Above ts ws =
     (w : Written) (text : List ℕ) → Contains ws w → IsText ts (mode_text_of w) text → IsTextOver sizes text → Above
@@ -452,7 +452,7 @@ none_old : (modes : List ModeRead) (ts : List Text) (ws : List Written) → AreO
 none_old modes ts [] = tt
 none_old modes ts (w ∷ ws) = (tt, none_old modes ts ws)
 
--- the same where one text fewer is to come
+-- the same if one text fewer is to come
 old_behind : (modes : List ModeRead) (t : Text) (ts : List Text) (w : Written) (o : Option ModeRead) → IsOld modes (t ∷ ts) w o → IsOld modes ts w o
 old_behind modes t ts w x5 h = search rules
 
@@ -529,7 +529,7 @@ module _ (sizes : Sizes) (Above : Type 0) (names : List (List ℕ)) (t : Text) (
   next_or ahead ws found out new fine so apart among old h = absurd h
 
 module _ (sizes : Sizes) (Above : Type 0) (machine : List SectionRows) (ws : List Written) (apart : AreNew [] (names_of ws)) (modes : List ModeRead) (distinct : AreModesApart machine modes) where
-  -- the entries of a mode of this text are new where no text of what was found is to come
+  -- the entries of a mode of this text are new if no text of what was found is to come
   all_entries_new : (t : Text) (ts : List Text) (found : Found) → AreOld modes (t ∷ ts) ws found
       → (w : Written) (m : ModeRead) → t.name ≡ mode_text_of w → m.mode.name ≡ w.text → Contains modes m
       → entries_new_at t.name (keys_at machine found) (mode_entries m) ≡ Ok tt

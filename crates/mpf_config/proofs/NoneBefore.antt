@@ -11,7 +11,7 @@ use Rattle.mpf_config.specs.Reading.{new_mode_at, placed_at, none_found, found_o
 use Rattle.mpf_config.specs.Inside.{modes_view, listed_view, mode_read_view, found_modes_view, mode_keys, placed_keys}
 use Rattle.yaml_bytes.proofs.Steps.{bind_ok, ok_is}
 
--- a mode was found only where the name of its text was among these
+-- a mode was found only if the name of its text was among these
 abbrev pub NoneBefore : List (List ℕ) → List Written → List (Option ModeRead) → Type 0
 NoneBefore names [] [] = Unit {0}
 NoneBefore names (w ∷ ws) (o ∷ os) = (is_among names (mode_text_of w) ≡ false → o ≡ None) × NoneBefore names ws os

@@ -72,7 +72,7 @@ has_bytes bundle at n some len = seen (drop at bundle) (length-drop at bundle) l
 
 -- ---- lines that begin with `@`
 
--- no line begins with `@`, where the first byte begins a line or not
+-- no line begins with `@`, whether the first byte begins a line or not
 abbrev HasNone : Bool → List ℕ → Type 0
 HasNone begins [] = Unit {0}
 HasNone begins (b ∷ bs) = ((begins && (b == 64)) ≡ false) × HasNone (b == 10) bs
@@ -82,7 +82,7 @@ abbrev begins_behind : Bool → List ℕ → Bool
 begins_behind begins [] = begins
 begins_behind begins (b ∷ bs) = begins_behind (b == 10) bs
 
--- where a text goes on, a line begins with `@`
+-- if a text goes on, a line begins with `@`
 abbrev GoesOn : Bool → List ℕ → Type 0
 GoesOn begins [] = Unit {0}
 GoesOn begins (b ∷ bs) = (begins && (b == 64)) ≡ true
@@ -174,7 +174,7 @@ cut_piece begins (b ∷ piece) behind h g = rw (h.0, cut_piece (b == 10) piece b
 in_front : (rest behind : List ℕ) → HasNone false (64 ∷ rest) → GoesOn (begins_behind false (64 ∷ rest)) behind → pieces_of (64 ∷ rest ++ behind) ≡ (64 ∷ rest) ∷ pieces_of behind
 in_front rest behind h g = first_by 64 (rest ++ behind) true refl ∙ rw (cut_piece false rest behind h.1 g) refl
 
--- where another piece stands behind, it begins with `@`
+-- if another piece stands behind, it begins with `@`
 abbrev pub BeginsAt : List ℕ → Type 0
 BeginsAt [] = Unit {0}
 BeginsAt (b ∷ bs) = b ≡ 64

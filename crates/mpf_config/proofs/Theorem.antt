@@ -54,7 +54,7 @@ machine_or sizes texts text r is h =
 abbrev modes_in : List Text → MachineRead → Result (List (Option ModeRead)) RowsFault
 modes_in texts m = modes_in_texts m.rows (listed_modes m.rows) texts
 
--- the modes that are found, where the entries of the machine text are new
+-- the modes that are found, if the entries of the machine text are new
 modes_parts : (machine : List SectionRows) (ws : List Written) (texts : List Text) (found : List (Option ModeRead)) → modes_in_texts machine ws texts ≡ Ok found
     → AreDistinct (entry_names machine) × (modes_from (entry_keys machine) ws [] (none_found ws) texts ≡ Ok found)
 unfolding modes_in_texts
@@ -102,7 +102,7 @@ pub rows_sound : (bundle : List ℕ) (rows : Rows) → rows_at bundle ≡ Ok row
 unfolding rows_at
 rows_sound bundle rows e = search (rules, guard_false, bind_ok, ok_is, machine_first, was_machine)
 
--- where each step reads what is said, so are the rows
+-- if each step reads what is said, so are the rows
 pub rows_again : (bundle : List ℕ) (texts : List Text) (m : MachineRead) (found : List (Option ModeRead)) → length bundle ≤ 2 ^ 23 → texts_at bundle ≡ Ok texts
     → machine_read_at texts ≡ Ok m → modes_in texts m ≡ Ok found → rows_at bundle ≡ Ok (rows_from texts m (found_of found))
 unfolding rows_at

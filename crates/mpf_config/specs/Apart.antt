@@ -42,8 +42,8 @@ pub record AreNamesApart (machine : List SectionRows) (modes : List ModeRows) : 
 
 -- ---- keys
 
--- The name of a section and that of an entry as one list of bytes. Each byte of the section stands behind a 1, and the name
--- behind a 0; so no two entries have one key.
+-- The name of a section and that of an entry as one list of bytes. Each byte of the section stands behind a 1, and the
+-- name behind a 0; so no two entries have one key.
 abbrev pub joined : List ℕ → List ℕ → List ℕ
 joined [] name = 0 ∷ name
 joined (b ∷ section) name = 1 ∷ b ∷ joined section name

@@ -49,7 +49,8 @@ abbrev pub onto_piece : Bool → ℕ → List ℕ × List (List ℕ) → List �
 onto_piece true b pieces = ([], (b ∷ pieces.0) ∷ pieces.1)
 onto_piece false b pieces = (b ∷ pieces.0, pieces.1)
 
--- the bytes before the next line that begins with `@`, and the pieces from there on, where the first byte begins a line or not
+-- the bytes before the next line that begins with `@`, and the pieces from there on, whether the first byte begins a
+-- line or not
 abbrev pub pieces_from : Bool → List ℕ → List ℕ × List (List ℕ)
 pieces_from begins [] = ([], [])
 pieces_from begins (b ∷ bs) = onto_piece (begins && (b == 64)) b (pieces_from (b == 10) bs)

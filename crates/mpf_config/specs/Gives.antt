@@ -1,5 +1,5 @@
--- What is read, as the program has it, and what its lists and sets gain. An answer gives what reading gives, unless memory
--- ran out: this, or the first fault.
+-- What is read, as the program has it, and what its lists and sets gain. An answer gives what reading gives, unless
+-- memory ran out: this, or the first fault.
 use Rattle.std.specs.Prelude.{◌≡◌, ◌||◌, ℕ, Bool, not, List, [], ◌++◌, map, Option, Result}
 use Rattle.std.specs.{List.flat_map, declared.borrow.CowSlice.CowSlice, Borrow.Bor}
 use Rattle.std.specs.{HashSet.HashSet, Global.{Vec, Global}}
@@ -29,7 +29,7 @@ use Rattle.mpf_config.specs.Inside.{bytes_view, text_view, texts_view, notes_vie
 
 -- ---- sections
 
--- it passes, where reading does, and has no more to say
+-- it passes, if reading does, and has no more to say
 abbrev pub Passes : Result (Unit {0}) ConfigFault → Result (Unit {0}) RowsFault → Type 0
 Passes result read = GivesRows (λ u. u) result read
 
@@ -153,7 +153,7 @@ LeavesModes found result read = GivesRows (λ _. found_modes_view found) result 
 abbrev pub mode_of_text : Name → texts.Text → Result ModeRead RowsFault
 mode_of_text name text = mode_read_at (name_view name) (text_view text)
 
--- the mode of this name by its text, where none of its entries is taken
+-- the mode of this name by its text, if none of its entries is taken
 abbrev pub new_mode_of_text : {S : Type 0} → List Section → HashSet (CowSlice ℕ Global) S → Name → texts.Text → Result ModeRead RowsFault
 new_mode_of_text machine taken name text = new_mode_at (keys_taken machine taken) (name_view name) (text_view text)
 

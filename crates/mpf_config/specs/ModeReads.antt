@@ -14,6 +14,7 @@ pub record ModeRead : Type 0 where
   pub mode : ModeRows
   pub notes : List Note
 
--- the notes on a bundle: on the machine text, on the texts of modes as these are listed, and on the texts that are not read
+-- the notes on a bundle: on the machine text, on the texts of modes as these are listed, and on the texts that are not
+-- read
 abbrev pub rows_notes : List Text → List Written → List Pair → List ModeRead → List Note
 rows_notes texts listed sections modes = (machine_notes texts listed sections ++ flat_map (λ m. m.notes) modes) ++ unlisted_notes listed texts

@@ -50,7 +50,7 @@ unfoldable pub keeps_to_ball_end : List ℕ → Content → Bool
 keeps_to_ball_end section (entry e) = not (bytes_eq section mode_name) || has_right_starts (mode_settings_of e.values)
 keeps_to_ball_end section _ = true
 
--- the line of the first pair with this key; `otherwise` where there is none
+-- the line of the first pair with this key; `otherwise` if there is none
 abbrev pub line_of_key : List ℕ → ℕ → List Pair → ℕ
 line_of_key key otherwise [] = otherwise
 line_of_key key otherwise (p ∷ ps) = if bytes_eq p.key key then p.line else line_of_key key otherwise ps
@@ -159,8 +159,8 @@ found_of (Some m ∷ os) = m ∷ found_of os
 abbrev pub taken_by : List (List ℕ) → List ModeRead → List (List ℕ)
 taken_by machine modes = machine ++ flat_map (λ m. entry_keys m.mode.sections) modes
 
--- The modes that are found in texts, each at its place in the list of modes. Texts are read one after the other, and a name that
--- came before is a fault, of a text and of an entry. These are the keys of the machine's entries.
+-- The modes that are found in texts, each at its place in the list of modes. Texts are read one after the other, and a
+-- name that came before is a fault, of a text and of an entry. These are the keys of the machine's entries.
 abbrev pub modes_from : List (List ℕ) → List Written → List (List ℕ) → List (Option ModeRead) → List Text → Result (List (Option ModeRead)) RowsFault
 modes_from machine ws names found [] = Ok found
 modes_from machine ws names found (t ∷ ts) =

@@ -17,8 +17,8 @@ pub record ModeRows : Type 0 where
   pub name : List ℕ
   pub sections : List SectionRows
 
--- the rows of a bundle: the sections of its machine text as written, the modes that it lists and that have a text, in the
--- order of the list, and what is not read
+-- the rows of a bundle: the sections of its machine text as written, the modes that it lists and that have a text, in
+-- the order of the list, and what is not read
 pub record Rows : Type 0 where
   pub machine : List SectionRows
   pub modes : List ModeRows

@@ -15,7 +15,7 @@ use Rattle.mpf_config.specs.Unread.{read_of, mode_text_of, present_of, mode_note
 
 -- ---- the bundle and its texts
 
--- the end of a line: LF, or CR and LF, or nothing where nothing stands behind it
+-- the end of a line: LF, or CR and LF, or nothing if nothing comes after it
 abbrev pub IsLineEnd : List ℕ → List ℕ → Type 0
 IsLineEnd end behind = (end ≡ 10 ∷ []) ⊎ ((end ≡ 13 ∷ 10 ∷ []) ⊎ ((end ≡ []) × (behind ≡ [])))
 

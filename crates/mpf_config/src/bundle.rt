@@ -128,7 +128,7 @@ fn read_exactly(alloc: Global, bundle: &[u8]) -> Result<Config, ConfigFault>
 ///   names; and, name by name, `BadValue` for the name `machine`, and `Duplicate` at the line of a
 ///   name that is listed before. A section `mode` whose `use_wait_queue` is yes, and in which not
 ///   all `start_events` are `ball_ending`, or there are none, is `BadValue` with the key
-///   `start_events`: at the line of that setting, or of the section where it is not written. This is
+///   `start_events`: at the line of that setting, or of the section if it is not written. This is
 ///   judged after anything else in the section.
 pub fn read_bundle(alloc: Global, bundle: &[u8]) -> Result<Config, ConfigFault>
     // What is read are the rows of the bundle, with the notes.

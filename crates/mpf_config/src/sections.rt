@@ -112,14 +112,14 @@ fn keeps_to_ball_end(section: &[u8], content: &Content) -> bool
     }
 }
 
-// Whether a mode with these settings starts at the end of the ball alone, where it holds that.
+// Whether a mode with these settings starts at the end of the ball alone, if it holds that.
 fn has_right_starts(settings: ModeSettings<'_>) -> bool
     ensures { result ≡ has_right_starts (mode_settings_view settings.entry) }
 {
     !settings.holds_ball_end || settings.starts_at_ball_end()
 }
 
-// The line of the first pair with this key; another where there is none.
+// The line of the first pair with this key; another if there is none.
 fn line_of_key(key: &[u8], otherwise: u32, pairs: &[(Key, Tree)]) -> u32
     ensures { result ≡ line_of_key key.now otherwise (pairs_view pairs.now) }
 {
@@ -131,7 +131,7 @@ fn line_of_key(key: &[u8], otherwise: u32, pairs: &[(Key, Tree)]) -> u32
     otherwise
 }
 
-// Where a section says at what events a mode starts; at its own line where it does not say.
+// Where a section says at what events a mode starts; at its own line if it does not say.
 fn starts_spot<'a>(text: &'a [u8], entry: &(Key, Tree)) -> Spot<'a>
     ensures { spot_view result ≡ starts_spot text.now (pair_view entry.now) }
 {

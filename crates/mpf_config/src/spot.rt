@@ -6,7 +6,7 @@ ghost use Rattle.mpf_config.specs.Reading.{line_spot};
 
 use config_faults::Spot;
 
-/// Stands for the text or the key where a fault has none.
+/// Stands for the text or the key if a fault has none.
 pub const NONE: &[u8] = b"-";
 
 /// A line of a text as a whole, or of the bundle itself.

@@ -97,7 +97,7 @@ fn take_entries(
     Ok(())
 }
 
-/// Takes the entries of the machine text, which has these sections, where none is taken yet.
+/// Takes the entries of the machine text, which has these sections, if none is taken yet.
 fn take_machine(alloc: Global, machine: &[Section], taken: &mut KeySet) -> Result<(), ConfigFault>
     requires { AreEntriesDistinct machine.now }
     ensures known { IfOk result (λ _. AreTaken taken.new (keys_taken machine.now taken.old)) }

@@ -38,7 +38,7 @@ pub struct Text<'a> {
     pub text: &'a [u8],
 }
 
-/// The name in a line `@ NAME`; or nothing where the line is none.
+/// The name in a line `@ NAME`; or nothing if the line is none.
 fn name_in(line: &[u8]) -> Option<&[u8]>
     ensures { option_slice (λ name. name) result ≡ name_in line.now }
 {

@@ -14,7 +14,7 @@ use Rattle.mpf_plan.proofs.{Drafted.given_plan, Steps.All-changed}
 
 -- ---- drains
 
--- a ball may have drained only where there is a game
+-- a ball may have drained only if there is a game
 abbrev pub DrainsWell : Bool → Contribution → Type 0
 DrainsWell game (does e) = DrainsIn game e
 DrainsWell game (does_in k e) = DrainsIn game e
@@ -50,7 +50,7 @@ module _ (names : Names) where
   of_none : (n : ℕ) (r : RowId) (e : Effect) → IsOfNoBall e → IsOfRows n (action_of names r e)
   of_none n r x3 is = search rules
 
-  -- so it is with all actions, and where a row came last there is one
+  -- so it is with all actions, and if a row came last there is one
   record AreOfRows (o : Option LastRow) (plan : PlanView) : Type 0 where
     some : IfSome o (λ r. 0 < length plan.rows)
     lists : All (All (IsOfRows (length plan.rows))) plan.lists
@@ -112,6 +112,6 @@ module _ (names : Names) where
   played_fold [] d = refl
   played_fold (c ∷ cs) d = search (rules, played_one, either, played_fold cs (with_contribution names d c))
 
-  -- where rules of a game are given, the plan has a game
+  -- if rules of a game are given, the plan has a game
   pub game_played : (cs : List Contribution) → list_any is_plays cs ≡ true → HasGame (drafted names cs).plan
   game_played cs is = played_fold cs (blank names) ∙ ap (λ b. b || false) is

@@ -4,7 +4,7 @@ use Rattle.plan_tables.specs.declared.table.Table.{Table, TheVariants.{Bindings,
 use Rattle.plan_contributions.specs.Contributions.{Contribution}
 use Rattle.mpf_plan.specs.{Uses.names_from, PlanOf.row_count, Numbering.binding_count}
 
--- the names of a table's entries, where they have names
+-- the names of a table's entries, if they have names
 abbrev pub named_of : List Contribution → Table → List (List ℕ)
 named_of cs Bindings = []
 named_of cs Rows = []

@@ -30,8 +30,8 @@ use Rattle.mpf_plan.proofs.Taken.{part_count, part_rows, part_lists, part_modes}
 
 -- ---- what one contribution changes
 
--- so many bindings more, so many rows of devices and effect lists of them, at most one more effect list for each binding,
--- and the same names
+-- so many bindings more, so many rows of devices and effect lists of them, at most one more effect list for each
+-- binding, and the same names
 pub record Counts (n r l : ℕ) (old new : DraftView) : Type 0 where
   pub bindings : length new.plan.bindings ≡ length old.plan.bindings + n
   pub rows : length new.plan.rows ≡ length old.plan.rows + r

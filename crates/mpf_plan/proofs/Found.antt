@@ -147,7 +147,7 @@ module _ (cs : List Contribution) (found : Found) (has : HasFound cs found) wher
       by : IsNameTableOf (names_from cs t) k → k.above ≡ nat_lt (limit_of t) (entry_count (plan_from cs) t)
       by x1 = search (rules, lt-ltb, count, at, le-ltb)
 
-  -- where the plan is within its limits, and neither bindings nor rows have names, all names are kept
+  -- if the plan is within its limits, and neither bindings nor rows have names, all names are kept
   module _ (none : first_above (plan_from cs) ≡ None) (unnamed : (names_from cs Bindings ≡ []) × (names_from cs Rows ≡ [])) where
     pub bindings_fit : binding_count cs ≤ 16384
     bindings_fit = omega (arith, all_within (plan_from cs) none Bindings, count-from cs Bindings)

@@ -15,7 +15,7 @@ use Rattle.mpf_plan.proofs.{Drafted.{given_plan, names-from}, Numbers.at_number}
 use Rattle.mpf_plan.proofs.{GameNames.{game_name, order_within}, Ready.{IsReady, IsNumberedIn, AreNumbered}}
 
 module _ (names : Names) where
-  -- rules that a contribution gives, where all names of the game's events have numbers
+  -- rules that a contribution gives, if all names of the game's events have numbers
   pub record IsGameOf (rules : GameRules) : Type 0 where
     pub events : rules.events ≡ map (event_of (names Events)) game_event_names
     pub known : All (IsNumberedIn (names Events)) game_event_names

@@ -85,7 +85,7 @@ quiet_controls s = of_controls IsQuiet (λ e. Unit {0}) usual_quiet s
 
 -- ---- contributions, one after the other
 
--- whatever came before, what is heard where nothing came is heard
+-- what is heard if nothing came before is heard, whatever came before
 heard_any : (o : Option Place) (cs : List Contribution) → AreHeard None cs → AreHeard o cs
 heard_any o [] h = tt
 heard_any o (gives t n ∷ cs) h = (h.0, heard_any o cs h.1)

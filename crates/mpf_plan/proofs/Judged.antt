@@ -13,7 +13,7 @@ use Rattle.mpf_plan.proofs.ByTable.{place_within, in_place}
 
 -- ---- names
 
--- no name is lacking where each that has to be given is
+-- no name is lacking if each that has to be given is
 pub nothing_lacks : (cs : List Contribution) → AreGiven cs → lacks_name cs ≡ false
 nothing_lacks cs each =
     list_any_none (lacks there) cs (All-weaker (λ c. (is_unknown c ≡ false) × IsGiven cs (used c)) (λ c. lacks there c ≡ false) (λ c h. ap (λ b. b || is_lacking there (used c)) h.0 ∙ here (used c) h.1) cs each)
@@ -85,7 +85,7 @@ module _ (plan : PlanView) where
 same_Some : (t u : Table) → Some t ≡ Some u → t ≡ u
 same_Some t u e = cc
 
--- where no table is the first above its limit, each is within it
+-- if no table is the first above its limit, each is within it
 pub all_within : (plan : PlanView) → first_above plan ≡ None → (t : Table) → entry_count plan t ≤ limit_of t
 all_within plan none = by (some_or_none plan)
   where
@@ -126,7 +126,7 @@ module _ (rows : Rows) where
   unfolding plan_at
   complete none = ap (λ b. cond b (Err no_such_name) (fitting (plan_of rows) (first_above (plan_of rows)))) none
 
-  -- the plan, where no name is lacking and each table is within its limit
+  -- the plan, if no name is lacking and each table is within its limit
   pub plan_at-within : lacks_name (contributions_of rows) ≡ false → ((t : Table) → entry_count (plan_of rows) t ≤ limit_of t) → plan_at rows ≡ Ok (plan_of rows)
   plan_at-within none within = complete none ∙ ap (fitting (plan_of rows)) (none_above (plan_of rows) within)
 
@@ -139,11 +139,11 @@ module _ (rows : Rows) where
   named_if r is other true lacking = absurd (other (sym is ∙ plan_at-lacking lacking))
   named_if r is other false none = none
 
-  -- Where there is a plan, no name is lacking.
+  -- If there is a plan, no name is lacking.
   pub plan_at-complete : (plan : PlanView) → plan_at rows ≡ Ok plan → lacks_name (contributions_of rows) ≡ false
   plan_at-complete plan is = named_if (Ok plan) is (Ok-Err plan no_such_name) lacks_any refl
 
-  -- Nor is one where a table is above its limit.
+  -- Nor is one if a table is above its limit.
   pub plan_at-above : (t : Table) → plan_at rows ≡ Err (above_limit t) → lacks_name (contributions_of rows) ≡ false
   plan_at-above t is = named_if (Err (above_limit t)) is (limit-name t) lacks_any refl
 

@@ -16,7 +16,7 @@ use Rattle.plan_rows.specs.View.{row_view, row_list_view}
 use Rattle.first_names.specs.FirstNames.{with_name}
 use Rattle.mpf_plan.proofs.{Firsts.with_names-all, ByTable.{place_within, each_changed}}
 
--- ---- a name is among the first names where it is among all
+-- ---- a name is among the first names if it is among all
 
 any_filter : (name x : List ℕ) → bytes_eq name x ≡ false → (ys : List (List ℕ)) → list_any (bytes_eq name) (filter (λ y. not (bytes_eq x y)) ys) ≡ list_any (bytes_eq name) ys
 any_filter name x other [] = refl

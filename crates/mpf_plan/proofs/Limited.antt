@@ -35,7 +35,7 @@ module _ (n : List ℕ) where
   abbrev IsThere : Option CoilLimits → Type 0
   IsThere o = o ≡ Some (unwrap_or o no_coil.limits)
 
-  -- where a coil of this name is given, something is said of it
+  -- if a coil of this name is given, something is said of it
   said : (gs : List (List ℕ × CoilLimits)) (found : Option CoilLimits) → IsThere found ⊎ (list_any (bytes_eq n) (map (λ g. g.0) gs) ≡ true) → IsThere (fold (latest_limits n) found gs)
   said [] found (inl is) = is
   said [] found (inr is) = absurd (true≢false (sym is))

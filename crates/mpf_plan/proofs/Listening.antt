@@ -1,5 +1,5 @@
--- Each device listens to switches by numbers of its own, and none listens twice to one switch. Here switches are lists of
--- those that listen to them.
+-- Each device listens to switches by numbers of its own, and none listens twice to one switch. Here switches are lists
+-- of those that listen to them.
 use Rattle.std.proofs.Common.{rules, ◌≡◌, ◌≢◌, ℕ, zero, suc, ◌-◌, ◌<◌, ◌≤◌, ◌==◌, ◌⊎◌, Bool, true, false, List, [], ◌∷◌, ◌++◌, length, set, get_or, Contains, refl, sym, ◌∙◌, ap, subst, arith, length-append}
 use Rattle.std.specs.List.{All, AllPairs, flat_map}
 use Rattle.std.proofs.lemmas.{Bool.{cases_lt, eqb-true, eqb-false}, List.Quantifiers.all_pairs_push}
@@ -10,7 +10,7 @@ use Rattle.plan_tables.specs.{declared.entries.Listener.Listener, PlanView.no_ro
 use Rattle.plan_tables.specs.BallRows.{IsSwitchOf, AreApart, AreOfTwoRows}
 use Rattle.mpf_plan.{specs.Uses.number_among, proofs.{Numbers.at_number, Steps.All-changed}}
 
--- ---- pairs of a list, where one more is put anywhere into it
+-- ---- pairs of a list, when one more is put anywhere into it
 
 -- what holds of each item of two lists holds of those of each
 pub all_of_first : {X : Type 0} (P : X → Type 0) (xs ys : List X) → All P (xs ++ ys) → All P xs
@@ -99,8 +99,8 @@ module _ (names : List (List ℕ)) where
   named_more : (n : List ℕ) (ns : List (List ℕ)) (i : ℕ) → IsNamed ns i → IsNamed (n ∷ ns) i
   named_more n ns i (m, (k, within, is), same) = (m, (suc k, omega (arith, within), is), same)
 
-  -- Those that listen are rows that are there, by switches that they have. The row that came last listens by the first h of
-  -- its numbers to switches with these names.
+  -- Those that listen are rows that are there, by switches that they have. The row that came last listens by the first
+  -- h of its numbers to switches with these names.
   pub record AreListening (h : ℕ) (ns : List (List ℕ)) (rows : List DeviceRow) (lls : List (List Listener)) : Type 0 where
     pub there : All (All (λ l. l.row.0 < length rows)) lls
     pub within : All (All (λ l. IsSwitchOf (get_or rows l.row.0 no_row).settings l.switch)) lls

@@ -45,8 +45,8 @@ events_of_game rows = subst HasGameNames (computed-plan rows) (game_event_is (co
 pub game_event-named : (rows : Rows) (plan : PlanView) → plan_at rows ≡ Ok plan → HasGameNames plan
 game_event-named rows plan is = subst HasGameNames (sym (plan_at-Ok rows plan is).0) (events_of_game rows)
 
--- An event that has none of the names of events of modes in the rows, and none of those of the game that no row may post,
--- has no work, or that of the start button.
+-- An event that has none of the names of events of modes in the rows, and none of those of the game that no row may
+-- post, has no work, or that of the start button.
 pub free-by_name : (rows : Rows) (plan : PlanView) → plan_at rows ≡ Ok plan → (e : EventId)
     → ((name : List ℕ) → Contains (map (λ (x : ModeRows). x.name) rows.modes) name → (which : ModeEvent) → name_of_event plan e ≢ mode_event_name which name)
     → All (λ name. name_of_event plan e ≢ name) reserved_game_events

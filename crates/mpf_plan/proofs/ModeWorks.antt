@@ -61,7 +61,7 @@ some_work n (x ∷ xs) (suc i) which within =
 
 -- ---- the modes of the plan
 
--- in place of a mode where there is none
+-- in place of a mode if there is none
 abbrev no_rows : ModeRows
 no_rows = record { name = []; sections = [] }
 

@@ -25,7 +25,7 @@ name_at names k inside =
     let n = get_or names k [] in
     list_any_at (bytes_eq n) names k [] inside ((bytes_eq-Decides n n).1 refl)
 
--- and this is its number, where no two names are the same
+-- and this is its number, if no two names are the same
 pub number_at : (names : List (List ℕ)) → AreApart names → (k : ℕ) → k < length names → number_among names (get_or names k []) ≡ k
 number_at names apart k inside = by (cases_lt at k) (cases_lt k at)
   where

@@ -1,5 +1,5 @@
--- Bindings act on rows of devices of their own owner alone, and only rows of the machine listen to switches. A row on which
--- something acts may come later than its binding, so it is one of those that all contributions make.
+-- Bindings act on rows of devices of their own owner alone, and only rows of the machine listen to switches. A row on
+-- which something acts may come later than its binding, so it is one of those that all contributions make.
 use Rattle.std.proofs.Common.{rules, ◌≡◌, ℕ, ◌-◌, ◌<◌, List, [], ◌∷◌, ◌++◌, length, map, fold, set, get_or, slice_index_or, refl, sym, ◌∙◌, ap, subst, arith}
 use Rattle.std.{specs.{Prelude.{Option, None, Some}, List.All}, proofs.lemmas.Option.{none-some, same_Some}}
 use Rattle.std.proofs.lemmas.List.{length_push, length-append, length-set, get_or_push, get_or_append_left}
@@ -35,8 +35,8 @@ IsOwnListener rows l = (l.row.0 < length rows) × ((slice_index_or rows l.row.0 
 abbrev pub IsOwnSwitch : List DeviceRow → PlanSwitch → Type 0
 IsOwnSwitch rows s = All (IsOwnListener rows) s.listeners
 
--- so it is with all bindings, by the rows that are there in the end, and with all listeners; and the row that came last, if
--- its mode did too, has the owner of its place
+-- so it is with all bindings, by the rows that are there in the end, and with all listeners; and the row that came
+-- last, if its mode did too, has the owner of its place
 pub record IsOwn (final : List DeviceRow) (o : Option Place) (plan : PlanView) : Type 0 where
   pub bindings : All (IsOwnBinding final) plan.bindings
   pub listeners : All (IsOwnSwitch plan.rows) plan.switches
@@ -139,7 +139,7 @@ module _ (names : Names) where
     last = λ place none. absurd (none-some place none);
   }
 
-  -- all contributions, in turn, where these are the rows in the end
+  -- all contributions, in turn, if these are the rows in the end
   module _ (final : List DeviceRow) (places : List (Place × ℕ)) (owned : owners_of final ≡ map owner_by places) where
     pub own_then : (c : Contribution) (cs : List Contribution) (n : ℕ) (o : Option Place) (d : DraftView) → n ≡ length d.plan.modes → (fold (with_contribution names) d (c ∷ cs)).plan.rows ≡ final
         → IsPlaced o c → IsAimed places n c → IsHeard o c → IsOwn final o d.plan → IsOwn final (row_after o c) (with_contribution names d c).plan

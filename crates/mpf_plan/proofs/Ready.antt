@@ -36,7 +36,7 @@ IsLow k loses = k < 7
 IsLow k arrives = k < 7
 IsLow k _ = Unit {0}
 
--- Q holds of each name of an event of which a contribution speaks, where it does not use that name
+-- Q holds of each name of an event of which a contribution speaks, if it does not use that name
 module _ (Q : List ℕ → Type 0) where
   abbrev pub IsReadyEffect : Effect → Type 0
   IsReadyEffect (changes v action n) = Q (player_event v)

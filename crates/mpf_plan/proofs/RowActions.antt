@@ -1,5 +1,5 @@
--- The effect lists of ball devices alone have to do with balls, each as it has to. Here `lists` are those of a plan that is
--- being made, and `firsts` are the first lists of its rows.
+-- The effect lists of ball devices alone have to do with balls, each as it has to. Here `lists` are those of a plan
+-- that is being made, and `firsts` are the first lists of its rows.
 use Rattle.std.proofs.Common.{rules, ◌≡◌, ℕ, suc, ◌+◌, ◌-◌, ◌<◌, ◌≤◌, ◌==◌, ◌⊎◌, inl, inr, if◌then◌else◌, Bool, true, false, List, [], ◌∷◌, ◌++◌, length, map, set, get_or, replicate, refl, sym, ◌∙◌, ap, subst, arith, length-append}
 use Rattle.std.{specs.{Prelude.{Option, None, Some}, List.All}, proofs.lemmas.Bool.{cases_lt, eqb-true, eqb-false}}
 use Rattle.std.proofs.lemmas.List.{get_or_append_left, get_or_push, get_or-set_same, get_or-set_other, length_push, length-set, map-append, get_or_past}
@@ -106,7 +106,7 @@ module _ (names : Names) where
   IsDoneBy r first lists (Some x) = (k : ℕ) → k < list_count x.settings → get_or lists (first + k) [] ≡ map (action_of names r) (x.done k)
 
   -- The row that came last is as is said, and so are its lists. The lists of rows before it are right. After its lists
-  -- comes one that is of no row, where that began last to which something can be added.
+  -- comes one that is of no row, if that began last to which something can be added.
   pub record AreMade (n : ℕ) (o : Option LastRow) (rows : List DeviceRow) (firsts : List ListId) (lists : List (List Action)) (bindings : List Binding) : Type 0 where
     pub count : length firsts ≡ length rows
     pub last : IsLastOf o rows

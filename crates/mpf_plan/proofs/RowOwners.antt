@@ -15,7 +15,7 @@ use Rattle.mpf_plan.specs.{Uses.{Names, number_among}, PlanOf.{rows_given, row_c
 use Rattle.mpf_plan.specs.Filling.{DraftView, last_mode, next_row, with_contribution}
 use Rattle.mpf_plan.{specs.{ByNumber.owner_at, Inside.IsActNumbered}, proofs.Drafted.{given_plan, modes_one}}
 
--- the owner of a row of this place, where so many modes have come
+-- the owner of a row of this place, when so many modes have come
 abbrev pub owner_by : Place × ℕ → Owner
 owner_by p = owner_at (record { 0 = p.1 - 1 }) p.0
 

@@ -33,11 +33,11 @@ use Rattle.mpf_plan.proofs.{Done.{IsMet, meet_drafted}, GameMade.{game_made, gam
 
 -- ---- rows that eject balls to rows that may come later
 
--- where a device with these settings ejects balls to; the playfield, where it is no ball device
+-- where a device with these settings ejects balls to; the playfield, if it is no ball device
 abbrev settings_target : Settings → BallTarget
 settings_target settings = unwrap_or (target_in settings) ball_targets.Playfield
 
--- a row is as it has to be, where there are so many rows in the end
+-- a row is as it has to be, if there are so many rows in the end
 pub record IsRowSo (count : ℕ) (plan : PlanView) (r : RowId) : Type 0 where
   pub number : (row_at plan r).number ≡ r
   pub owner : IsOwnerWithin plan (row_at plan r).owner
@@ -127,8 +127,8 @@ module _ (final : List DeviceRow) (p q : PlanView) (grows : Grows p q) where
 
 -- ---- one contribution more
 
--- the events and variables are the names, and every number in modes, bindings and rows is that of an entry; rows on which
--- something acts may come later
+-- the events and variables are the names, and every number in modes, bindings and rows is that of an entry; rows on
+-- which something acts may come later
 pub record IsSound (names : Names) (final : List DeviceRow) (plan : PlanView) : Type 0 where
   pub events : plan.events ≡ names Events
   pub variables : plan.variables ≡ names Variables
@@ -151,7 +151,7 @@ module _ (names : Names) (final : List DeviceRow) (d : DraftView) (sound : IsSou
   event_within : (n : List ℕ) → number_among (names Events) n < length (names Events) → number_among (names Events) n < length d.plan.events
   event_within n known = subst (λ es. number_among (names Events) n < length es) (sym sound.events) known
 
-  -- the bindings and rows stay, where there are no fewer entries
+  -- the bindings and rows stay, if there are no fewer entries
   same_sound : (switches : List PlanSwitch) (coils : List PlanCoil) (lists : List (List Action)) → length d.plan.lists ≤ length lists → IsSound names final (record d.plan { switches = switches; coils = coils; lists = lists })
   same_sound switches coils lists more =
       let new : PlanView = record d.plan { switches = switches; coils = coils; lists = lists } in
@@ -270,7 +270,7 @@ module _ (names : Names) (final : List DeviceRow) (d : DraftView) (sound : IsSou
 -- ---- all contributions
 
 module _ (names : Names) where
-  -- where these are the rows in the end
+  -- if these are the rows in the end
   module _ (final : List DeviceRow) (places : List (Place × ℕ)) (owned : owners_of final ≡ map owner_by places) (all : List Settings) (set_is : settings_of final ≡ all) where
     own_next : (c : Contribution) (cs : List Contribution) (n : ℕ) (o : Option Place) (d : DraftView) → n ≡ length d.plan.modes → (fold (with_contribution names) d (c ∷ cs)).plan.rows ≡ final
         → IsPlaced o c → IsAimed places n c → HasTarget all c → IsOwn final o d.plan → IsOwnNext final d.plan c
@@ -301,7 +301,7 @@ module _ (names : Names) where
   }
 
   -- An event that is posted is one of the names, and so is a coil with which something is done, and a variable that is
-  -- changed. A ball may have drained only where there is a game.
+  -- changed. A ball may have drained only if there is a game.
   module _ (game : Bool) where
     abbrev IsNumbered : Action → Type 0
     IsNumbered (Post e) = e.0 < length (names Events)
@@ -319,7 +319,7 @@ module _ (names : Names) where
         → (a : Action) → IsNumbered a → IsOfRows (length plan.rows) a → IsActionWithin plan a
     action_within plan events coils variables has x6 within there = search rules
 
--- what contributions make is sound, where a mode came before what is of one, and a row before what acts on it
+-- what contributions make is sound, if a mode came before what is of one, and a row before what acts on it
 pub sound_drafted : (cs : List Contribution) → AreOpened 0 cs → ArePlaced None cs → AreAimed (row_places 0 cs) 0 cs → AreHeard None cs → All (HasTarget (row_settings cs)) cs
     → IsSound (names_from cs) (drafted (names_from cs) cs).plan.rows (drafted (names_from cs) cs).plan
 sound_drafted cs opened placed aimed heard targets =

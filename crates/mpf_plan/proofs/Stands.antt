@@ -25,7 +25,7 @@ pub last_or-push : {X : Type 0} (o : Option X) (xs : List X) (x : X) → last_or
 last_or-push o [] x = refl
 last_or-push o (y ∷ ys) x = last_or-push (Some y) ys x
 
--- ---- what stands where so many contributions have come
+-- ---- what stands when so many contributions have come
 
 pub record Stands (before : List Contribution) (d : DraftView) : Type 0 where
   pub modes : length d.plan.modes ≡ mode_count before
@@ -60,7 +60,7 @@ module _ (names : Names) where
       λ i. d.plan.rows ++ record { number = record { 0 = stands.rows i }; owner = owner_at (record { 0 = stands.modes i - 1 }) place; settings = settings } ∷ []
   rows_one before d stands _ = sym (append-nil d.plan.rows)
 
-  -- the priority of the last mode stays where another of its settings changes
+  -- the priority of the last mode stays when another of its settings changes
   priority_kept : (change : PlanMode → PlanMode) → ((m : PlanMode) → (change m).mode.priority ≡ m.mode.priority) → (ms : List PlanMode)
       → last_priority (set ms (length ms - 1) (change (get_or ms (length ms - 1) no_mode))) ≡ last_priority ms
   priority_kept change same [] = refl

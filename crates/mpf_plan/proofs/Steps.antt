@@ -116,7 +116,7 @@ pub coil_unchanged : (limits : CoilLimits) (names : List (List ℕ)) (ls : List 
     → limited_coils names ls ≡ set (limited_coils names ls) i (limited_to limits (get_or (limited_coils names ls) i no_coil))
 coil_unchanged limits names ls i past = sym (set_past (limited_coils names ls) i (limited_to limits (get_or (limited_coils names ls) i no_coil)) (omega (arith, past, length-limited names ls)))
 
--- where there is a name for each, they are the coils of a plan
+-- if there is a name for each, they are the coils of a plan
 pub coils_seen : (names : List (List ℕ)) (ls : List CoilLimits) → length ls ≤ length names → limited_coils names ls ≡ coils_view names ls
 coils_seen [] [] few = refl
 coils_seen [] (l ∷ ls) few = absurd (omega arith)

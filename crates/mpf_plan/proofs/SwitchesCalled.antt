@@ -25,7 +25,7 @@ other l j apart = by (l == j) refl
     by : (b : Bool) → (l == j) ≡ b → (l == j) ≡ false
     by x1 is = search rules
 
--- the place of the first that passes, where one does, and where the last alone may
+-- the place of the first that passes, if one does, and if the last alone may
 first_before : (p : List ℕ → Bool) (xs ys : List (List ℕ)) → list_any p xs ≡ true → position_or_len p (xs ++ ys) < length xs
 first_before p [] ys there = absurd (true≢false (sym there))
 first_before p (x ∷ xs) ys there = by (p x) there (first_before p xs ys)
@@ -43,7 +43,7 @@ first_last p (x ∷ xs) y none = by (p x) none (first_last p xs y)
     by : (b : Bool) → (b || list_any p xs) ≡ false → (list_any p xs ≡ false → position_or_len p (xs ++ y ∷ []) ≡ length xs + cond (not (p y)) 1 0) → cond (not b) (1 + position_or_len p (xs ++ y ∷ [])) 0 ≡ suc (length xs) + cond (not (p y)) 1 0
     by x1 x2 rest = search rules
 
--- an entry more is that of this name where it has the name, and none before has it
+-- an entry more is that of this name if it has the name, and none before has it
 entry_more : (n : List ℕ) (xs : List (List ℕ)) (m : List ℕ) → (number_among (xs ++ m ∷ []) n + 1 == length (xs ++ m ∷ [])) ≡ (bytes_eq n m && not (list_any (bytes_eq n) xs))
 entry_more n xs m = by (list_any (bytes_eq n) xs) refl (bytes_eq n m) refl
   where
@@ -76,7 +76,7 @@ module _ (names : Names) (k : ℕ) (within : k < length (names Switches)) (own :
   abbrev has : List Contribution → Bool
   has before = list_any (bytes_eq n) (given_names Switches before)
 
-  -- what is known of it, where so many contributions have come
+  -- what is known of it, when so many contributions have come
   record Known (before : List Contribution) (d : DraftView) : Type 0 where
     switch : here d ≡ switch_called names before n
     last : is_last d ≡ is_entry_of n before
@@ -123,7 +123,7 @@ module _ (names : Names) (k : ℕ) (within : k < length (names Switches)) (own :
       switch_read n (sym (in_turn-push (reading_here n) before [] c) i) (sym (in_turn-push (listener_here n) before [] c) i)
       (sym (in_turn-push (active_here names n) before [] c) i) (sym (in_turn-push (inactive_here names n) before [] c) i)
 
-  -- where nothing more is said
+  -- if nothing more is said
   called_same : (before : List Contribution) → switch_called names before n ≡ switch_read n (readings before ++ []) (listeners before ++ []) (actives before ++ []) (inactives before ++ [])
   called_same before = search rules
 

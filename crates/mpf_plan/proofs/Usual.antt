@@ -14,7 +14,8 @@ use Rattle.plan_contributions.specs.Contributions.{Contribution, gives, reads, a
 use Rattle.row_contributions.specs.Contributions.{under_where, bound, active_posts, inactive_posts, kind_of, confirms, switch_contributions, player_contributions, coil_player_contributions, stopper_where, controls, act_binding, effects_from, unknown_unless, shot_switch, aim_at, act_at}
 use Rattle.row_contributions.proofs.RowFacts.{All-each, All-made, All-lists}
 
--- P holds of contributions that are usual, and of those that do such an effect as devices do and players of events and coils
+-- P holds of contributions that are usual, and of those that do such an effect as devices do and players of events and
+-- coils
 pub record IsUsual (P : Contribution → Type 0) (R : Effect → Type 0) : Type 0 where
   pub given : (n : List ℕ) → P (gives Switches n)
   pub read : (kind : SwitchKind) (confirms_playfield : Bool) → P (reads kind confirms_playfield)

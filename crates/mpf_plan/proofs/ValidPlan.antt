@@ -49,8 +49,8 @@ last_length-set (x ∷ xs) l n short =
     subst (λ k. length (get_or (set (x ∷ xs) at l) (k - 1) []) ≤ n) (sym (length-set (x ∷ xs) at l))
     (subst (λ y. length y ≤ n) (sym (get_or-set_same (x ∷ xs) at l [] (omega arith))) short)
 
--- no effect list has more than 1,024 actions; that which began last has at most so many, and so have those of the row that
--- came last
+-- no effect list has more than 1,024 actions; that which began last has at most so many, and so have those of the row
+-- that came last
 pub record AreFit (n : ℕ) (f : ℕ → ℕ) (plan : PlanView) : Type 0 where
   pub lists : All (λ actions. length actions ≤ 1024) plan.lists
   pub last : last_length plan.lists ≤ n
@@ -215,7 +215,7 @@ coils_within rows short none =
 
 -- ---- the plan
 
--- Where no name is lacking, each table is within its limit, no list in the rows is too long, and there are few modes, the
+-- If no name is lacking, each table is within its limit, no list in the rows is too long, and there are few modes, the
 -- plan is valid.
 valid_from : (rows : Rows) → AreListsShort rows → AreFewModes rows.modes → lacks_name (contributions_of rows) ≡ false → ((t : Table) → entry_count (plan_from (contributions_of rows)) t ≤ limit_of t) → IsValid (plan_from (contributions_of rows))
 valid_from rows short few_modes none_lacks within =
@@ -286,7 +286,7 @@ limits-plan_of rows none =
 pub limits-plan_at : (rows : Rows) (plan : PlanView) → plan_at rows ≡ Ok plan → AreLimitsByName (contributions_of rows) plan
 limits-plan_at rows plan is = subst (AreLimitsByName (contributions_of rows)) (sym (plan_at-Ok rows plan is).0) (limits-plan_of rows (plan_at-complete rows plan is))
 
--- A plan that planning gives is valid, where no list in the rows is too long, and there are few modes.
+-- A plan that planning gives is valid, if no list in the rows is too long, and there are few modes.
 pub IsValid-plan_at : (rows : Rows) → AreListsShort rows → AreFewModes rows.modes → (plan : PlanView) → plan_at rows ≡ Ok plan → IsValid plan
 IsValid-plan_at rows short few plan is =
     let given = plan_at-Ok rows plan is in

@@ -35,7 +35,7 @@ use Rattle.mpf_plan.proofs.RowActions.{settings_at, IsRunOfNone, count_of, AreMa
 right_nothing : (place : Place) (settings : Settings) (done : ℕ → List Effect) → IsNoBallDevice settings → IsRightRow place settings done → (k : ℕ) → All IsOfNoBall (done k)
 right_nothing place x2 done none right = search rules
 
--- what a row that is no ball device does so far has nothing to do with balls, where that fits what comes after it
+-- what a row that is no ball device does so far has nothing to do with balls, if that fits what comes after it
 nothing_so_far : (cs : List Contribution) (x : LastRow) → IsNoBallDevice x.settings → AreFitting (Some x) cs → (k : ℕ) → All IsOfNoBall (x.done k)
 nothing_so_far [] x none fits k = right_nothing x.place x.settings x.done none fits k
 nothing_so_far (device place settings ∷ cs) x none fits k = right_nothing x.place x.settings x.done none fits.0 k
@@ -106,7 +106,7 @@ IsActOfNone rows (Act r act) = IsNoBallDevice (settings_at rows r.0)
 IsActOfNone rows _ = Unit {0}
 
 module _ (names : Names) where
-  -- ---- one contribution more, where these are the rows in the end
+  -- ---- one contribution more, if these are the rows in the end
 
   module _ (final : List DeviceRow) where
     record IsSoFar (n : ℕ) (o : Option LastRow) (ns : List (List ℕ)) (plan : PlanView) : Type 0 where
@@ -300,6 +300,6 @@ right-plan_of rows short once =
     subst BookingsAreRight (computed-plan rows)
     (right_drafted (IsNumberedIn (names_from cs Events)) (names_from cs) cs (rows_are_short rows short) (rows_are_fitting rows) once (acts_are_off_balls rows) (all_known cs) (rows_are_ready rows))
 
--- what the plan does with balls is right, where no row listens twice to one switch
+-- what the plan does with balls is right, if no row listens twice to one switch
 pub right_with_balls-plan_at : (rows : Rows) → AreListsShort rows → AreHeardOnce [] (contributions_of rows) → (plan : PlanView) → plan_at rows ≡ Ok plan → BookingsAreRight plan
 right_with_balls-plan_at rows short once plan is = subst BookingsAreRight (sym (plan_at-Ok rows plan is).0) (right-plan_of rows short once)

@@ -1,4 +1,5 @@
--- What a plan says by names: of what its effect lists do, of what its coils may be sent, and of the names that are used.
+-- What a plan says, with names in place of numbers: what its effect lists do, what its coils may be sent, and which
+-- names are used.
 use Rattle.std.specs.Prelude.{ℕ, ◌≡◌, ◌<◌, if◌then◌else◌, List, length, fold, Option, None, Some, true, false}
 use Rattle.std.specs.{List.{All, flat_map, list_any}, Str.bytes_eq}
 use Rattle.plan_tables.specs.declared.{entries.{CoilId.CoilId, CoilLimits.CoilLimits, Action.Action}, table.Table.Table}

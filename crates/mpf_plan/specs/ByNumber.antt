@@ -1,4 +1,4 @@
--- What a contribution says by names, by number; and what its place in the rows says.
+-- What a contribution says, with numbers in place of names; and what its place in the rows says.
 use Rattle.std.specs.Prelude.{ℕ, ◌-◌, List, map, length, slice_index_or}
 use Rattle.plan_tables.specs.declared.{entries.{EventId.EventId, ModeId.ModeId}, devices.RowId.RowId}
 use Rattle.plan_tables.specs.declared.entries.{CoilId.CoilId, Owner.Owner, Action.Action, ListId.ListId}
@@ -47,7 +47,7 @@ action_of names r (adds_balls n) = AddBalls n
 abbrev pub condition_of : Names → Condition → numbered.Condition
 condition_of names c = record { variable = variable_of (names Variables) c.variable; comparison = c.comparison; number = c.number }
 
--- who owns a binding that has this place, where this mode came last; and its priority, where this is that of the mode
+-- who owns a binding that has this place, if this mode came last; and its priority, if this is that of the mode
 abbrev pub owner_at : ModeId → Place → Owner
 owner_at last Machine = owners.Machine
 owner_at last Control = owners.Machine

@@ -18,7 +18,7 @@ use Rattle.mpf_plan.specs.ByNumber.{event_of, action_of, condition_of, owner_at,
 
 -- ---- a plan that is being made
 
--- the plan so far; which switches are defined; and the number of the last switch, or past the end where that came second
+-- the plan so far; which switches are defined; and the number of the last switch, or past the end if that came second
 -- by its name
 pub record DraftView : Type 0 where
   pub plan : PlanView
@@ -41,8 +41,8 @@ with_switch n d =
     (record d { last = length d.defined })
     (record d { defined = slice_set d.defined n true; last = n })
 
--- What is given under this number of a table. Only of switches does a plan hold more than their names here; what it holds
--- of coils comes with their limits.
+-- What is given under this number of a table. Only of switches does a plan hold more than their names here; what it
+-- holds of coils comes with their limits.
 abbrev pub with_given : Table → ℕ → DraftView → DraftView
 with_given Switches n d = with_switch n d
 with_given _ n d = d
@@ -138,7 +138,7 @@ last_conditioned c bindings =
 abbrev pub with_condition : numbered.Condition → DraftView → DraftView
 with_condition c d = record d { plan = record d.plan { bindings = last_conditioned c d.plan.bindings } }
 
--- the next effect list begins, where a binding is to run it
+-- the next effect list begins, if a binding is to run it
 abbrev pub lists_for : Aim → List (List Action) → List (List Action)
 lists_for Run lists = lists ++ [] ∷ []
 lists_for _ lists = lists
@@ -218,7 +218,7 @@ with_game rules d = record d { plan = record d.plan { game = Some rules } }
 
 -- ---- contributions
 
--- what one contribution adds, where names have these numbers
+-- what one contribution adds, if names have these numbers
 abbrev pub with_contribution : Names → DraftView → Contribution → DraftView
 with_contribution names d (gives table n) = with_given table (number_among (names table) n) d
 with_contribution names d (reads kind confirms) = with_kind kind confirms d

@@ -1,4 +1,4 @@
--- What a plan that is being made holds.
+-- What contracts of the functions inside this crate see of a plan that is being made.
 use Rattle.std.specs.Prelude.{ℕ, ◌<◌, List, [], ◌∷◌}
 use Rattle.plan_tables.specs.declared.{names.NameSets.NameSets, entries.CoilLimits.CoilLimits}
 use Rattle.plan_tables.specs.declared.table.Table.TheVariants.{Coils}
@@ -13,7 +13,7 @@ limited_coils names [] = []
 limited_coils [] (l ∷ ls) = record { name = []; limits = l } ∷ limited_coils [] ls
 limited_coils (n ∷ ns) (l ∷ ls) = record { name = n; limits = l } ∷ limited_coils ns ls
 
--- the number of a row on which something acts, where the aim says it, is one that a row of a plan can have
+-- the number of a row on which something acts, if the aim says it, is one that a row of a plan can have
 abbrev pub IsRowNumbered : Aim → Type 0
 IsRowNumbered (On r act) = r < 1024
 IsRowNumbered _ = Unit {0}

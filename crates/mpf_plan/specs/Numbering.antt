@@ -30,7 +30,7 @@ lists_given _ = 0
 abbrev pub lists_count : List Contribution → ℕ
 lists_count cs = sum_by lists_given cs
 
--- the number of the name that a contribution uses, where names have these numbers; 0 where it uses none
+-- the number of the name that a contribution uses, if names have these numbers; 0 if it uses none
 abbrev pub number_in : Names → Option (Table × List ℕ) → ℕ
 number_in names None = 0
 number_in names (Some (t, n)) = number_among (names t) n
@@ -113,7 +113,7 @@ HasNames cs (Err faults.NoMemory) = Unit {0}
 HasNames cs (Err faults.NoSuchName) = ⊥
 HasNames cs (Err (faults.Limit t)) = first_above (plan_from cs) ≡ Some t
 
--- the names of contributions, and the numbers of their uses, where the plan is within all limits; or they use a name
+-- the names of contributions, and the numbers of their uses, if the plan is within all limits; or they use a name
 -- that nothing has; or the first table that is above its limit
 abbrev pub Numbered : List Contribution → Result NumberedNames PlanFault → Type 0
 Numbered cs (Ok n) =

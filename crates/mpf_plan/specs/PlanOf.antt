@@ -134,8 +134,8 @@ row_before before = record { 0 = row_count before - 1 }
 
 -- ---- effect lists
 
--- what the effect list of this number is told here: one effect is of the list that began last, and another of a list of the
--- row that came last, by its number in the row
+-- what the effect list of this number is told here: one effect is of the list that began last, and another of a list of
+-- the row that came last, by its number in the row
 abbrev pub done_here : Names → ℕ → List Contribution → Contribution → List Action
 done_here names l before (does e) =
     if l == list_total before - 1 then action_of names (row_before before) e ∷ [] else []
@@ -154,8 +154,8 @@ lists_here names before c after =
 
 -- ---- bindings
 
--- what a binding does: it runs the list that begins with it, starts or stops the mode that came last, or acts on the row
--- that came last, or on the row of this number, which may come later
+-- what a binding does: it runs the list that begins with it, starts or stops the mode that came last, or acts on the
+-- row that came last, or on the row of this number, which may come later
 abbrev pub target_of : List Contribution → Aim → Target
 target_of before Run = targets.Run (record { 0 = list_total before })
 target_of before Start = targets.Start (mode_before before)
@@ -187,7 +187,7 @@ binding_here names before _ after = []
 abbrev pub is_entry_of : List ℕ → List Contribution → Bool
 is_entry_of name before = number_among (given_names Switches before) name + 1 == length (given_names Switches before)
 
--- how the switch of this name is read, and whether a ball that presses it is on the playfield, where its entry says it
+-- how the switch of this name is read, and whether a ball that presses it is on the playfield, if its entry says it
 abbrev pub reading_here : List ℕ → List Contribution → Contribution → List (SwitchKind × Bool)
 reading_here name before (reads kind confirms) = if is_entry_of name before then (kind, confirms) ∷ [] else []
 reading_here name before _ = []

@@ -30,7 +30,7 @@ number_among names name = position_or_len (bytes_eq name) names
 
 -- ---- names that nothing has
 
--- whether a name of the table means something only where a contribution gives it; an event exists by being used, and so
+-- whether a name of the table means something only if a contribution gives it; an event exists by being used, and so
 -- does a variable
 abbrev pub is_to_be_given : Table → Bool
 is_to_be_given Events = false

@@ -34,14 +34,14 @@ use std::alloc::Global;
 /// the events that it handles, then those that its settings name, then what its effect lists post
 /// and the coils with which they do something. So does a group of shots: its effect lists are those
 /// of its shots, in the order in which it lists them, then its own. A shot uses its switch, then
-/// the events that it handles; where no group lists it, it then uses what its effect lists post. The
+/// the events that it handles; if no group lists it, it then uses what its effect lists post. The
 /// game uses its events in the order of [`plan_tables::GAME_EVENTS`]. A mode uses its five events in
 /// the order of [`plan_tables::ModeEvents`], then the events that start it, then those that stop it.
-/// The rows of its text come after these. Where an event is handled under a condition, the variable
+/// The rows of its text come after these. If an event is handled under a condition, the variable
 /// of the condition is used right after it.
 ///
 /// A ball device uses its ball switches in the order in which it lists them, then the event of a
-/// ball that enters it, then `ball_drain` where it is tagged `drain` and there is a game, then what
+/// ball that enters it, then `ball_drain` if it is tagged `drain` and there is a game, then what
 /// its effect lists post and its coil.
 ///
 /// When a switch becomes active, it posts `NAME_active`, then `sw_TAG` for each of its tags, then
@@ -50,11 +50,12 @@ use std::alloc::Global;
 /// posted as often as it is written.
 ///
 /// Each event in `start_events` of a mode is bound to its start, and each in `stop_events` to its
-/// stop. So is `ball_ending` to its stop where `stop_on_ball_end` holds, and `game_ending` where
-/// `game_mode` holds, but neither of the two where `use_wait_queue` holds. These bindings are the machine's, at the mode's priority. The entries of
-/// `event_player` and `coil_player` in the mode's text are bindings of the mode, at its priority.
+/// stop. So is `ball_ending` to its stop if `stop_on_ball_end` holds, and `game_ending` if
+/// `game_mode` holds, but neither of the two if `use_wait_queue` holds. These bindings are the
+/// machine's, at the mode's priority. The entries of `event_player` and `coil_player` in the mode's
+/// text are bindings of the mode, at its priority.
 ///
-/// Where an event is handled under a condition, its binding has the condition. When an item of
+/// If an event is handled under a condition, its binding has the condition. When an item of
 /// `variable_player` changes its variable, it posts `player_NAME`.
 ///
 /// An entry of `coils` says what its coil may be sent. What an item of `coil_player` does not say is
@@ -85,7 +86,7 @@ use std::alloc::Global;
 ///
 /// Each entry of `ball_devices` is such a row too, which listens to its ball switches. No binding
 /// acts on it. Of its effect lists the first posts `balldevice_NAME_ball_enter`, and `ball_drain`
-/// where the ball has drained; the second posts `balldevice_NAME_ball_eject_attempt` and
+/// if the ball has drained; the second posts `balldevice_NAME_ball_eject_attempt` and
 /// `balldevice_NAME_ejecting_ball` and pulses its coil; the fifth posts
 /// `balldevice_NAME_ball_eject_success`, and the seventh `balldevice_NAME_ball_eject_failed`. The
 /// first, third, fourth and sixth say what happens with a ball of the row. Where a switch is tagged
@@ -124,7 +125,7 @@ fn plan_of_definitions(alloc: Global, definitions: &Definitions<'_>) -> Result<P
     plan_of_rows(alloc, definitions, &rows)
 }
 
-/// The plan of the rows that these definitions are of, as [`plan`] gives it, where no name is used
+/// The plan of the rows that these definitions are of, as [`plan`] gives it, if no name is used
 /// that nothing has. It does not look for one.
 ///
 /// # Errors
@@ -144,7 +145,7 @@ pub fn plan_complete(alloc: Global, definitions: &Definitions<'_>) -> Result<Pla
     plan_of_rows(alloc, definitions, &rows)
 }
 
-/// The plan of these rows, where they use no name that nothing has.
+/// The plan of these rows, if they use no name that nothing has.
 fn plan_of_rows(alloc: Global, definitions: &Definitions, rows: &[Row]) -> Result<Plan, PlanFault>
     requires rows { row_list_view rows.now ≡ rows_of definitions.now }
     requires complete { lacks_name (contributions_of definitions.now) ≡ false }

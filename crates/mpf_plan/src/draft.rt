@@ -20,7 +20,7 @@ pub(crate) struct Draft {
     pub(crate) game: Option<GameRules>,
     /// Which switches are defined.
     pub(crate) defined: Vec<bool>,
-    /// The switch that came last, where it was the first of its name; or else one past the last.
+    /// The switch that came last, if it was the first of its name; or else one past the last.
     pub(crate) last: usize,
     ghost same_count: { length defined.items ≡ length switches.items },
 }

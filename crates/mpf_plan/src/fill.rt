@@ -170,7 +170,7 @@ fn event_of(names: &NameSets, text: &mut Vec<u8>, name: Parts) -> Result<EventId
 
 // ---- switches
 
-/// The switch of this number comes last, where one is given, and nothing has defined it.
+/// The switch of this number comes last, if one is given, and nothing has defined it.
 fn add_given(draft: &mut Draft, table: Table, n: usize)
     ensures { ChangesDraft draft.old draft.new (with_given table n) }
 {
@@ -179,7 +179,7 @@ fn add_given(draft: &mut Draft, table: Table, n: usize)
     }
 }
 
-/// The switch comes last, where nothing has defined it.
+/// The switch comes last, if nothing has defined it.
 fn define_switch(draft: &mut Draft, n: usize)
     ensures { ChangesDraft draft.old draft.new (with_switch n) }
 {
@@ -290,7 +290,7 @@ fn with_event(events: ModeEvents, which: ModeEvent, event: EventId) -> ModeEvent
 
 // ---- bindings and effect lists
 
-/// A binding, and the effect list that begins with it, where it is to run one.
+/// A binding, and the effect list that begins with it, if it is to run one.
 fn add_binding(
     alloc: Global,
     draft: &mut Draft,
@@ -335,7 +335,7 @@ fn next_binding(draft: &Draft, event: EventId, place: Place, aim: Aim) -> Bindin
     }
 }
 
-/// The owner of a binding, where this mode came last.
+/// The owner of a binding, if this mode came last.
 fn owner_at(last: ModeId, place: Place) -> Owner
     ensures { result ≡ owner_at last place }
 {
@@ -346,7 +346,7 @@ fn owner_at(last: ModeId, place: Place) -> Owner
     }
 }
 
-/// The priority of a binding, where the mode that came last has this one.
+/// The priority of a binding, if the mode that came last has this one.
 fn priority_at(of_last: u32, place: Place) -> u32
     ensures { result ≡ priority_at of_last place }
 {
@@ -373,7 +373,7 @@ fn last_row(draft: &Draft) -> RowId
     RowId(draft.rows.len().saturating_sub(1) as u16)
 }
 
-/// The priority of the mode that came last; 0 where there is none.
+/// The priority of the mode that came last; 0 if there is none.
 fn last_priority(modes: &[ModeEntry]) -> u32
     ensures { result ≡ priority_of_last modes.now }
 {
@@ -393,7 +393,7 @@ fn put_condition(bindings: &mut Vec<Binding>, condition: Condition)
     }
 }
 
-/// The next effect list begins, where a binding is to run it.
+/// The next effect list begins, if a binding is to run it.
 fn begin_list(alloc: Global, lists: &mut Vec<Vec<Action>>, aim: Aim) -> Result<(), AllocError>
     ensures { OnOk result (action_lists lists.new.items ≡ lists_for aim (action_lists lists.old.items)) }
 {

@@ -1,4 +1,4 @@
-//! What the names of the rows are, as far as they are found.
+//! The names that the rows use, and the numbers of their uses.
 
 ghost use Rattle.std.specs.Prelude.{◌≡◌, length};
 ghost use Rattle.plan_tables.specs.Limits.{tables_in_order};
@@ -10,7 +10,7 @@ use plan_tables::names::{NameSets, NameTable};
 pub(crate) struct Found {
     /// Each table at its index.
     pub(crate) tables: Vec<NameTable>,
-    /// The number of the name that each contribution uses; 0 where it uses none.
+    /// The number of the name that each contribution uses; 0 if it uses none.
     pub(crate) numbers: Vec<u16>,
     /// How many bindings they give, or more than a plan may have.
     pub(crate) bindings: usize,
@@ -24,6 +24,6 @@ pub(crate) struct Found {
 pub(crate) struct NumberedNames {
     /// The names of each table, at their numbers.
     pub(crate) names: NameSets,
-    /// The number of the name that each contribution uses; 0 where it uses none.
+    /// The number of the name that each contribution uses; 0 if it uses none.
     pub(crate) numbers: Vec<u16>,
 }

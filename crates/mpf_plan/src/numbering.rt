@@ -22,7 +22,7 @@ use plan_tables::table::{TABLES, Table};
 use row_contributions::collect_row;
 use std::alloc::{AllocError, Global};
 
-/// The names of the rows, by number, where the plan is within its limits, and the number of each use.
+/// The names of the rows, by number, if the plan is within its limits, and the number of each use.
 pub(crate) fn number(
     alloc: Global,
     definitions: &Definitions,
@@ -84,7 +84,7 @@ fn is_above(found: &Found, table: Table) -> bool
 // ---- first uses
 
 /// The names that the rows use, each table up to its limit, the numbers of their uses, and how many
-/// bindings and rows of devices they give. Events are the first table that is judged: where there are
+/// bindings and rows of devices they give. Events are the first table that is judged: if there are
 /// too many, no more rows are looked at.
 fn find_names(alloc: Global, definitions: &Definitions, rows: &[Row]) -> Result<Found, PlanFault>
     ensures { HasNames (given_by_rows definitions.now rows.now) result }

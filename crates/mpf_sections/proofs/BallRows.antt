@@ -1,4 +1,5 @@
--- What holds of ball devices, by the names of their settings: their names are names, and their settings are in their ranges.
+-- What holds of ball devices, by the names of their settings: their names are names, and their settings are in their
+-- ranges.
 use Rattle.std.{proofs.Common.{rules, ◌≡◌, map, slice_get, refl}, specs.List.All}
 use Rattle.section_tables.specs.{Rows.Entry, Named.{IsNamedEntry, IsShortEntry}}
 use Rattle.mpf_sections.specs.{Rows.SectionRows, Typed.entries_of, Named.{IsNamedBallDevice, IsNamed}}
@@ -35,7 +36,7 @@ pub ball_devices_short : (s : SectionRows) → IsShortSection s → All IsShortB
 unfolding ball_devices_in
 ball_devices_short s h = made_each IsShortBallDevice ball_device_of ball_device_short (entries_of ball_devices_name s) (entries_of_short ball_devices_name s h)
 
--- The ball devices of a section are its entries, where it is `ball_devices`.
+-- The ball devices of a section are its entries, if it is `ball_devices`.
 pub ball_devices_are : (s : SectionRows) → map ball_device_of (entries_of ball_devices_name s) ≡ ball_devices_in s
 unfolding ball_devices_in
 ball_devices_are s = refl

@@ -1,4 +1,5 @@
--- What holds of coils, coil players, flippers and autofire coils, by the names of their settings: their names are names, and their settings are in their ranges.
+-- What holds of coils, coil players, flippers and autofire coils, by the names of their settings: their names are
+-- names, and their settings are in their ranges.
 use Rattle.std.proofs.Common.{rules, ℕ, ◌≤◌, Bool, length, Option, Some, IfSome, unwrap_or, slice_get, arith}
 use Rattle.std.{specs.List.All, proofs.lemmas.List.length-map}
 use Rattle.mpf_values.specs.Names.{IsName}

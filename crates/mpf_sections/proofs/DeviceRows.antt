@@ -1,4 +1,5 @@
--- What holds of logic blocks and timers, by the names of their settings: their names are names, and their settings are in their ranges.
+-- What holds of logic blocks and timers, by the names of their settings: their names are names, and their settings are
+-- in their ranges.
 use Rattle.std.proofs.Common.{rules, ℕ, zero, suc, ◌≤◌, nat_le, List, [], ◌∷◌, length, Option, Some, None, slice_get}
 use Rattle.std.{specs.List.{All, AllByRecursion}, proofs.lemmas.List.Elements.{All-nil, All-weaker, All-from_recursion}}
 use Rattle.mpf_values.specs.Names.{IsName}

@@ -1,4 +1,5 @@
--- What holds of variable players, of the game and of the machine, by the names of their settings: their names are names, and their settings are in their ranges.
+-- What holds of variable players, of the game and of the machine, by the names of their settings: their names are
+-- names, and their settings are in their ranges.
 use Rattle.std.proofs.{Common.{rules, ◌≤◌, ℤ, pos, neg_ℤ, ◌≤ℤ◌, List}, lemmas.List.length-map}
 use Rattle.mpf_values.specs.Names.{IsName}
 use Rattle.section_tables.specs.{Rows.{Entry, Player}, Named.{IsNamedPlayer, IsShortPlayer}}

@@ -1,4 +1,5 @@
--- What holds of ball saves and multiballs, by the names of their settings: their names are names, and their settings are in their ranges.
+-- What holds of ball saves and multiballs, by the names of their settings: their names are names, and their settings
+-- are in their ranges.
 use Rattle.std.{proofs.Common.{rules, slice_get, refl}, specs.List.All}
 use Rattle.section_tables.specs.{Rows.Entry, Named.IsNamedEntry}
 use Rattle.mpf_tables.specs.SectionTables as tables

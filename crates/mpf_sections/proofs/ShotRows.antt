@@ -1,4 +1,5 @@
--- What holds of shots, groups of them and profiles, by the names of their settings: their names are names, and their lists are short.
+-- What holds of shots, groups of them and profiles, by the names of their settings: their names are names, and their
+-- lists are short.
 use Rattle.std.proofs.Common.{rules, ◌≡◌, ℕ, suc, ◌≤◌, nat_le, Bool, if◌then◌else◌, List, [], ◌∷◌, length, Option, map, slice_get, refl, arith}
 use Rattle.std.specs.List.{All, cons_option, filter_map}
 use Rattle.std.proofs.lemmas.List.Elements.{All-nil, All-head, All-tail, All-from_recursion}
@@ -114,7 +115,7 @@ pub shot_profiles_short : (s : SectionRows) → All IsShortShotProfile (shot_pro
 unfolding shot_profiles_in
 shot_profiles_short s = all_mapped IsShortShotProfile shot_profile_of shot_profile_short (entries_of shot_profiles_name s)
 
--- The profiles of a section are its entries, where it is `shot_profiles`.
+-- The profiles of a section are its entries, if it is `shot_profiles`.
 pub shot_profiles_are : (s : SectionRows) → map shot_profile_of (entries_of shot_profiles_name s) ≡ shot_profiles_in s
 unfolding shot_profiles_in
 shot_profiles_are s = refl

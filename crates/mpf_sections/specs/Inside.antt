@@ -69,7 +69,7 @@ IsTextAt entry place text = plain_option_view text ≡ text_of (value_at entry p
 abbrev pub AreNamesAt : entry_rows.Entry → ℕ → List Name → Type 0
 AreNamesAt entry place names = map name_view names ≡ listed_names (value_at entry place)
 
--- the names that are listed at a place of an entry, where they are 16 at most
+-- the names that are listed at a place of an entry, if they are 16 at most
 abbrev pub AreFewNamesAt : entry_rows.Entry → ℕ → List Name → Type 0
 AreFewNamesAt entry place names = map name_view names ≡ few (listed_names (value_at entry place))
 
@@ -93,7 +93,7 @@ AreStepsAt entry place steps = map handlers_view steps ≡ listed_steps (value_a
 abbrev pub AreMapsAt : entry_rows.Entry → ℕ → List field_rows.Fields → Type 0
 AreMapsAt entry place maps = map fields_view maps ≡ listed_maps (value_at entry place)
 
--- the maps that are listed at a place of an entry, where they are 16 at most
+-- the maps that are listed at a place of an entry, if they are 16 at most
 abbrev pub AreFewMapsAt : entry_rows.Entry → ℕ → List field_rows.Fields → Type 0
 AreFewMapsAt entry place maps = map fields_view maps ≡ few (listed_maps (value_at entry place))
 
@@ -119,11 +119,11 @@ IsAlways name event = handled_at_view event ≡ handled_in (named (name_at_view 
 abbrev pub IsHandledIn : plain_rows.Plain → HandledAt → Type 0
 IsHandledIn text event = handled_at_view event ≡ handled_in (plain_view text)
 
--- the handled event that a text is, where it is written as one
+-- the handled event that a text is, if it is written as one
 abbrev pub IsEventIn : Option (Bor plain_rows.Plain) → Option HandledAt → Type 0
 IsEventIn text event = option_map handled_at_view event ≡ event_in (plain_option_view text)
 
--- the name that a text is, where it is one
+-- the name that a text is, if it is one
 abbrev pub IsNameIn : Option (Bor plain_rows.Plain) → Option NameAt → Type 0
 IsNameIn text name = option_map name_at_view name ≡ name_in (plain_option_view text)
 

@@ -25,7 +25,7 @@ pub record EventPlayer : Type 0 where
   pub posts : List Written
 
 -- An entry of `coils`: the milliseconds and the power of a pulse of which nothing else is said, and the greatest ones;
--- whether the coil may be held, the power with which it is held where nothing else is said, and the greatest one. Powers
+-- whether the coil may be held, the power with which it is held if nothing else is said, and the greatest one. Powers
 -- are in thousandths of full power.
 pub record Coil : Type 0 where
   pub name : Written
@@ -37,7 +37,7 @@ pub record Coil : Type 0 where
   pub hold_power : ℕ
   pub max_hold_power : ℕ
 
--- what a coil does where an event is handled, and what is said of its pulse and of the power with which it is held
+-- what a coil does when an event is handled, and what is said of its pulse and of the power with which it is held
 pub record CoilItem : Type 0 where
   pub coil : Written
   pub action : CoilAction
@@ -50,7 +50,7 @@ pub record CoilPlayer : Type 0 where
   pub event : Handled
   pub items : List CoilItem
 
--- what is done with a variable where an event is handled, and with which number
+-- what is done with a variable when an event is handled, and with which number
 pub record VariableItem : Type 0 where
   pub variable : Written
   pub action : VariableAction
@@ -90,8 +90,8 @@ pub data CoilRule : Type 0 where
   flipper : Flipper → CoilRule
   autofire : Autofire → CoilRule
 
--- an entry of `ball_devices`: its ball switches, the coil that ejects a ball, if there is one, where it ejects its balls
--- to, how it counts and ejects them, and its tags
+-- an entry of `ball_devices`: its ball switches, the coil that ejects a ball, if there is one, where it ejects its
+-- balls to, how it counts and ejects them, and its tags
 pub record BallDevice : Type 0 where
   pub name : Written
   pub switches : List Written
@@ -125,7 +125,7 @@ pub record ModeSettings : Type 0 where
   pub holds_ball_end : Bool
 
 -- the events that all logic blocks have: those that enable, disable, reset and restart the block, and those that are
--- posted in place of its own when it is hit and when it completes; none where its own are posted
+-- posted in place of its own when it is hit and when it completes; none if its own are posted
 pub record BlockEvents : Type 0 where
   pub enables : List Handled
   pub disables : List Handled
@@ -162,8 +162,8 @@ pub record Timer : Type 0 where
   pub settings : TimerSettings
   pub controls : List Control
 
--- an entry of `shots`: its switch, if it has one, the events that hit it, its profile, and the events that advance, reset,
--- enable and disable it
+-- an entry of `shots`: its switch, if it has one, the events that hit it, its profile, and the events that advance,
+-- reset, enable and disable it
 pub record Shot : Type 0 where
   pub name : Written
   pub switch : Option Written
@@ -185,8 +185,8 @@ pub record ShotGroup : Type 0 where
   pub rotates_left : List Handled
   pub resets : List Handled
 
--- an entry of `shot_profiles`: its states, whether a hit advances a shot to the next one, and whether the first one comes
--- after the last
+-- an entry of `shot_profiles`: its states, whether a hit advances a shot to the next one, and whether the first one
+-- comes after the last
 pub record ShotProfile : Type 0 where
   pub name : Written
   pub states : List Written

@@ -5,8 +5,8 @@ use Rattle.machine_settings.specs.Limits.{IsNumberWithin, IsCounterWithin, IsTim
 use Rattle.mpf_sections.specs.Rows.{Switch, EventPlayer, Coil, CoilItem, CoilPlayer, VariableItem, VariablePlayer, GameSettings, Rule, Shot, ShotGroup, ShotProfile, BallDevice, BallSave, Multiball, BlockEvents, Counter, StepBlock, Timer, Content, SectionRows}
 use Rattle.mpf_sections.specs.Typed.{entries_in, players_in, entry_in, names_in}
 
--- No list in a section is longer, whatever its settings are; the coils of an entry of `coil_player` are such a list, and
--- so are the variables of one of `variable_player`.
+-- No list in a section is longer, whatever its settings are; the coils of an entry of `coil_player` are such a list,
+-- and so are the variables of one of `variable_player`.
 abbrev pub IsShortContent : Content → Type 0
 IsShortContent content =
     All (IsShortEntry 1024) (entries_in content) × All (IsShortPlayer 1024) (players_in content) × All (IsShortEntry 1024) (entry_in content) × (length (names_in content) ≤ 1024)
@@ -60,7 +60,7 @@ pub record IsCoilInRange (c : Coil) : Type 0 where
   pub hold_power : IsPowerInRange c.hold_power
   pub max_hold_power : IsPowerInRange c.max_hold_power
 
--- what is said of a coil where an event is handled
+-- what is said of a coil when an event is handled
 pub record IsItemInRange (i : CoilItem) : Type 0 where
   pub pulse_ms : IfSome i.pulse_ms IsPulseInRange
   pub pulse_power : IfSome i.pulse_power IsPowerInRange

@@ -28,7 +28,7 @@ setting_of table key row = value_in (found_in setting_key key table) row
 abbrev pub field_of : List Field → List ℕ → List Plain → Option Plain
 field_of table key values = value_in (found_in field_key key table) values
 
--- the place of a setting in a table, by its key; the one after the last where the table has no such setting
+-- the place of a setting in a table, by its key; the one after the last if the table has no such setting
 abbrev pub place_in : {T : Type 0} → Option (ℕ × T) → ℕ → ℕ
 place_in None otherwise = otherwise
 place_in (Some found) otherwise = found.0
@@ -111,12 +111,12 @@ abbrev pub number_in : Option Plain → ℤ
 number_in (Some (number n)) = n
 number_in _ = pos 0
 
--- the milliseconds of a pulse, where they are written: from 1 to 5,000
+-- the milliseconds of a pulse, if they are written: from 1 to 5,000
 abbrev pub pulse_in : Option Plain → Option ℕ
 pulse_in (Some (time ms)) = if nat_le 1 ms && nat_le ms 5000 then Some ms else None
 pulse_in _ = None
 
--- a power in thousandths, where it is written: up to 1,000
+-- a power in thousandths, if it is written: up to 1,000
 abbrev pub power_in : Option Plain → Option ℕ
 power_in (Some (power n)) = if nat_le n 1000 then Some n else None
 power_in _ = None
@@ -127,7 +127,7 @@ handled_in (name w) = handled_at w.line (record { name = w.text; condition = Non
 handled_in (event h) = h
 handled_in _ = handled_at 0 (record { name = []; condition = None })
 
--- the same, where a text is written as one
+-- the same, if a text is written as one
 abbrev pub event_in : Option Plain → Option Handled
 event_in (Some (event h)) = Some h
 event_in _ = None
@@ -155,7 +155,7 @@ switch_of e = record {
 
 -- ---- `counters`, `accruals` and `sequences`
 
--- the settings that all of them have; a block is enabled at first where no event enables it
+-- the settings that all of them have; a block is enabled at first if no event enables it
 abbrev pub block_settings_of : List Setting → List Value → BlockSettings
 block_settings_of table row = record {
   enabled = length (listed_events (setting_of table (codes "enable_events") row)) == 0;
@@ -238,7 +238,7 @@ abbrev pub controls_of : List Fields → List Control
 controls_of [] = []
 controls_of (m ∷ ms) = with_control (control_of m) (controls_of ms)
 
--- where no end is written, a timer that goes down ends at 0, and one that goes up nowhere
+-- if no end is written, a timer that goes down ends at 0, and one that goes up nowhere
 abbrev pub end_from : Direction → Option ℤ → Option ℤ
 end_from direction (Some n) = Some n
 end_from Up None = None
@@ -310,7 +310,7 @@ abbrev pub names_in : Content → List Written
 names_in (listed ws) = ws
 names_in _ = []
 
--- the entries of the section, where it has this name
+-- the entries of the section, if it has this name
 abbrev pub entries_of : List ℕ → SectionRows → List Entry
 entries_of section s = if bytes_eq s.name section then entries_in s.content else []
 

@@ -11,12 +11,12 @@ use Rattle.mpf_sections.specs.Rows.{Coil, CoilItem, CoilPlayer, Rule, Flipper, A
 
 -- ---- `coils`
 
--- whether a coil may be held: where that is allowed, or where the power with which it is held by default is above 0
+-- whether a coil may be held: if that is allowed, or if the power with which it is held by default is above 0
 abbrev pub may_hold : Bool → Option ℕ → Bool
 may_hold allowed power = allowed || nat_lt 0 (unwrap_or power 0)
 
--- The greatest power with which a coil may be held: the one that is written; or else full power where holding is
--- allowed, and where it is not, the power with which it is held by default, if there is one.
+-- The greatest power with which a coil may be held: the one that is written; or else full power if holding is
+-- allowed, and if it is not, the power with which it is held by default, if there is one.
 abbrev pub max_hold_power : Option ℕ → Bool → Option ℕ → ℕ
 max_hold_power (Some greatest) allowed power = greatest
 max_hold_power None true power = 1000
@@ -25,7 +25,7 @@ max_hold_power None false power = unwrap_or power 0
 abbrev coil_text : List ℕ → Entry → Option Plain
 coil_text key e = text_of (setting_of tables.coils key e.values)
 
--- where no longest pulse is written, it is the default one; where no power to hold the coil, it is the greatest
+-- if no longest pulse is written, it is the default one; if no power to hold the coil, it is the greatest
 unfoldable pub coil_of : Entry → Coil
 coil_of e =
     let pulse_ms = time_setting tables.coils (codes "default_pulse_ms") e.values in
@@ -73,7 +73,7 @@ needed_name table key e = unwrap_or (name_in (text_of (setting_of table key e.va
 abbrev pub needed_at : ℕ → Entry → Written
 needed_at place e = unwrap_or (name_in (text_of (slice_get e.values place))) e.name
 
--- what all coil rules have, where the setting of this key names the switch
+-- what all coil rules have, if the setting of this key names the switch
 abbrev pub rule_of : List Setting → List ℕ → Entry → Rule
 rule_of table switch e = record {
   name = e.name;
@@ -97,7 +97,7 @@ autofire_of e = record { coil = needed_name tables.autofire_coils (codes "coil")
 abbrev pub coil_rule_sections : List (List ℕ)
 coil_rule_sections = flippers_name ∷ autofire_coils_name ∷ []
 
--- the flipper or the autofire coil that an entry of the section of this name is; none where it is neither
+-- the flipper or the autofire coil that an entry of the section of this name is; none if it is neither
 abbrev pub coil_rule_of : List ℕ → Entry → Option CoilRule
 coil_rule_of section e =
     if bytes_eq section flippers_name then Some (flipper (flipper_of e))
@@ -115,7 +115,7 @@ coil_players_in s = map coil_player_of (players_of coil_player_name s)
 
 -- ---- quick switches
 
--- The place of the setting that names a switch in entries of the section of this name, where they make that switch
+-- The place of the setting that names a switch in entries of the section of this name, if they make that switch
 -- quick: those of flippers and autofire coils do.
 abbrev pub quick_place : List ℕ → Option ℕ
 quick_place section =

@@ -14,7 +14,7 @@ use Rattle.mpf_sections.specs.Rows.{VariableItem, VariablePlayer, GameSettings, 
 abbrev pub variable_action_of : List ℕ → VariableAction
 variable_action_of w = if bytes_eq w (codes "set") then Set else Add
 
--- a number from -1,000,000,000 to 1,000,000,000; 0 where there is none
+-- a number from -1,000,000,000 to 1,000,000,000; 0 if there is none
 abbrev pub change_in : Option Plain → ℤ
 change_in (Some (number n)) = if within (negsuc 999999999) (pos 1000000000) n then n else pos 0
 change_in _ = pos 0

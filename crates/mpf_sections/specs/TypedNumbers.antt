@@ -6,18 +6,18 @@ use Rattle.mpf_sections.specs.Typed.{place_of}
 
 -- ---- numbers
 
--- the default of a number, or the least number where there is no default
+-- the default of a number, or the least number if there is no default
 abbrev pub default_number : ℤ → Absent Value → ℤ
 default_number least (default (one (number n))) = n
 default_number least _ = least
 
--- a number that keeps to these bounds; where there is none, this one
+-- a number that keeps to these bounds; if there is none, this one
 abbrev pub bounded_number : ℤ → ℤ → ℤ → Option Value → ℤ
 bounded_number least greatest otherwise (Some (one (number n))) =
     if within least greatest n then n else otherwise
 bounded_number least greatest otherwise _ = otherwise
 
--- the number that a setting of this kind has, by its value; 0 where it is no setting of a number
+-- the number that a setting of this kind has, by its value; 0 if it is no setting of a number
 abbrev pub number_by : Kind → Absent Value → Option Value → ℤ
 number_by (single (number_within least greatest)) absent value =
     bounded_number least greatest (default_number least absent) value
@@ -43,18 +43,18 @@ natural_setting table key row = natural_from (number_at table row (place_of tabl
 
 -- ---- times
 
--- the default of a time, or the least time where there is no default
+-- the default of a time, or the least time if there is no default
 abbrev pub default_time : ℕ → Absent Value → ℕ
 default_time least (default (one (time ms))) = ms
 default_time least _ = least
 
--- milliseconds that keep to these bounds; where there are none, these
+-- milliseconds that keep to these bounds; if there are none, these
 abbrev pub bounded_time : ℕ → ℕ → ℕ → Option Value → ℕ
 bounded_time least greatest otherwise (Some (one (time ms))) =
     if nat_le least ms && nat_le ms greatest then ms else otherwise
 bounded_time least greatest otherwise _ = otherwise
 
--- the milliseconds that a setting of this kind has, by its value; 0 where it is no setting of a time
+-- the milliseconds that a setting of this kind has, by its value; 0 if it is no setting of a time
 abbrev pub time_by : Kind → Absent Value → Option Value → ℕ
 time_by (single (time_within least greatest)) absent value =
     bounded_time least greatest (default_time least absent) value

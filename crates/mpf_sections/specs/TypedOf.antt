@@ -72,7 +72,7 @@ IsVariableItemOf keyed item = variable_item_view item ≡ variable_item_of (keye
 abbrev pub IsCoilOf : entry_rows.Entry → typed_coils.Coil → Type 0
 IsCoilOf entry coil = coil_view coil ≡ coil_of (entry_view entry)
 
--- the name at a place of this entry; its own where there is none
+-- the name at a place of this entry; its own if there is none
 abbrev pub IsNeededAt : ℕ → entry_rows.Entry → NameAt → Type 0
 IsNeededAt place entry name = name_at_view name ≡ needed_at place (entry_view entry)
 
@@ -84,7 +84,7 @@ IsFlipperOf entry flipper = flipper_view flipper ≡ flipper_of (entry_view entr
 abbrev pub IsAutofireOf : entry_rows.Entry → typed_autofires.Autofire → Type 0
 IsAutofireOf entry autofire = autofire_view autofire ≡ autofire_of (entry_view entry)
 
--- the flipper or the autofire coil that this entry is, where its section has this name
+-- the flipper or the autofire coil that this entry is, if its section has this name
 abbrev pub IsCoilRuleOf : List ℕ → entry_rows.Entry → Option typed_coil_rules.CoilRule → Type 0
 IsCoilRuleOf section entry rule = option_map coil_rule_view rule ≡ coil_rule_of section (entry_view entry)
 
@@ -170,10 +170,10 @@ AreEntriesIn content entries = map entry_view entries ≡ entries_in (content_vi
 abbrev pub ArePlayersIn : contents.Content → List player_rows.Player → Type 0
 ArePlayersIn content players = map player_view players ≡ players_in (content_view content)
 
--- the entries of a section, where it has this name
+-- the entries of a section, if it has this name
 abbrev pub AreEntriesOf : List ℕ → Section → List entry_rows.Entry → Type 0
 AreEntriesOf name section entries = map entry_view entries ≡ entries_of name (section_view section)
 
--- the entries of a player, where its section has this name
+-- the entries of a player, if its section has this name
 abbrev pub ArePlayersOf : List ℕ → Section → List player_rows.Player → Type 0
 ArePlayersOf name section players = map player_view players ≡ players_of name (section_view section)

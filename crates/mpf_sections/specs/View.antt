@@ -40,7 +40,7 @@ name_at_view n = record { line = n.line; text = n.text.now }
 abbrev pub handled_at_view : HandledAt → Handled
 handled_at_view h = record { line = h.line; event = record { name = h.name.now; condition = option_map (λ g. guard_view g.now) h.condition } }
 
--- a text, where there is one
+-- a text, if there is one
 abbrev pub plain_option_view : Option (Bor plains.Plain) → Option Plain
 plain_option_view text = option_map (λ x. plain_view x.now) text
 

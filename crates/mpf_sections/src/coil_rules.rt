@@ -101,7 +101,7 @@ pub fn needed_name(entry: &Entry, at: usize) -> NameAt<'_>
     }
 }
 
-// What all coil rules have, where the setting at this place names the switch.
+// What all coil rules have, if the setting at this place names the switch.
 fn as_rule(entry: &Entry, switch: usize) -> Rule<'_>
     requires { switch ≤ 2 }
     ensures { IsRuleAt switch entry.now result }
@@ -138,7 +138,7 @@ pub fn as_autofire(entry: &Entry) -> Autofire<'_>
     }
 }
 
-/// The flipper or the autofire coil that an entry of the section of this name is; none where it is
+/// The flipper or the autofire coil that an entry of the section of this name is; none if it is
 /// neither.
 pub fn as_coil_rule<'a>(section: &[u8], entry: &'a Entry) -> Option<CoilRule<'a>>
     ensures { IsCoilRuleOf section.now entry.now result }

@@ -23,17 +23,17 @@ pub struct Coil<'a> {
     pub pulse_power: u16,
     /// The greatest power of a pulse: full by default.
     pub max_pulse_power: u16,
-    /// Whether the coil may be held: where `allow_enable` says so, or `default_hold_power` is above
+    /// Whether the coil may be held: if `allow_enable` says so, or `default_hold_power` is above
     /// 0.
     pub may_hold: bool,
-    /// The power with which it is held where nothing else is said: the greatest by default.
+    /// The power with which it is held if nothing else is said: the greatest by default.
     pub hold_power: u16,
-    /// The greatest power with which it is held. Where none is written, it is full power if
+    /// The greatest power with which it is held. If none is written, it is full power if
     /// `allow_enable` says yes, and `default_hold_power` if not; and 0 without that.
     pub max_hold_power: u16,
 }
 
-/// What a coil does where an event is handled. What it does not say is by the coil's own entry.
+/// What a coil does when an event is handled. What it does not say is by the coil's own entry.
 #[derive(Clone, Copy)]
 pub struct CoilItem<'a> {
     pub coil: &'a Name,
@@ -95,14 +95,14 @@ fn action_of(word: &[u8]) -> CoilAction
     CoilAction::Pulse
 }
 
-// Whether a coil may be held: where that is allowed, or it has a power above 0 to be held with.
+// Whether a coil may be held: if that is allowed, or it has a power above 0 to be held with.
 fn may_hold(allowed: bool, power: Option<u16>) -> bool
     ensures { result ≡ may_hold allowed power }
 {
     allowed || power.unwrap_or(0) > 0
 }
 
-// The greatest power with which a coil is held, where this one is written, or none.
+// The greatest power with which a coil is held, if this one is written, or none.
 fn max_hold_power(written: Option<u16>, allowed: bool, power: Option<u16>) -> u16
     ensures { result ≡ max_hold_power written allowed power }
 {

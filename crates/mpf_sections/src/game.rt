@@ -12,7 +12,7 @@ use machine_settings::VariableAction;
 use mpf_tables::tables::{GAME, MACHINE, MACHINE_SECTION_NAME};
 use section_tables::rows::{Entry, Keyed, Name, Player};
 
-/// What is done with a variable where an event is handled.
+/// What is done with a variable when an event is handled.
 #[derive(Clone, Copy)]
 pub struct VariableItem<'a> {
     pub variable: &'a Name,
@@ -100,7 +100,7 @@ pub fn as_game(entry: &Entry) -> GameSettings
 }
 
 /// How many balls have to be there for a game to begin: what the section `machine` says, up to 99;
-/// 1 where it says nothing, and where there is no such section.
+/// 1 if it says nothing, and if there is no such section.
 pub fn min_balls(sections: &[Section]) -> u32
     ensures { result ≡ min_balls_in sections.now }
 {

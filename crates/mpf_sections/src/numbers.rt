@@ -10,7 +10,7 @@ use section_tables::table::{Absent, Kind, Scalar, Setting, Without};
 
 // ---- numbers
 
-// The default of a number, or the least number where there is no default.
+// The default of a number, or the least number if there is no default.
 fn default_number(least: i64, without: Without) -> i64
     ensures { result ≡ default_number least (without_view without) }
 {
@@ -20,7 +20,7 @@ fn default_number(least: i64, without: Without) -> i64
     }
 }
 
-// A number that keeps to these bounds; where there is none, another.
+// A number that keeps to these bounds; if there is none, another.
 fn bounded_number(value: Option<&Value>, least: i64, greatest: i64, otherwise: i64) -> i64
     ensures { result ≡ bounded_number least greatest otherwise (value_option_view value.entry) }
 {
@@ -30,7 +30,7 @@ fn bounded_number(value: Option<&Value>, least: i64, greatest: i64, otherwise: i
     }
 }
 
-// The number that a setting of this kind has, by its value; 0 where it is no setting of a number.
+// The number that a setting of this kind has, by its value; 0 if it is no setting of a number.
 fn number_by(value: Option<&Value>, kind: Kind, without: Without) -> i64
     ensures { result ≡ number_by (kind_view kind) (without_view without) (value_option_view value.entry) }
 {
@@ -66,7 +66,7 @@ pub fn natural(entry: &Entry, table: &[Setting], at: usize) -> u32
     natural_from(number_under(entry.value(at), table, at))
 }
 
-/// The number of a setting of this table where there is no entry.
+/// The number of a setting of this table if there is no entry.
 pub fn natural_default(table: &[Setting], at: usize) -> u32
     ensures { result ≡ natural_from (number_under (slice_get (table_view table.now) at) None) }
 {
@@ -75,7 +75,7 @@ pub fn natural_default(table: &[Setting], at: usize) -> u32
 
 // ---- times
 
-// The default of a time, or the least time where there is no default.
+// The default of a time, or the least time if there is no default.
 fn default_time(least: u32, without: Without) -> u32
     ensures { result ≡ default_time least (without_view without) }
 {
@@ -85,7 +85,7 @@ fn default_time(least: u32, without: Without) -> u32
     }
 }
 
-// Milliseconds that keep to these bounds; where there are none, others.
+// Milliseconds that keep to these bounds; if there are none, others.
 fn bounded_time(value: Option<&Value>, least: u32, greatest: u32, otherwise: u32) -> u32
     ensures { result ≡ bounded_time least greatest otherwise (value_option_view value.entry) }
 {
@@ -95,7 +95,7 @@ fn bounded_time(value: Option<&Value>, least: u32, greatest: u32, otherwise: u32
     }
 }
 
-// The milliseconds that a setting of this kind has, by its value; 0 where it is no setting of a
+// The milliseconds that a setting of this kind has, by its value; 0 if it is no setting of a
 // time.
 fn time_by(value: Option<&Value>, kind: Kind, without: Without) -> u32
     ensures { result ≡ time_by (kind_view kind) (without_view without) (value_option_view value.entry) }

@@ -43,7 +43,7 @@ const BALL_COUNT: usize = 0;
 
 const START_EVENTS: usize = 1;
 
-// A number, where it is of 8 bits.
+// A number, if it fits 8 bits.
 fn small(number: u32) -> u8
     ensures { number < 256 → result ≡ number }
 {

@@ -25,7 +25,7 @@ pub struct Control<'a> {
 #[derive(Clone, Copy)]
 pub struct Timer<'a> {
     pub name: &'a Name,
-    /// Where no end is written, a timer that goes down completes at 0, and one that goes up never.
+    /// If no end is written, a timer that goes down completes at 0, and one that goes up never.
     pub settings: TimerSettings,
     /// The events that control it, each to be read with [`as_control`].
     pub controls: &'a [Fields],

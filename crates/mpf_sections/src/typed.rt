@@ -174,7 +174,7 @@ const USE_WAIT_QUEUE: usize = 5;
 
 const BALL_ENDING: &[u8] = b"ball_ending";
 
-// What holds where no setting is written.
+// What holds if no setting is written.
 #[tactic(auto, unfolding(crate::specs::Typed::mode_settings_of))]
 fn default_settings<'a>() -> ModeSettings<'a>
     ensures { mode_settings_view result ≡ mode_settings_of (mode_row None) }
@@ -237,7 +237,7 @@ pub fn mode_settings(sections: &[Section]) -> ModeSettings<'_>
 
 // ---- `modes`
 
-/// The names that the section `modes` lists, each with its line; none where there is no such
+/// The names that the section `modes` lists, each with its line; none if there is no such
 /// section.
 pub fn listed_modes(sections: &[Section]) -> &[Name]
     ensures { AreModesIn sections.now result.now }
@@ -284,7 +284,7 @@ impl Content {
 }
 
 impl Section {
-    /// The entries of the section, where it has this name; none otherwise. Those of `switches` are to be
+    /// The entries of the section, if it has this name; none otherwise. Those of `switches` are to be
     /// read with [`as_switch`], and so on. `mpf_tables::tables` has the names.
     pub fn entries_of(&self, name: &[u8]) -> &[Entry]
         ensures { AreEntriesOf name.now self.now result.now }
@@ -295,7 +295,7 @@ impl Section {
         &[]
     }
 
-    /// The entries of the player, where the section has this name; none otherwise.
+    /// The entries of the player, if the section has this name; none otherwise.
     pub fn players_of(&self, name: &[u8]) -> &[Player]
         ensures { ArePlayersOf name.now self.now result.now }
     {

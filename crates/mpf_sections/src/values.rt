@@ -14,7 +14,7 @@ use section_tables::rows::{Entry, Fields, Handler, Keyed, Name, Plain, Value};
 
 const DOWN: &[u8] = b"down";
 
-/// The names at a place of an entry; none where there is no list of names.
+/// The names at a place of an entry; none if there is no list of names.
 pub fn names(entry: &Entry, at: usize) -> &[Name]
     ensures { AreNamesAt entry.now at result.now }
 {
@@ -24,7 +24,7 @@ pub fn names(entry: &Entry, at: usize) -> &[Name]
     }
 }
 
-/// The names at a place of an entry, 16 at most; none where there are more, or there is no list of
+/// The names at a place of an entry, 16 at most; none if there are more, or there is no list of
 /// names.
 pub fn few_names(entry: &Entry, at: usize) -> &[Name]
     ensures { AreFewNamesAt entry.now at result.now }
@@ -33,7 +33,7 @@ pub fn few_names(entry: &Entry, at: usize) -> &[Name]
     if names.len() <= 16 { names } else { &[] }
 }
 
-/// The handled events at a place of an entry; none where there is no list of them.
+/// The handled events at a place of an entry; none if there is no list of them.
 pub fn handlers(entry: &Entry, at: usize) -> &[Handler]
     ensures { AreEventsAt entry.now at result.now }
 {
@@ -43,7 +43,7 @@ pub fn handlers(entry: &Entry, at: usize) -> &[Handler]
     }
 }
 
-/// The posted events that a value is; none where it is no list of them.
+/// The posted events that a value is; none if it is no list of them.
 pub fn posts(value: &Value) -> &[Name]
     ensures { ArePostsOf value.now result.now }
 {
@@ -63,7 +63,7 @@ pub fn posts_at(entry: &Entry, at: usize) -> &[Name]
     }
 }
 
-/// The word at a place of an entry; the empty one where there is none.
+/// The word at a place of an entry; the empty one if there is none.
 pub fn word(entry: &Entry, at: usize) -> &'static [u8]
     ensures { result.now ≡ word_of (value_at entry.now at) }
 {
@@ -73,7 +73,7 @@ pub fn word(entry: &Entry, at: usize) -> &'static [u8]
     }
 }
 
-/// The flag at a place of an entry; false where there is none.
+/// The flag at a place of an entry; false if there is none.
 pub fn flag(entry: &Entry, at: usize) -> bool
     ensures { result ≡ flag_of (value_at entry.now at) }
 {
@@ -83,7 +83,7 @@ pub fn flag(entry: &Entry, at: usize) -> bool
     }
 }
 
-/// The number at a place of an entry; 0 where there is none, or it is not of 32 bits.
+/// The number at a place of an entry; 0 if there is none, or it is not of 32 bits.
 pub fn natural(entry: &Entry, at: usize) -> u32
     ensures { result ≡ natural_of (value_at entry.now at) }
 {
@@ -100,7 +100,7 @@ fn is_limit(n: i64) -> bool
     -1_000_000_000 <= n && n <= 1_000_000_000
 }
 
-/// The whole number at a place of an entry; 0 where there is none.
+/// The whole number at a place of an entry; 0 if there is none.
 pub fn number(entry: &Entry, at: usize) -> i64
     ensures { result ≡ number_of (value_at entry.now at) }
 {
@@ -120,7 +120,7 @@ pub fn limit(entry: &Entry, at: usize) -> Option<i64>
     }
 }
 
-/// The direction at a place of an entry; up where there is none.
+/// The direction at a place of an entry; up if there is none.
 pub fn direction(entry: &Entry, at: usize) -> Direction
     ensures { result ≡ direction_of (word_of (value_at entry.now at)) }
 {
@@ -130,7 +130,7 @@ pub fn direction(entry: &Entry, at: usize) -> Direction
     Direction::Up
 }
 
-/// The milliseconds at a place of an entry; 0 where there is no time.
+/// The milliseconds at a place of an entry; 0 if there is no time.
 pub fn milliseconds(entry: &Entry, at: usize) -> u32
     ensures { result ≡ time_of (value_at entry.now at) }
 {
@@ -140,7 +140,7 @@ pub fn milliseconds(entry: &Entry, at: usize) -> u32
     }
 }
 
-/// The steps at a place of an entry, 16 at most; none where there are no steps.
+/// The steps at a place of an entry, 16 at most; none if there are no steps.
 pub fn steps(entry: &Entry, at: usize) -> &[Vec<Handler>]
     ensures { AreStepsAt entry.now at result.now }
 {
@@ -150,7 +150,7 @@ pub fn steps(entry: &Entry, at: usize) -> &[Vec<Handler>]
     }
 }
 
-/// The maps at a place of an entry; none where there is no list of them.
+/// The maps at a place of an entry; none if there is no list of them.
 pub fn maps(entry: &Entry, at: usize) -> &[Fields]
     ensures { AreMapsAt entry.now at result.now }
 {
@@ -160,7 +160,7 @@ pub fn maps(entry: &Entry, at: usize) -> &[Fields]
     }
 }
 
-/// The names that a value has, with what belongs to each; none where it is no map of names.
+/// The names that a value has, with what belongs to each; none if it is no map of names.
 pub fn keyed(value: &Value) -> &[Keyed]
     ensures { AreKeyedOf value.now result.now }
 {
@@ -170,7 +170,7 @@ pub fn keyed(value: &Value) -> &[Keyed]
     }
 }
 
-/// The text at a place of an entry; none where there is none.
+/// The text at a place of an entry; none if there is none.
 pub fn text(entry: &Entry, at: usize) -> Option<&Plain>
     ensures { IsTextAt entry.now at result }
 {
@@ -209,7 +209,7 @@ pub fn handled(event: &Plain) -> HandledAt<'_>
     }
 }
 
-/// The handled event that a text is, where it is written as one.
+/// The handled event that a text is, if it is written as one.
 pub fn event(text: Option<&Plain>) -> Option<HandledAt<'_>>
     ensures { IsEventIn text.entry result }
 {
@@ -219,7 +219,7 @@ pub fn event(text: Option<&Plain>) -> Option<HandledAt<'_>>
     }
 }
 
-/// The name that a text is, where it is written; none where it is no name.
+/// The name that a text is, where it is written; none if it is no name.
 pub fn name(text: Option<&Plain>) -> Option<NameAt<'_>>
     ensures { IsNameIn text.entry result }
 {
@@ -233,7 +233,7 @@ pub fn name(text: Option<&Plain>) -> Option<NameAt<'_>>
     }
 }
 
-/// The name that a text is, where it is written; where it is no name, another one, at line 0.
+/// The name that a text is, where it is written; if it is no name, another one, at line 0.
 pub fn name_or<'a>(text: Option<&'a Plain>, otherwise: &'static [u8]) -> NameAt<'a>
     ensures { IsNameOr otherwise.now text.entry result }
 {
@@ -253,7 +253,7 @@ fn is_pulse(ms: u32) -> bool
     1 <= ms && ms <= 5_000
 }
 
-/// The milliseconds of a pulse, from 1 to 5,000; none where none are written.
+/// The milliseconds of a pulse, from 1 to 5,000; none if none are written.
 pub fn pulse(text: Option<&Plain>) -> Option<u32>
     ensures { result ≡ pulse_of_text text.entry }
 {
@@ -263,7 +263,7 @@ pub fn pulse(text: Option<&Plain>) -> Option<u32>
     }
 }
 
-/// A power in thousandths, up to 1,000; none where none is written.
+/// A power in thousandths, up to 1,000; none if none is written.
 pub fn power(text: Option<&Plain>) -> Option<u16>
     ensures { result ≡ power_of_text text.entry }
 {
@@ -275,14 +275,14 @@ pub fn power(text: Option<&Plain>) -> Option<u16>
 
 // ---- values of fields
 
-/// The text at a place of a map; none where there is none.
+/// The text at a place of a map; none if there is none.
 pub fn field(values: &[Plain], at: usize) -> Option<&Plain>
     ensures { IsFieldAt values.now at result }
 {
     values.get(at)
 }
 
-/// The word at a place of a map; the empty one where there is none.
+/// The word at a place of a map; the empty one if there is none.
 pub fn word_field(values: &[Plain], at: usize) -> &'static [u8]
     ensures { result.now ≡ word_in (field_at values.now at) }
 {
@@ -292,7 +292,7 @@ pub fn word_field(values: &[Plain], at: usize) -> &'static [u8]
     }
 }
 
-/// The number at a place of a map, from -1,000,000,000 to 1,000,000,000; 0 where there is none.
+/// The number at a place of a map, from -1,000,000,000 to 1,000,000,000; 0 if there is none.
 pub fn change(values: &[Plain], at: usize) -> i64
     ensures { result ≡ change_in (field_at values.now at) }
 {
@@ -302,7 +302,7 @@ pub fn change(values: &[Plain], at: usize) -> i64
     }
 }
 
-/// The number at a place of a map; 0 where there is none.
+/// The number at a place of a map; 0 if there is none.
 pub fn number_field(values: &[Plain], at: usize) -> i64
     ensures { result ≡ number_in (field_at values.now at) }
 {

@@ -203,7 +203,7 @@ shot_profiles =
     ∷ no (codes "loop")
     ∷ []
 
--- an event, and what is posted where it is handled
+-- an event, and what is posted when it is handled
 abbrev pub event_player : PlayerKinds
 event_player = record { key = an_event; value = post_list (at_least 0) }
 
@@ -220,7 +220,7 @@ coil_item =
     ∷ row (codes "hold_power") a_power (default nothing)
     ∷ []
 
--- an event, and what coils do where it is handled; an action may stand alone
+-- an event, and what coils do when it is handled; an action may stand alone
 abbrev pub coil_player : PlayerKinds
 coil_player = record { key = an_event; value = keyed_maps coil_item 0 coil_action }
 
@@ -231,7 +231,7 @@ variable_item =
     ∷ row (codes "action") (one_of (codes "add" ∷ codes "set" ∷ [])) (default (word (codes "add")))
     ∷ []
 
--- an event, and what is done with variables where it is handled; a number may stand alone
+-- an event, and what is done with variables when it is handled; a number may stand alone
 abbrev pub variable_player : PlayerKinds
 variable_player = record { key = an_event; value = keyed_maps variable_item 0 any_number }
 
@@ -239,7 +239,7 @@ variable_player = record { key = an_event; value = keyed_maps variable_item 0 an
 abbrev whole : List ℕ → ℕ → ℕ → ℕ → Setting
 whole key least greatest otherwise = row key (single (number_within (pos least) (pos greatest))) (default (one (number (pos otherwise))))
 
--- the name of the playfield: balls are ejected to it where nothing else is said, so no device has it
+-- the name of the playfield: balls are ejected to it if nothing else is said, so no device has it
 abbrev pub playfield : List ℕ
 playfield = codes "playfield"
 

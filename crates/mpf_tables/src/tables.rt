@@ -260,7 +260,7 @@ pub const SHOT_PROFILES: &[Setting] = &[
     setting!(b"loop", FLAG, NO),
 ];
 
-/// The name of the playfield, to which balls are ejected where nothing else is said. No device has
+/// The name of the playfield, to which balls are ejected if nothing else is said. No device has
 /// it.
 pub const PLAYFIELD: &[u8] = b"playfield";
 
@@ -362,7 +362,7 @@ pub const GAME: &[Setting] = &[
     ),
 ];
 
-/// `event_player`: an event, and what is posted where it is handled.
+/// `event_player`: an event, and what is posted when it is handled.
 pub const EVENT_PLAYER: PlayerKinds = PlayerKinds {
     key: Scalar::Event,
     value: Kind::Posts(ANY),
@@ -378,7 +378,7 @@ const COIL_ITEM: &[Field] = &[
     field!(b"hold_power", Scalar::Power, Absent::Nothing),
 ];
 
-/// `coil_player`: an event, and what coils do where it is handled. An action may stand alone.
+/// `coil_player`: an event, and what coils do when it is handled. An action may stand alone.
 pub const COIL_PLAYER: PlayerKinds = PlayerKinds {
     key: Scalar::Event,
     value: Kind::Keyed(COIL_ITEM, 0, COIL_ACTION),
@@ -392,7 +392,7 @@ const VARIABLE_ITEM: &[Field] = &[
     field!(b"action", VARIABLE_ACTION, Absent::Word(b"add")),
 ];
 
-/// `variable_player`: an event, and what is done with variables where it is handled. A number may
+/// `variable_player`: an event, and what is done with variables when it is handled. A number may
 /// stand alone.
 pub const VARIABLE_PLAYER: PlayerKinds = PlayerKinds {
     key: Scalar::Event,
@@ -596,7 +596,7 @@ fn mode_shape(section: &[u8]) -> Option<Shape>
     shared_shape(section)
 }
 
-/// How a section of this name is written in a text of this kind; none where such a text has no such
+/// How a section of this name is written in a text of this kind; none if such a text has no such
 /// section.
 pub fn shape_of(text: TextKind, section: &[u8]) -> Option<Shape>
     ensures { give shape_view result ≡ shape_of text section.now }

@@ -39,7 +39,7 @@ pub ends_cases : (n b : ℕ) (bs : List ℕ) (none : Bool) → n == 0 ≡ none �
 ends_cases n b bs true z e = let is_zero : n ≡ 0 = eqb-true n 0 z in rw is_zero (ends_zero b bs (rw is_zero at e))
 ends_cases n b bs false z e = absurd (let no_end : false ≡ true = rw z at e in cc)
 
--- where an item ends, the others begin afresh
+-- when an item ends, the others begin afresh
 pub ends_step : (n b : ℕ) (bs : List ℕ) → ends_item n b ≡ true → onto_items (items_from (open_after n b) bs).0 (items_from (open_after n b) bs).1 ≡ items_of (b ∷ bs)
 ends_step n b bs e = ends_cases n b bs (n == 0) refl e
 

@@ -6,12 +6,12 @@ use Rattle.mpf_values.specs.{Bytes.is_separator, Reading.{onto_items, onto_item,
 use Rattle.mpf_values.specs.ListText.{open_after, open_behind, ends_item, IsItemText, EndsBefore, IsListText}
 use Rattle.mpf_values.proofs.ListItems.{opens_none, separator_step, ends_step}
 
--- no byte is a separator outside braces, where so many are open before
+-- no byte is a separator outside braces, if so many are open before
 abbrev IsWholeFrom : ℕ → List ℕ → Type 0
 IsWholeFrom n [] = Unit {0}
 IsWholeFrom n (b ∷ bs) = (ends_item n b ≡ false) × IsWholeFrom (open_after n b) bs
 
--- a piece ends with its text, or before a separator, where so many braces are open after it
+-- a piece ends with its text, or before a separator, if so many braces are open after it
 abbrev EndsFrom : ℕ → List ℕ → Type 0
 EndsFrom n [] = Unit {0}
 EndsFrom n (b ∷ behind) = ends_item n b ≡ true

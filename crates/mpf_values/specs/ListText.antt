@@ -3,7 +3,8 @@ use Rattle.std.specs.Prelude.{◌≡◌, ◌≢◌, ℕ, ◌+◌, ◌-◌, Bool,
 use Rattle.yaml_bytes.specs.Plain.{Are}
 use Rattle.mpf_values.specs.Bytes.{is_separator}
 
--- How many braces are open after a byte, where so many are open before it: a closing one that closes none is an ordinary byte.
+-- How many braces are open after a byte, if so many are open before it: a closing one that closes none is an ordinary
+-- byte.
 abbrev pub open_after : ℕ → ℕ → ℕ
 open_after open_braces b = if b == 123 then open_braces + 1 else (if b == 125 then open_braces - 1 else open_braces)
 

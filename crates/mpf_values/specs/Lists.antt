@@ -17,7 +17,8 @@ has_text item = not (length item.text == 0)
 abbrev pub scalar_node : Item → Node
 scalar_node item = scalar item.line item.text
 
--- The items of a list: those of its text, all at the line of that text; or the nodes of a YAML list, which are scalars, without the empty ones.
+-- The items of a list: those of its text, all at the line of that text; or the nodes of a YAML list, which are scalars,
+-- without the empty ones.
 abbrev pub IsList : Node → List Item → Type 0
 IsList (scalar line text) items = (texts : List (List ℕ)) × IsListText text texts × (items ≡ map (item_at line) texts)
 IsList (sequence line nodes) items = (scalars : List Item) × (list_nodes nodes ≡ map scalar_node scalars) × (items ≡ filter has_text scalars)

@@ -35,7 +35,7 @@ worth_of places = if places == 1 then Some 100 else (if places == 2 then Some 10
 unfoldable pub fraction_at : List ℕ → Option ℕ
 fraction_at decimals = worth_of (length decimals) >>= λ worth. number_at decimals >>= λ n. within_64_bits (n * worth)
 
--- a number of so many thousandths with the decimals after its point, where it has one
+-- a number of so many thousandths with the decimals after its point, if it has one
 abbrev pub decimal_from : ℕ → List ℕ → Option (Decimal × List ℕ)
 decimal_from whole [] = Some (record { thousandths = whole; places = 0 }, [])
 decimal_from whole (b ∷ bs) =
@@ -177,7 +177,7 @@ item_len open_braces (b ∷ bs) = if ends_item open_braces b then 0 else suc (it
 abbrev pub scalar_at : Node → Option Item
 scalar_at node = text_in node >>= λ text. Some (item_at (line_of node) text)
 
--- an item in front of others, where it has text
+-- an item in front of others, if it has text
 abbrev pub onto_list : Item → List Item → List Item
 onto_list item items = if has_text item then item ∷ items else items
 

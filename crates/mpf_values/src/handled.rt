@@ -47,7 +47,7 @@ pub struct Condition<'a> {
     pub number: i64,
 }
 
-/// An event by its name, and the condition under which it is handled, where it has one.
+/// An event by its name, and the condition under which it is handled, if it has one.
 #[derive(Clone, Copy)]
 pub struct Event<'a> {
     pub name: &'a [u8],

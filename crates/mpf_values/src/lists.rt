@@ -48,7 +48,7 @@ fn items_of<'a>(alloc: Global, tree: &'a Tree) -> Result<Vec<Item<'a>>, ListFaul
 /// the text. Empty items are dropped, so the empty text is an empty list.
 ///
 /// Any other node is `BadValue`: a mapping, and a YAML list that holds a list or a mapping.
-/// The error is `NoMemory` where memory runs out before that is found.
+/// The error is `NoMemory` if memory runs out before that is found.
 pub fn list<'a>(alloc: Global, tree: &'a Tree) -> Result<Vec<Item<'a>>, ListFault>
     // The result is the items of the list.
     ensures found { IfOk result (λ items. IsList (node_view tree.now) (items_view items.items)) }

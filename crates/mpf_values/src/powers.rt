@@ -12,7 +12,7 @@ use crate::fault::BadValue;
 const FULL: u64 = 1000;
 
 // The thousandths of full power that a number is, with what comes after it: nothing, or a per
-// cent sign where the number has at most one decimal.
+// cent sign if the number has at most one decimal.
 #[tactic(auto, unfolding(crate::specs::Reading::share_at))]
 fn share(number: Decimal, rest: &[u8]) -> Result<u64, BadValue>
     ensures { Gives (λ n. n) result (share_at number rest.now) }

@@ -41,7 +41,7 @@ fn milliseconds(text: &[u8]) -> Result<u32, BadValue>
 
 /// A time in milliseconds, below 2^32: a number, and after it, with or without blanks between, a
 /// unit: `ms`, `s`, `m`, `h` or `d`, or nothing for milliseconds. The number may have up to three
-/// decimals where the time is a whole number of milliseconds, as in `1.5s`; there is a digit on
+/// decimals if the time is a whole number of milliseconds, as in `1.5s`; there is a digit on
 /// each side of the point. Any other text is `BadValue`: `0.5ms`, which is not whole, `50d`, which
 /// is not below 2^32 ms, `.5s`, `5S`, and one with a blank in front.
 pub fn time(text: &[u8]) -> Result<u32, BadValue>

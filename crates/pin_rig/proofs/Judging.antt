@@ -31,7 +31,7 @@ both_ok x1 given stimulus h = search rules
 late_or : (late : Bool) (given : Result Stimulus StepFault) → result_and (if late then Err faults.TooLate else Ok (tt {0})) given ≡ (if late then Err faults.TooLate else given)
 late_or x1 given = search rules
 
--- no alarm is late, so that the moment of one is refused only where it is too late
+-- no alarm is late, so that the moment of one is refused only if it is too late
 pub alarm-judged : (rig : RigView) → IsValid rig.checked.plan → IsOfRun rig → (a : ℕ × Source) → next_alarm rig.machine ≡ Some a → alarm_at (next_alarm rig.machine) ≡ result_and (admitted rig.machine.moment a.0) (Ok (Alarm a.0 a.1))
 alarm-judged rig valid (trace, reached) a next =
     let given : Result Stimulus StepFault = Ok (Alarm a.0 a.1) in
@@ -149,7 +149,7 @@ abbrev IsRefusal : StepFault → Type 0
 IsRefusal faults.BoardFault = ⊥
 IsRefusal fault = Unit {0}
 
--- where there is one, it is a refusal
+-- if there is one, it is a refusal
 abbrev Refuses : Result Stimulus StepFault → Type 0
 Refuses (Ok stimulus) = Unit {0}
 Refuses (Err fault) = IsRefusal fault

@@ -144,7 +144,7 @@ module _ (c : CheckedView) (board : BoardView) (accepted : IsAccepted c) where
       (subst (λ ss. Follows limits ss (after_lines new.lines mid.sent) new.machine.moment) (sym (ap sendings h.shown_is ∙ flat_map-append sent_in h.earlier new.lines))
       (part-follows limits new.machine.moment new.lines (h.halt.line ∷ h.halt.later) (sendings h.earlier) mid.sent are before))
 
--- ---- what is put off at the end
+-- ---- what is turned off at the end
 
 pub off-by_commands : (c : CheckedView) (rig : RigView) (shown : List Line) → Follows (limits_of c.plan) (sendings shown) rig.sent rig.machine.moment → PutsOffWhatIsOn rig shown
 off-by_commands c rig shown follows = search rules

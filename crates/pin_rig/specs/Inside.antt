@@ -13,7 +13,8 @@ GivesStimulus (Ok stimulus) given = given ≡ Ok (stimulus_view stimulus)
 GivesStimulus (Err fault) given = given ≡ Err fault
 
 -- What was accepted is kept, and its machine, with room for the bound, in a state to which a run leads. So many of its
--- lines are shown. As long as the board takes all commands, those are all, and the guard of what was sent is the machine's.
+-- lines are shown. As long as the board takes all commands, those are all, and the guard of what was sent is the
+-- machine's.
 pub record IsHeld (checked : CheckedView) (core : CoreView) (driver : DriverView) (shown : ℕ) : Type 0 where
   pub accepted : IsAccepted checked
   pub plan_is : core.plan ≡ checked.plan

@@ -64,8 +64,8 @@ IsNextMoment s (Some at) = ((source : Source) × (source_due s source ≡ Some a
 abbrev pub HasFaultedOn : List Command → BoardView → BoardView → Type 0
 HasFaultedOn commands old new = (old.fault_count < new.fault_count) ⊎ ((old.fault_count ≡ 2 ^ 64 - 1) × (commands ≢ []))
 
--- The input is a stimulus that is allowed, and the machine is in the state after its event steps in plan order, at whose
--- end no event waits. The guard of what was sent was asked for the commands of the lines that are shown.
+-- The input is a stimulus that is allowed, and the machine is in the state after its event steps in plan order, at
+-- whose end no event waits. The guard of what was sent was asked for the commands of the lines that are shown.
 pub record RigCascade (input : Input) (old new : RigView) : Type 0 where
   pub stimulus : Stimulus
   pub stimulus_is : stimulus_at old input ≡ Ok stimulus
@@ -105,7 +105,7 @@ abbrev pub HasFailed : Input → RigView → RigView → StepFault → Type 0
 HasFailed input old new faults.BoardFault = RigHalt input old new
 HasFailed input old new fault = (stimulus_at old input ≡ Err fault) × (new ≡ old)
 
--- Where the board has not taken a command, the input was a stimulus; else it is refused for this reason.
+-- If the board has not taken a command, the input was a stimulus; else it is refused for this reason.
 abbrev pub IsWhy : Result Stimulus StepFault → StepFault → Type 0
 IsWhy given faults.BoardFault = (stimulus : Stimulus) × (given ≡ Ok stimulus)
 IsWhy given fault = given ≡ Err fault

@@ -15,8 +15,8 @@ abbrev pub AreSteps : List Input → RigView → List Line → RigView → Type 
 AreSteps [] old trace new = (trace ≡ []) × (new ≡ old)
 AreSteps (input ∷ more) old trace new = (mid : RigView) × (rest : List Line) × RigStep input old mid × AreSteps more mid rest new × (trace ≡ mid.machine.lines ++ rest)
 
--- These inputs are steps, and at one more the board has not taken a command. Of its lines some are in the trace alone, and
--- not shown.
+-- These inputs are steps, and at one more the board has not taken a command. Of its lines some are in the trace alone,
+-- and not shown.
 pub record AreStepsToHalt (inputs : List Input) (last : Input) (old : RigView) (trace shown : List Line) (new : RigView) : Type 0 where
   pub mid : RigView
   pub earlier : List Line
@@ -49,7 +49,7 @@ AreOfInputs (input ∷ more) ((stimulus, n) ∷ others) = IsOfInput input stimul
 AreOfInputs [] (other ∷ others) = ⊥
 AreOfInputs (input ∷ more) [] = ⊥
 
--- the trace is that of a run of the plan with these inputs, from the one state to the other, where no event waits
+-- the trace is that of a run of the plan with these inputs, from the one state to the other, in which no event waits
 pub record IsRunOf (inputs : List Input) (old : RigView) (trace : List Line) (new : RigView) : Type 0 where
   pub checked_is : new.checked ≡ old.checked
   pub stimuli : List (Stimulus × ℕ)
@@ -78,12 +78,12 @@ pub record SentIsShown : Type 0 where
   pub halt : (c : CheckedView) (board : BoardView) (inputs : List Input) (last : Input) (trace shown : List Line) (new : RigView) → IsAccepted c
       → AreStepsToHalt inputs last (at_rest c board) trace shown new → Follows (limits_of c.plan) (sendings shown) new.sent new.machine.moment
 
--- Whether a coil is to be put off at the end: it is on at the moment of the latest stimulus, by the commands of the lines
--- that were shown, or the board has not taken its last command.
+-- Whether a coil is to be turned off at the end: it is on at the moment of the latest stimulus, by the commands of the
+-- lines that were shown, or the board has not taken its last command.
 abbrev pub is_left_on : List Line → RigView → CoilId → Bool
 is_left_on shown rig coil = is_on (sendings shown) coil rig.machine.moment || is_faulted rig.faulted coil
 
--- `shut_down` puts off the coils that these lines leave on, and the one whose command the board has not taken.
+-- `shut_down` turns off the coils that these lines leave on, and the one whose command the board has not taken.
 abbrev pub PutsOffWhatIsOn : RigView → List Line → Type 0
 PutsOffWhatIsOn rig shown = coils_to_put_off rig ≡ filter (is_left_on shown rig) (coil_numbers rig.checked.plan)
 
@@ -95,7 +95,7 @@ pub record OffIsByCommands : Type 0 where
   pub halt : (c : CheckedView) (board : BoardView) (inputs : List Input) (last : Input) (trace shown : List Line) (new : RigView) → IsAccepted c
       → AreStepsToHalt inputs last (at_rest c board) trace shown new → PutsOffWhatIsOn new shown
 
--- An input is taken exactly where the rig is not halted and it is a stimulus that may come.
+-- An input is taken exactly if the rig is not halted and it is a stimulus that may come.
 abbrev pub TakesWhatMayCome : Type 0
 TakesWhatMayCome =
     (rig : RigView) (input : Input) (stimulus : Stimulus)

@@ -167,7 +167,7 @@ impl<'c, D: Device, B: Board> Rig<'c, D, B> {
         Some(self.core.state(row))
     }
 
-    /// The lines of the latest stimulus, in the order in which they came. Where the board has not
+    /// The lines of the latest stimulus, in the order in which they came. If the board has not
     /// taken a command, they are those before the line of this command.
     pub fn trace(&self) -> &[Line]
         ensures lines { result.now ≡ self.now.lines }

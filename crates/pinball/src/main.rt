@@ -21,13 +21,13 @@ use std::process::ExitCode;
 use std::rt::{Env, Files};
 use std::{env, fs};
 
-/// The status where the words are not understood.
+/// The status if the words are not understood.
 const USAGE: u8 = 2;
-/// The status where a file, reading, writing, a size or memory failed.
+/// The status if a file, reading, writing, a size or memory failed.
 const FAULT: u8 = 3;
 /// How many bytes of output are written at once.
 const OUTPUT_ROOM: usize = 65_536;
-/// What is said besides the failure, where the text of the machine in DIR cannot be read.
+/// What is said besides the failure, if the text of the machine in DIR cannot be read.
 const HINT: &str =
     "hint: DIR is a folder with config/config.yaml in it. Without DIR, standard input is read.";
 
@@ -66,7 +66,7 @@ fn asked<R: Env + AllocGlobal>(rt: &R) -> Result<Ask, AskFault> {
     }
 }
 
-/// The folder of the configuration, where one is given.
+/// The folder of the configuration, if one is given.
 fn folder_of(ask: &Ask) -> Option<&str> {
     let folder = match ask {
         Ask::Check { folder } => folder,
@@ -87,7 +87,7 @@ fn is_of_machine_text(failure: &Failure, folder: Option<&str>) -> bool {
     }
 }
 
-/// The name of the text that is at fault, where that is a file of this folder.
+/// The name of the text that is at fault, if that is a file of this folder.
 fn name_of_file<'a>(failure: &'a Failure, folder: Option<&str>) -> Option<&'a [u8]> {
     let path = failure.file.as_ref()?.as_bytes();
     path.strip_prefix(folder?.as_bytes())?.strip_prefix(b"/")
@@ -111,7 +111,7 @@ fn answer<R: Files + Input + Print + AllocGlobal>(rt: &R, ask: &Ask) -> Result<V
 }
 
 /// Verifies the certificate of a file on the bundle. The bundle has been read before the file is
-/// opened: where standard input is closed, the file takes its place.
+/// opened: if standard input is closed, the file takes its place.
 fn verify<R: Files + AllocGlobal, W: Write>(
     rt: &R,
     path: &str,
@@ -126,7 +126,7 @@ fn verify<R: Files + AllocGlobal, W: Write>(
     answer.map_err(|fault| Failure::at(fault, named))
 }
 
-/// Loads the bundle, and plays the log only where it is accepted.
+/// Loads the bundle, and plays the log only if it is accepted.
 fn play<R: Files + AllocGlobal, W: Write>(
     rt: &R,
     path: &str,
@@ -224,7 +224,7 @@ fn read_machine<R: Files + AllocGlobal>(
     Ok((bundle, modes))
 }
 
-/// The names of the modes that a machine text lists. None where it has a fault: what reads the
+/// The names of the modes that a machine text lists. None if it has a fault: what reads the
 /// bundle reports that.
 fn modes_of(alloc: Global, text: &[u8]) -> Result<Vec<Vec<u8>>, ShellFault> {
     if !may_list_modes(text) {
@@ -237,7 +237,7 @@ fn modes_of(alloc: Global, text: &[u8]) -> Result<Vec<Vec<u8>>, ShellFault> {
     }
 }
 
-/// Whether a machine text may list modes, which saves reading it twice where it does not. Without
+/// Whether a machine text may list modes, which saves reading it twice if it does not. Without
 /// the word `modes` it has no such section: only an escape, in double quotes, could write that name
 /// in another way.
 fn may_list_modes(text: &[u8]) -> bool {

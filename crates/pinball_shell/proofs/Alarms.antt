@@ -29,7 +29,7 @@ cases_due s until = go (is_due_by until s) refl
     go true is = inr (comes s until is)
     go false is = inl (not_due-nothing s until is)
 
--- where it is not too late it may come
+-- if it is not too late, it may come
 pub alarm-allowed : (plan : PlanView) (s : Machine) (until : ℕ) → until < 2 ^ 40 → (a : ComesBy s until) → IsAllowed plan s (Alarm a.at a.source)
 alarm-allowed plan s until early a = let by = a.by in (a.next, omega (arith, by, early))
 

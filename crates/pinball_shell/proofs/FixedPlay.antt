@@ -66,7 +66,7 @@ taken-refused xs ys x a b c m n same tells all some fault =
     let (p, first, (q, one, rest)) = taken-split xs (x ∷ ys) a c all in
     both_ways p m (all-alike xs a b p m same first some) (all-tells xs a p tells first) one.answer.as_told fault.answer.as_told
 
--- ---- coils that are put off
+-- ---- coils that are turned off
 
 off-same : (coils : List CoilId) (a b last other : BoardView) (off others : List CoilId) (f g : ℕ) → a.answers ≡ b.answers → TellsAll a → ArePutOff coils a off f last → ArePutOff coils b others g other → off ≡ others
 off-same [] a b last other off others f g same tells h k = h.0 ∙ sym k.0
@@ -115,7 +115,7 @@ two-places {X} (a ∷ xs) (b ∷ ys) later more x y e =
 commands-past : (shown zs : List Printed) (line : Line) (command : Command) → line.happening ≡ happenings.Coil command → commands_of (traced (shown ++ Traced line ∷ zs)) ≡ commands_of (traced shown) ++ command ∷ commands_of (traced zs)
 commands-past shown zs line command is = search (rules, traced-append, commands-append)
 
--- A board does not take more than what comes before a line, where one that answers alike has not taken the line's command.
+-- A board does not take more than what comes before a line, if one that answers alike has not taken the line's command.
 taken-past : (shown zs longer : List Printed) (line : Line) (command : Command) (a b c m n : BoardView) → a.answers ≡ b.answers → TellsAll a → line.happening ≡ happenings.Coil command → longer ≡ shown ++ Traced line ∷ zs
     → HasTakenAll (commands_of (traced longer)) a c → HasTakenAll (commands_of (traced shown)) b m → HasNotTaken m n → ⊥
 taken-past shown zs longer line command a b c m n same tells is whole all some fault =

@@ -75,7 +75,7 @@ abbrev is_alarm : Stimulus → Bool
 is_alarm (Alarm at source) = true
 is_alarm _ = false
 
--- whether the last of them is an alarm, or `none` where there is none
+-- whether the last of them is an alarm, or `none` if there is none
 abbrev ends_with_alarm : Bool → List Stimulus → Bool
 ends_with_alarm none [] = none
 ends_with_alarm none (stimulus ∷ more) = ends_with_alarm (is_alarm stimulus) more
@@ -99,8 +99,8 @@ in_time-no_alarm : (plan : PlanView) (now : ℕ) (stimulus : Stimulus) → IsGiv
 in_time-no_alarm plan now x3 x4 = search rules
 
 module _ (c : CheckedView) (accepted : IsAccepted c) where
-  -- Some run in plan order was given these stimuli, and alarms, and whether one of those came last; it has this trace and leads
-  -- to this state, where no event waits.
+  -- Some run in plan order was given these stimuli, and alarms, and whether one of those came last; it has this trace
+  -- and leads to this state, in which no event waits.
   record IsRunGiven (given : List Stimulus) (alarm : Bool) (trace : List Line) (s : Machine) : Type 0 where
     reached : IsReached c.plan trace s
     order : IsRunInOrder c.plan (stimuli_of reached.stimuli) (initial c.plan) trace s
@@ -165,7 +165,7 @@ module _ (c : CheckedView) (accepted : IsAccepted c) where
       let next = settled c.plan c.bound (Alarm at source) s in
       subst (λ (gs : List Stimulus). IsRunGiven gs true (trace ++ next.lines) next) (append-nil given) (given-next given alarm trace s h (Alarm at source) allowed [] refl)
 
-  -- the alarms due by the moment, where so much fuel is enough for all
+  -- the alarms due by the moment, if so much fuel is enough for all
   run-alarms : (until : ℕ) → until < 2 ^ 40 → (given : List Stimulus) (fuel : ℕ) (alarm : Bool) (trace : List Line) (s : Machine) → IsRunGiven given alarm trace s → AreAll c.plan c.bound until fuel s → s.moment ≤ until
       → IsRunUntil until given trace s (alarms_by c.plan c.bound until fuel s)
   run-alarms until early given zero alarm trace s run all before = run-none until given alarm trace s run before all
@@ -202,7 +202,7 @@ module _ (c : CheckedView) (accepted : IsAccepted c) where
       (subst (λ (ls : List Line). IsRunGiven all_given false ls next) (append_assoc trace (trace_of c.plan c.bound alarms s) next.lines ∙ ap (λ (ls : List Line). trace ++ ls) (sym played))
       (subst (λ (b : Bool). IsRunGiven all_given b ((trace ++ trace_of c.plan c.bound alarms s) ++ next.lines) next) (in_time-no_alarm c.plan s.moment stimulus time) last))
 
-  -- where nothing is given, the run goes on as it was
+  -- if nothing is given, the run goes on as it was
   run-nothing : (given : List Stimulus) (trace : List Line) (s : Machine) → IsRunGiven given false trace s → IsRunGiven (given ++ []) false (trace ++ []) s
   run-nothing given trace s run = search (rules, run, append-nil)
 

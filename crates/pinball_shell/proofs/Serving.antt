@@ -60,7 +60,7 @@ off-tells (coil ∷ more) a b off faults (mid, inl (one, (rest, is, later))) =
 off-tells (coil ∷ more) a b off faults (mid, inr (not, (others, count, later))) =
     subst (λ (o : Option (List Command)). TellsMore (map Disable off) o b.told) not.list (off-tells more mid b off others later)
 
--- what a board tells in the end, after the commands of lines and those that put coils off
+-- what a board tells in the end, after the commands of lines and those that turn coils off
 pub end-tells : (commands : List Command) (coils off : List CoilId) (faults : ℕ) (a b c : BoardView) → TellsMore commands a.told b.told → ArePutOff coils b off faults c → TellsMore (commands ++ map Disable off) a.told c.told
 end-tells commands coils off faults a b c h k = tells-then commands (map Disable off) a.told b.told c.told h (off-tells coils b c off faults k)
 

@@ -34,7 +34,7 @@ in_time-taken rig now stimulus running time ahead quiet = search (rules, stimulu
 pub ok_where : {T E : Type 0} (r : Result T E) (x : T) → r ≡ Ok x → IsOk r
 ok_where x1 x h = search rules
 
--- where a step of playing has halted, so has what goes on to it
+-- if a step of playing has halted, so has what goes on to it
 pub halts-on : {T U : Type 0} (stop : Stop) (r : Result U Stop) (goes : T → Type 0) (next : U → Type 0) (first halts : Type 0) → r ≡ Err stop → (first → halts) → GoesOrHalts {T = T} (Err stop) goes first → GoesOrHalts r next halts
 halts-on {T} {U} stop r goes next first halts is step = subst (λ (q : Result U Stop). GoesOrHalts {T = T} (Err stop) goes first → GoesOrHalts q next halts) (sym is) (by stop)
   where
@@ -90,7 +90,7 @@ log-played plan c first rig board last log a b d v plan_is rest h shut =
       verdict_is = whole.verdict_is;
     }
 
--- where no rig was made for its devices, they are not those of the plan
+-- if no rig was made for its devices, they are not those of the plan
 pub wrong-unfit : {T : Type 0} (plan : PlanView) (rows : List DeviceRow) (states : List DeviceState) (fault : CoreFault) → ((row : ℕ) → fault ≡ core_faults.WrongDevice (record { 0 = row }) → IsFirstWrong plan rows states row)
     → ◌≡◌ {A = Result T ShellFault} (Err (fault_of_rig fault)) (Err faults.WrongDevice) → IsFit plan rows states → ⊥
 wrong-unfit plan rows states core_faults.NoMemory wrong is fit = cc

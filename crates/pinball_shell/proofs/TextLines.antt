@@ -12,6 +12,6 @@ lines-cut text some = search (rules, take-append-drop, parts_at, cond-false, ne_
 pub lines-found : (text line after : List ℕ) (found : Option (List ℕ)) → 0 < length text → line ≡ (cut_line text).0 → found ≡ (cut_line text).1 → after ≡ unwrap_or found [] → lines text ≡ line ∷ lines after
 lines-found text line after found some first rest is = rw (is, first, rest) (lines-cut text some)
 
--- where no element passes up to the end, none does
+-- if no element passes up to the end, none does
 pub none_passes : {X : Type 0} (p : X → Bool) (xs : List X) → length xs ≤ position_or_len p xs → All (λ x. p x ≡ false) xs
 none_passes p xs h = λ i d l. fails_before_first p xs i d (omega arith)

@@ -34,11 +34,11 @@ answer_text accepted (Err r) = refusal_text r
 unfoldable pub reply_text : (CheckedView → List ℕ) → Reply → List ℕ
 reply_text accepted r = notes_text r.notes ++ answer_text accepted r.answer
 
--- all that is printed where a bundle is checked
+-- all that is printed when a bundle is checked
 abbrev pub check_output : List ℕ → List ℕ
 check_output bundle = reply_text acceptance_text (reply_to bundle)
 
--- all that is printed where a certificate is verified on a bundle
+-- all that is printed when a certificate is verified on a bundle
 abbrev pub verify_output : List ℕ → List ℕ → List ℕ
 verify_output certificate bundle = reply_text verification_text (reply_with certificate bundle)
 
@@ -47,6 +47,6 @@ abbrev pub where_refused : Answer → List ℕ → List ℕ
 where_refused (Ok c) text = []
 where_refused (Err r) text = text
 
--- all that is printed where a bundle is loaded, to be played: for a refusal, what is printed where it is checked
+-- all that is printed when a bundle is loaded, to be played: for a refusal, what is printed when it is checked
 abbrev pub load_output : List ℕ → List ℕ
 load_output bundle = where_refused (reply_to bundle).answer (check_output bundle)

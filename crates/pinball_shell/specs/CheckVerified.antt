@@ -5,7 +5,7 @@ use Rattle.config_checker.specs.CertificateText.{certificate_text}
 use Rattle.pinball_shell.specs.Reply.{reply_to, reply_with}
 use Rattle.pinball_shell.specs.CheckOutput.{notes_text, acceptance_text, verification_text, check_output, verify_output}
 
--- where a bundle is accepted, the reply is the same with the certificate of what was accepted
+-- if a bundle is accepted, the reply is the same with the certificate of what was accepted
 abbrev pub AcceptedIsAcceptedAgain : Type 0
 AcceptedIsAcceptedAgain = (bundle : List ℕ) (c : CheckedView) → (reply_to bundle).answer ≡ Ok c → reply_with (certificate_text c) bundle ≡ reply_to bundle
 

@@ -38,8 +38,8 @@ pub record IsBefore (plan : PlanView) (bound : ℕ) (log : List ℕ) (line : Lin
 
 -- ---- the board of a rig
 
--- The board has taken the commands of the coil lines among these, in order, and nothing else. The guard of what was sent was
--- asked for just them.
+-- The board has taken the commands of the coil lines among these, in order, and nothing else. The guard of what was
+-- sent was asked for just them.
 pub record IsServed (printed : List Printed) (old new : RigView) : Type 0 where
   pub checked_is : new.checked ≡ old.checked
   pub taken : HasTakenAll (commands_of (traced printed)) old.board new.board
@@ -61,8 +61,8 @@ pub record IsPlayedOut (plan : PlanView) (bound : ℕ) (log : List ℕ) (old : R
   pub machine_is : new.machine ≡ after_log plan bound log
   pub served : IsServed printed old new
 
--- The board has not taken the command of a line of the trace. What comes before this line is printed, and then that the log's
--- line of this number is refused.
+-- The board has not taken the command of a line of the trace. What comes before this line is printed, and then that the
+-- log's line of this number is refused.
 pub record IsCutOff (plan : PlanView) (bound : ℕ) (log : List ℕ) (old : RigView) (printed : List Printed) (new : RigView) : Type 0 where
   pub line : Line
   pub command : Command
@@ -82,8 +82,8 @@ IsEnd plan bound log old printed new = IsPlayedOut plan bound log old printed ne
 
 -- ---- the whole play
 
--- A log was played on a new rig with this board, up to one of the ends. Then the rig was shut down, and a line written for
--- each coil that was put off. In all, the board has taken the commands of the lines that were written.
+-- A log was played on a new rig with this board, up to one of the ends. Then the rig was shut down, and a line written
+-- for each coil that was turned off. In all, the board has taken the commands of the lines that were written.
 pub record IsPlayOn (c : CheckedView) (log : List ℕ) (board last : BoardView) (before after : Option (List ℕ)) (verdict : Verdict) : Type 0 where
   pub printed : List Printed
   pub rig : RigView
@@ -95,6 +95,6 @@ pub record IsPlayOn (c : CheckedView) (log : List ℕ) (board last : BoardView) 
   pub text : Appends before after (printed_texts c.plan printed ++ off_texts c.plan rig.machine.moment off)
   pub verdict_is : verdict ≡ log_verdict printed
 
--- A text, where its reader tells it, was played as a log on a new rig with this board, whatever that leaves of the board.
+-- A text, if its reader tells it, was played as a log on a new rig with this board, whatever that leaves of the board.
 abbrev pub IsTextPlayedOn : CheckedView → (text : Option (List ℕ)) → (board : BoardView) → (before after : Option (List ℕ)) → Verdict → Type 0
 IsTextPlayedOn c text board before after verdict = IfSome text (λ log. (last : BoardView) × IsPlayOn c log board last before after verdict)

@@ -11,8 +11,8 @@ use Rattle.pinball_shell.specs.{RunOfLog.printed_for_log, TraceText.log_verdict}
 abbrev pub TellsAll : BoardView → Type 0
 TellsAll board = IsSome board.answers.later
 
--- On a board that takes all commands to come, a log is played out: what is printed, and the verdict, are those of the log. And
--- all coils are put off that are to be put off.
+-- On a board that takes all commands to come, a log is played out: what is printed, and the verdict, are those of the
+-- log. And all coils are turned off that are to be turned off.
 abbrev pub TakenIsPlayedOut : Type 0
 TakenIsPlayedOut =
     (c : CheckedView) (log : List ℕ) (board last : BoardView) (before after : Option (List ℕ)) (verdict : Verdict) → board.answers ≡ takes_all
@@ -20,8 +20,8 @@ TakenIsPlayedOut =
     → IsPlayedOut c.plan c.bound log (at_rest c board) play.printed play.rig × (verdict ≡ log_verdict (printed_for_log c.plan c.bound log))
     × (play.off ≡ coils_to_put_off play.rig)
 
--- On two boards that tell the same answers to all commands to come, a log is played the same: the same is printed, the same
--- coils are put off, the verdict is the same, and so is the text that is written.
+-- On two boards that tell the same answers to all commands to come, a log is played the same: the same is printed, the
+-- same coils are turned off, the verdict is the same, and so is the text that is written.
 abbrev pub AnswersFixThePlay : Type 0
 AnswersFixThePlay =
     (c : CheckedView) (log : List ℕ) (board twin last twin_last : BoardView) (before after start end : Option (List ℕ)) (verdict found : Verdict)

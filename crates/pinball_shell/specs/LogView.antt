@@ -29,6 +29,6 @@ pub record IsFront (text : List ℕ) (moment : ℕ) (rest : List ℕ) : Type 0 w
   pub value : moment ≡ value_of_digits digits
   pub parted : is_blank blank ≡ true
 
--- what the line gives where the latest stimulus came at `now`
+-- what the line gives if the latest stimulus came at `now`
 abbrev pub given_by_said : PlanView → (now : ℕ) → SaidLine → Result (Option Stimulus) Refusal
 given_by_said plan now line = given_by_line plan now (said_view line)

@@ -105,7 +105,7 @@ PlaysAlarms plan until old new before after result =
 
 -- ---- lines of a log
 
--- refused where either is
+-- refused if either is
 abbrev pub worse_of : Verdict → Verdict → Verdict
 worse_of before verdicts.Yes = before
 worse_of before verdicts.Refused = verdicts.Refused
@@ -135,7 +135,7 @@ pub record IsLogPlayed (plan : PlanView) (bound : ℕ) (log : List ℕ) (old new
 
 -- ---- the end
 
--- A rig was shut down, and it was written which coils were put off. In the end the board is `last`.
+-- A rig was shut down, and it was written which coils were turned off. In the end the board is `last`.
 pub record IsShutDown (plan : PlanView) (rig : RigView) (last : BoardView) (before after : Option (List ℕ)) : Type 0 where
   pub off : List CoilId
   pub faults : ℕ

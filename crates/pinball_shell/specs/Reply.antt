@@ -23,12 +23,12 @@ abbrev pub answer_of : Result CheckedView (List FaultView) → Answer
 answer_of (Ok c) = Ok c
 answer_of (Err faults) = Err (unfit faults)
 
--- what the checker answers of rows, with the weights of a certificate where there is one
+-- what the checker answers of rows, with the weights of a certificate if there is one
 abbrev pub checked_by : Option (List ℕ) → Rows → Result CheckedView (List FaultView)
 checked_by None rows = checked_at rows
 checked_by (Some certificate) rows = checked_with_at rows certificate
 
--- rows have their notes, whether they are accepted or not; where there are no rows, there are no notes
+-- rows have their notes, whether they are accepted or not; if there are no rows, there are no notes
 abbrev pub replied : Option (List ℕ) → Result Rows RowsFault → Reply
 replied certificate (Ok rows) = record { notes = rows.notes; answer = answer_of (checked_by certificate rows) }
 replied certificate (Err f) = record { notes = []; answer = Err (unread f) }

@@ -23,7 +23,7 @@ reply_view r = record { notes = map rows_views.note_view r.notes.items; answer =
 
 -- ---- which reply it is
 
--- it is the reply to the bundle, with the weights of a certificate where there is one
+-- it is the reply to the bundle, with the weights of a certificate if there is one
 abbrev pub IsReplyBy : Option (Bor (List ℕ)) → (bundle : List ℕ) → HeldReply → Type 0
 IsReplyBy certificate bundle reply = replied (option_map (λ c. c.now) certificate) (rows_at bundle) ≡ reply_view reply
 
@@ -31,7 +31,7 @@ IsReplyBy certificate bundle reply = replied (option_map (λ c. c.now) certifica
 abbrev pub IsReplyWith : (certificate bundle : List ℕ) → HeldReply → Type 0
 IsReplyWith certificate bundle reply = reply_with certificate bundle ≡ reply_view reply
 
--- it is what the checker answers of the rows, with the weights of a certificate where there is one
+-- it is what the checker answers of the rows, with the weights of a certificate if there is one
 abbrev pub IsAnswerBy : Option (Bor (List ℕ)) → Config → Result CheckedView BundleRefusal → Type 0
 IsAnswerBy certificate config answer = answer_of (checked_by (option_map (λ c. c.now) certificate) (rows_views.rows_view config)) ≡ answer_view answer
 

@@ -13,8 +13,8 @@ abbrev pub given_of : Result (Option Stimulus) Refusal → Option Stimulus
 given_of (Ok given) = given
 given_of (Err refusal) = None
 
--- The stimuli that these lines of a log give, where the latest stimulus before them came at `now`. A line that is refused leaves
--- `now` as it was; an alarm comes before the stimulus of a line, and not at a later moment.
+-- The stimuli that these lines of a log give, if the latest stimulus before them came at `now`. A line that is refused
+-- leaves `now` as it was; an alarm comes before the stimulus of a line, and not at a later moment.
 abbrev pub given_by_lines : PlanView → ℕ → List (List ℕ) → List Stimulus
 given_by_lines plan now [] = []
 given_by_lines plan now (line ∷ more) =
@@ -36,8 +36,9 @@ without_alarms (SwitchChange at switch level ∷ more) = SwitchChange at switch 
 without_alarms (Alarm at source ∷ more) = without_alarms more
 without_alarms (Wait at ∷ more) = Wait at ∷ without_alarms more
 
--- The lines are the trace of a run of the plan that the log gives: its changes and waits are those of the log, in order; before
--- each have come the alarms due by its moment, as in every run; no alarm is the last; and at the end no event waits.
+-- The lines are the trace of a run of the plan that the log gives: its changes and waits are those of the log, in
+-- order; before each have come the alarms due by its moment, as in every run; no alarm is the last; and at the end no
+-- event waits.
 pub record IsRunOfLog (plan : PlanView) (log : List ℕ) (trace : List Line) : Type 0 where
   pub end : Machine
   pub reached : IsReached plan trace end
@@ -61,7 +62,8 @@ pub record IsPlayOfLog (plan : PlanView) (log : List ℕ) (trace : List Line) : 
 abbrev pub PrintsPlayOf : CheckedView → (log : List ℕ) → Type 0
 PrintsPlayOf c log = IsPlayOfLog c.plan log (traced (printed_for_log c.plan c.bound log))
 
--- Every run of a log has the same changes and waits. Which alarms come may depend on the order of handlers of equal priority.
+-- Every run of a log has the same changes and waits. Which alarms come may depend on the order of handlers of equal
+-- priority.
 abbrev pub GivesChangesAndWaits : Type 0
 GivesChangesAndWaits =
     (plan : PlanView) (log : List ℕ) (trace other : List Line) (a : IsRunOfLog plan log trace) (b : IsRunOfLog plan log other)

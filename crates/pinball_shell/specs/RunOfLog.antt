@@ -12,7 +12,7 @@ use Rattle.pinball_shell.specs.LogText as says
 
 -- ---- what a line gives
 
--- what a line gives, where its moment is admitted
+-- what a line gives, if its moment is admitted
 abbrev pub if_admitted : {X : Type 0} → Result Unit StepFault → X → Result (Option X) Refusal
 if_admitted (Ok admitted) what = Ok (Some what)
 if_admitted (Err fault) what = Err (Step fault)
@@ -22,7 +22,7 @@ abbrev pub change_of : ℕ → ℕ → Option SwitchId → Bool → Result (Opti
 change_of now at None level = Err (Step NoSuchSwitch)
 change_of now at (Some switch) level = if_admitted (admitted now at) (SwitchChange at switch level)
 
--- what a line gives where the latest stimulus came at `now`: nothing, a stimulus, or why it is refused
+-- what a line gives if the latest stimulus came at `now`: nothing, a stimulus, or why it is refused
 abbrev pub given_by_line : PlanView → ℕ → Said → Result (Option Stimulus) Refusal
 given_by_line plan now Nothing = Ok None
 given_by_line plan now Unreadable = Err BadLine

@@ -19,12 +19,12 @@ fault_name Write = codes "Write"
 fault_name TooLong = codes "TooLong"
 fault_name WrongDevice = codes "WrongDevice"
 
--- the fault where no rig can be made
+-- the fault if no rig can be made
 abbrev pub fault_of_rig : CoreFault → ShellFault
 fault_of_rig rig.NoMemory = NoMemory
 fault_of_rig (rig.WrongDevice row) = WrongDevice
 
--- Of a fault in reading the file of this path: its own where a read failed or it is too long.
+-- Of a fault in reading the file of this path: its own if a read failed or it is too long.
 abbrev pub file_at_fault : ShellFault → List ℕ → Option (List ℕ)
 file_at_fault NoMemory path = None
 file_at_fault Read path = Some path
@@ -37,6 +37,6 @@ abbrev pub file_line : Option (List ℕ) → List ℕ
 file_line None = []
 file_line (Some path) = codes "file: " ++ path ++ 10 ∷ []
 
--- what standard error gets where there is no verdict: the name of the fault, and on a second line the file at fault
+-- what standard error gets if there is no verdict: the name of the fault, and on a second line the file at fault
 abbrev pub failure_text : ShellFault → Option (List ℕ) → List ℕ
 failure_text fault file = codes "fault: " ++ fault_name fault ++ 10 ∷ file_line file

@@ -34,6 +34,6 @@ abbrev pub is_refused : Printed → Bool
 is_refused (Traced line) = false
 is_refused (Refused number refusal) = true
 
--- yes where no line of the log was refused
+-- yes if no line of the log was refused
 abbrev pub log_verdict : List Printed → Verdict
 log_verdict printed = if list_any is_refused printed then verdicts.Refused else verdicts.Yes

@@ -156,7 +156,7 @@ pub fn load_bundle<W: Write>(
     Ok(reply.answer.ok())
 }
 
-/// Reads a certificate, and verifies it on a bundle. Fails by memory and by the reader, and where the
+/// Reads a certificate, and verifies it on a bundle. Fails by memory and by the reader, and if the
 /// certificate is too long.
 fn reply_with_certificate<Q: Read>(
     alloc: Global,
@@ -172,7 +172,7 @@ fn reply_with_certificate<Q: Read>(
     reply_to_text(alloc, bundle, Some(stated.as_slice()))
 }
 
-/// The reply to a bundle, with the weights of a certificate where there is one. Fails only by
+/// The reply to a bundle, with the weights of a certificate if there is one. Fails only by
 /// memory.
 fn reply_to_text(
     alloc: Global,

@@ -31,7 +31,7 @@ pub enum ShellFault {
 #[derive(Debug, Drop)]
 pub struct Failure {
     pub fault: ShellFault,
-    /// The path of the file. None where standard input, the output or memory failed.
+    /// The path of the file. None if standard input, the output or memory failed.
     pub file: Option<String>,
 }
 

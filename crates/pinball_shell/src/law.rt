@@ -40,7 +40,7 @@ pub fn log_gives_one_play()
 {}
 
 /// The law of boards that report their answers. On two boards that report the same answers to all
-/// commands to come, `play_text` writes the same for a log, puts off the same coils, and gives the
+/// commands to come, `play_text` writes the same for a log, turns off the same coils, and gives the
 /// same verdict: all this follows from the plan, the log and the answers. On a board that takes all
 /// commands, as a `MemoryBoard` does, every log is played out.
 ///

@@ -55,8 +55,8 @@ impl From<WriteFailed> for Stop {
 /// Reads a log and plays it on a machine with this board and these devices, one for each row of the
 /// plan, in the order of the rows. Writes the lines of the trace in their order, several at a time, and a
 /// line for each line of the log that is refused. At the end the machine is shut down, and a line is written for
-/// each coil that is put off then, at the moment of the latest stimulus. The verdict is `Yes` if no
-/// line of the log is refused.
+/// each coil that is turned off then, at the moment of the latest stimulus. The verdict is `Yes` if
+/// no line of the log is refused.
 ///
 /// The lines of the trace are those of the run of the plan that the log gives: its changes and
 /// waits in their order, before each the alarms that are due by its moment, and none after the
@@ -65,7 +65,7 @@ impl From<WriteFailed> for Stop {
 /// The board is sent the commands of the lines, in order, and at the end a disable for each coil
 /// that is still on. If it does not take a command of the trace, the log ends there: the lines before
 /// that of the command are written, and then `refused` for the line of the log that was being played.
-/// The machine is shut down in this case too, and this coil is put off with those that are on.
+/// The machine is shut down in this case too, and this coil is turned off with those that are on.
 ///
 /// If the board reports its answers to the commands to come, all that is written follows from the
 /// plan, the log and these answers.
@@ -133,8 +133,8 @@ fn play_log<D: Device, B: Board, W: Write>(
     Ok((verdict, board))
 }
 
-/// Shuts the rig of a plan down, and writes which coils were put off. Gives the board back. Fails
-/// only by the writer.
+/// Shuts the rig of a plan down, and writes which coils were turned off. Gives the board back.
+/// Fails only by the writer.
 pub fn shut_down<D: Device, B: Board, W: Write>(
     plan: &PrintedPlan<'_>,
     rig: Rig<'_, D, B>,
@@ -197,7 +197,7 @@ pub fn refuse_for_board<W: Write>(
     Ok(Verdict::Refused)
 }
 
-/// Refused where either is.
+/// Refused if either is.
 pub fn worse(before: Verdict, line: Verdict) -> Verdict
     ensures { result ≡ worse_of before line }
 {
@@ -233,7 +233,7 @@ pub fn play_line<D: Device, B: Board, W: Write>(
     }
 }
 
-/// What a line gives where the latest stimulus came at `now`: nothing, an input and its moment, or
+/// What a line gives if the latest stimulus came at `now`: nothing, an input and its moment, or
 /// why it is refused.
 fn given_by(
     plan: &PrintedPlan<'_>,
@@ -253,7 +253,7 @@ fn given_by(
     }
 }
 
-/// An input and its moment, where the moment is admitted.
+/// An input and its moment, if the moment is admitted.
 fn given_at(now: u64, at: u64, input: Input) -> Result<Option<(u64, Input)>, Refusal>
     ensures { result ≡ if_admitted (admitted now at) (at, input) }
 {
@@ -291,7 +291,7 @@ fn has_alarm_by<D: Device, B: Board>(rig: &Rig<'_, D, B>, until: u64) -> bool
     }
 }
 
-/// Plays an input that the rig takes, and puts its lines on the page. Where the board has not taken a command,
+/// Plays an input that the rig takes, and puts its lines on the page. If the board has not taken a command,
 /// these are the lines before the line of this command.
 fn play_input<D: Device, B: Board, W: Write>(
     plan: &PrintedPlan<'_>,

@@ -19,7 +19,7 @@ pub enum BundleRefusal {
 /// The reply to a bundle.
 #[derive(Drop)]
 pub struct Reply {
-    /// The notes on its rows, in the order in which they are printed; none where it has no rows.
+    /// The notes on its rows, in the order in which they are printed; none if it has no rows.
     pub notes: Vec<Note>,
     /// What was accepted, or why nothing was.
     pub answer: Result<Checked, BundleRefusal>,

@@ -50,7 +50,7 @@ pub fn read_all<R: Read>(alloc: Global, reader: &mut R, limit: usize) -> Result<
 }
 
 /// A bundle with one text more: the bundle, the line `@ NAME`, and the text, which gets a line end
-/// where it is not empty and lacks one.
+/// if it is not empty and lacks one.
 ///
 /// # Errors
 ///

@@ -10,7 +10,7 @@ use Rattle.plan_contributions.specs.{declared.contribution.Aim.Aim, Effects.Effe
 -- One thing that a row gives: an entry of a table, by its name; how the last given switch is read, and whether a ball
 -- that presses it is on the playfield; an event that this switch posts when it becomes active, or inactive; a mode by
 -- its name, with its priority, whether it starts only in a game, and whether it may hold the end of the ball; an event
--- of the mode that came last, which has this name; a binding of an event, with which an effect list begins where it is
+-- of the mode that came last, which has this name; a binding of an event, with which an effect list begins if it is
 -- to run one; what the list does that began last; a row of a device with its settings, with which its effect lists
 -- begin; what this list of the last row does, by its number in the row; a switch to which the last row listens, by its
 -- number in the row; an event or a switch that a setting names, by its table, which gets its number here; something

@@ -9,11 +9,11 @@ pub data Deed : Type 0 where
   enable : (power : ℕ) → Deed
   disable : Deed
 
--- One thing that an effect list does: it posts the event of this name, does this with the coil of this name, or does this
--- with the variable of this name, with a number. Or it is what happens with the balls of its row, a ball device: a ball
--- enters it, which posts the event of this name and may have drained where `drain` holds; the ball that it ejects leaves
--- it; a ball is lost from it; or a ball that was on its way from it is on the playfield. Or the first trough is asked for
--- so many balls more; or so many balls are to be in play at least, and it is asked for those that are not.
+-- One thing that an effect list does: it posts the event of this name, does this with the coil of this name, or does
+-- this with the variable of this name, with a number. Or it is what happens with the balls of its row, a ball device: a
+-- ball enters it, which posts the event of this name and may have drained if `drain` holds; the ball that it ejects
+-- leaves it; a ball is lost from it; or a ball that was on its way from it is on the playfield. Or the first trough is
+-- asked for so many balls more; or so many balls are to be in play at least, and it is asked for those that are not.
 pub data Effect : Type 0 where
   posts : (event : List ℕ) → Effect
   works : (coil : List ℕ) → Deed → Effect

@@ -43,7 +43,7 @@ given _ = None
 
 -- ---- all of them
 
--- the name, where it is one of this table
+-- the name, if it is one of this table
 abbrev pub name_in_table : Table → Option (Table × List ℕ) → List (List ℕ)
 name_in_table table None = []
 name_in_table table (Some (t, n)) = if order_of t == order_of table then n ∷ [] else []

@@ -110,7 +110,7 @@ pub enum Contribution<'a> {
     Listens(usize, &'a [u8]),
     /// A setting names what stands in the table under this name: an event or a switch.
     Mentions(Table, Parts<'a>),
-    /// A setting names what nothing has, where what it names is in no table.
+    /// A setting names what nothing has, if what it names is in no table.
     Unknown,
     /// A coil: its name, and what it may be sent.
     Coil(&'a [u8], CoilLimits),
@@ -126,7 +126,7 @@ pub enum Contribution<'a> {
     },
 }
 
-/// Adds one more. Everything adds by this call: where memory is out, `push` hands back what it was given, and each `?`
+/// Adds one more. Everything adds by this call: if memory runs out, `push` hands back what it was given, and each `?`
 /// after a `push` would have to drop it, which is slow to prove.
 pub fn add<'a>(
     contributions: &mut Vec<Contribution<'a>>,

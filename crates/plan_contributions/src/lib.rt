@@ -1,7 +1,7 @@
 //! What can be given to a plan: contributions, and the names that they use and give.
 //!
-//! A contribution says what it says by names, whatever section it comes from. How the bytes of a name
-//! lie in a configuration is said here too, so that whoever numbers names need not know.
+//! A contribution names things by their names, whatever section it comes from. How the bytes of a name
+//! lie in a configuration is said here too, so that the code that numbers names need not know.
 #![tactic(auto)]
 
 pub mod collect_effects;

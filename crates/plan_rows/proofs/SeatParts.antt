@@ -11,7 +11,7 @@ use Rattle.machine_definitions.proofs.Finding.{next-is}
 use Rattle.plan_rows.specs.declared.place.Place.{Place}
 use Rattle.plan_rows.specs.Seats.{section_entries, text_entries, row_sections, has_row, rows_after, rows_after_all, Seat, seats_at, given_from, latest}
 
--- what is found under a name after these, where this was found before
+-- what is found under a name after these, if this was found before
 abbrev pub found_after : {X : Type 0} → List ℕ → Option X → List (List ℕ × X) → Option X
 found_after name o xs = fold (latest name) o xs
 

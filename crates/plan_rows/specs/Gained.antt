@@ -56,7 +56,7 @@ is_named_in names name = list_any (λ w. bytes_eq name w.text) (written_names na
 
 -- ---- the seats of a text, before which come so many rows
 
--- a name is found where a group of the text lists the shot of this name
+-- a name is found if a group of the text lists the shot of this name
 abbrev pub HasGrouped : {S : Type 0} → List Section → HashSet (Bor (List ℕ)) S → Type 0
 HasGrouped sections names = (name : List ℕ) → is_found names name ≡ is_grouped (section_rows sections) name
 
@@ -68,7 +68,7 @@ HasSeats place before sections found = (name : List ℕ) → found_seat found.sh
 abbrev pub HasDestinations : Place → ℕ → List Section → Seats → Type 0
 HasDestinations place before sections found = (name : List ℕ) → found_destination found.devices name ≡ destination_of place before (section_rows sections) name
 
--- what a section gives, where such shots are grouped: the seats of shots, and the rows of ball devices
+-- what a section gives, if such shots are grouped: the seats of shots, and the rows of ball devices
 abbrev pub seats_given : {S : Type 0} → Place → HashSet (Bor (List ℕ)) S → ℕ → Section → List (List ℕ × Seat)
 seats_given place grouped before s = given_from entry_seats place (is_found grouped) before (named_entries s)
 
@@ -90,7 +90,7 @@ rows_after_sections place before sections = rows_after_text place before (sectio
 abbrev pub rows_after_mode : ℕ → ModeText → ℕ
 rows_after_mode before mode = rows_after_text Mode before (mode_view mode).sections
 
--- ---- the rows that the program's entries give, where these are the seats of their text
+-- ---- the rows that the program's entries give, if these are the seats of their text
 
 module _ (defined : Rows) (place : Place) (found : Seats) where
   abbrev pub row_of_entry : List ℕ → written_entries.Entry → Row

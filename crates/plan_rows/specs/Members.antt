@@ -9,7 +9,7 @@ abbrev pub is_none : {X : Type 0} → List X → Bool
 is_none [] = true
 is_none (x ∷ xs) = false
 
--- a shot is enabled at first where no event enables it
+-- a shot is enabled at first if no event enables it
 abbrev pub is_enabled : Shot → Bool
 is_enabled s = is_none s.enables
 
@@ -18,7 +18,7 @@ abbrev pub flags : List Bool → List Bool
 flags bs = take 16 (bs ++ replicate 16 false)
 
 -- What is known of a group: a flag for each of its shots that says whether it is enabled at first, whether all are
--- defined, and the profile of the first. Where nothing defines a shot, any value will do: there is no plan then.
+-- defined, and the profile of the first. If nothing defines a shot, any value will do: there is no plan then.
 pub record Members : Type 0 where
   pub enabled : List Bool
   pub all_known : Bool

@@ -11,9 +11,9 @@ use Rattle.machine_definitions.specs.Shots.{Profile, has_profile, profile_of_nam
 use Rattle.plan_rows.specs.Seats.{Seat, seat_of, destination_of, rows_after_text}
 
 -- An entry in the section of this name, or the one that the section is; a shot, with its seat if it has one, whether
--- its profile is known, and its profile; a group, with what is known of its shots; a ball device, which is the machine's,
--- with where it ejects its balls to; or an entry of a player, whose bindings have this place; or a mode by its name, with
--- what its text says of it.
+-- its profile is known, and its profile; a group, with what is known of its shots; a ball device, which is the
+-- machine's, with where it ejects its balls to; or an entry of a player, whose bindings have this place; or a mode by
+-- its name, with what its text says of it.
 pub data Row : Type 0 where
   entry : Place → List ℕ → Entry → Row
   alone : Place → List ℕ → Entry → Row
@@ -61,7 +61,7 @@ module _ (rows : Rows) (place : Place) (seat : List ℕ → Option Seat) (destin
   abbrev pub rows_in : List SectionRows → List Row
   rows_in sections = flat_map (λ s. rows_from s.name s.content) sections
 
--- the rows of a text, where so many rows of devices come before it
+-- the rows of a text, if so many rows of devices come before it
 abbrev pub text_rows : Rows → Place → ℕ → List SectionRows → List Row
 text_rows rows place n sections = rows_in rows place (seat_of place n sections) (destination_of place n sections) sections
 

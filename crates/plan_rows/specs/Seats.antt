@@ -1,4 +1,4 @@
--- Which row of the plan each shot is in, and which is that of each ball device.
+-- The row of each shot in the plan, and the row of each ball device.
 use Rattle.std.specs.Prelude.{ℕ, suc, Bool, not, if◌then◌else◌, List, [], ◌∷◌, ◌++◌, map, fold, Option, None, Some}
 use Rattle.std.specs.{List.{flat_map, list_any}, Str.bytes_eq}
 use Rattle.yaml_subset.specs.Keys.{is_among}
@@ -37,7 +37,7 @@ row_sections Mode = shared_row_sections
 
 -- Here `grouped` says of a name whether a group of the text lists the shot of this name.
 module _ (place : Place) (grouped : List ℕ → Bool) where
-  -- whether an entry of a text has a row: a shot has one of its own where no group of the text lists it
+  -- whether an entry of a text has a row: a shot has one of its own if no group of the text lists it
   abbrev pub has_row : List ℕ × Entry → Bool
   has_row e = if bytes_eq e.0 shots_name then not (grouped e.1.name.text) else is_among (row_sections place) e.0
 
@@ -49,9 +49,9 @@ module _ (place : Place) (grouped : List ℕ → Bool) where
   abbrev pub rows_after_all : ℕ → List (List ℕ × Entry) → ℕ
   rows_after_all n es = fold rows_after n es
 
--- Here `give` says what an entry gives under which names, where so many rows come before it.
+-- Here `give` says what an entry gives under which names, if so many rows come before it.
 module _ {X : Type 0} (give : ℕ → List ℕ × Entry → List (List ℕ × X)) (place : Place) (grouped : List ℕ → Bool) where
-  -- what these entries give, where so many rows come before them
+  -- what these entries give, if so many rows come before them
   abbrev pub given_from : ℕ → List (List ℕ × Entry) → List (List ℕ × X)
   given_from n [] = []
   given_from n (e ∷ es) = give n e ++ given_from (rows_after place grouped n e) es
@@ -60,7 +60,7 @@ module _ {X : Type 0} (give : ℕ → List ℕ × Entry → List (List ℕ × X)
 abbrev pub latest : {X : Type 0} → List ℕ → Option X → List ℕ × X → Option X
 latest name found x = if bytes_eq name x.0 then Some x.1 else found
 
--- what the entries of a text give under this name, where so many rows come before it
+-- what the entries of a text give under this name, if so many rows come before it
 abbrev pub found_in : {X : Type 0} → (ℕ → List ℕ × Entry → List (List ℕ × X)) → Place → ℕ → List SectionRows → List ℕ → Option X
 found_in give place n sections name =
     fold (latest name) None (given_from give place (is_grouped sections) n (text_entries sections))
@@ -77,7 +77,7 @@ abbrev pub seats_at : ℕ → ℕ → List Written → List (List ℕ × Seat)
 seats_at row i [] = []
 seats_at row i (w ∷ ws) = (w.text, record { row = row; shot = i }) ∷ seats_at row (suc i) ws
 
--- the seats that an entry has, where so many rows come before it
+-- the seats that an entry has, if so many rows come before it
 abbrev pub entry_seats : ℕ → List ℕ × Entry → List (List ℕ × Seat)
 entry_seats n e = if bytes_eq e.0 shot_groups_name then seats_at n 0 (shot_group_of e.1).shots else []
 

@@ -23,7 +23,7 @@ found_seat found name = option_map seat_view (lookup (has_bytes name) found.entr
 abbrev pub found_row : {S : Type 0} → HashMap (Bor (List ℕ)) ℕ S → List ℕ → Option ℕ
 found_row found name = lookup (has_bytes name) found.entries
 
--- where balls go that are ejected to what has this name, where these are the rows of ball devices
+-- where balls go that are ejected to what has this name, if these are the rows of ball devices
 abbrev pub found_destination : {S : Type 0} → HashMap (Bor (List ℕ)) ℕ S → List ℕ → Destination
 found_destination found name = if bytes_eq name playfield then Playfield else row_or_unknown (found_row found name)
 

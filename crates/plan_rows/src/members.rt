@@ -13,7 +13,7 @@ use machine_definitions::{Definitions, Profile};
 use mpf_config::{Name, Shot, ShotGroup};
 use mpf_tables::tables::DEFAULT_PROFILE;
 
-/// What other entries say of the shots of a group. Where nothing defines a shot, any value will do:
+/// What other entries say of the shots of a group. If nothing defines a shot, any value will do:
 /// there is no plan then.
 #[derive(Clone, Copy)]
 pub struct Members<'d, 'a> {

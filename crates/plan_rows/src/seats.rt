@@ -1,4 +1,4 @@
-//! Which row of a plan each shot is in, and which is that of each ball device.
+//! The row of each shot in a plan, and the row of each ball device.
 //!
 //! A group has a row, and its shots have seats in it. A shot that no group of its text lists has a
 //! row of its own.
@@ -81,7 +81,7 @@ const ROW_SECTIONS: [&[u8]; 8] = [
     SHOT_GROUPS_NAME,
 ];
 
-/// The seats of a text, where so many rows come before it, and how many come before the next text.
+/// The seats of a text, if so many rows come before it, and how many come before the next text.
 ///
 /// # Errors
 ///
@@ -105,7 +105,7 @@ pub(crate) fn seats_of<'a>(
     Ok((seats, rows))
 }
 
-/// Adds the seats of sections, where so many rows come before them. Returns how many come before what
+/// Adds the seats of sections, if so many rows come before them. Returns how many come before what
 /// comes after them.
 fn add_sections<'a>(
     seats: &mut Seats<'a>,
@@ -125,7 +125,7 @@ fn add_sections<'a>(
     Ok(rows)
 }
 
-/// Adds the seats of a section, where so many rows come before it. Returns how many come before the
+/// Adds the seats of a section, if so many rows come before it. Returns how many come before the
 /// next one.
 fn add_section<'a>(
     seats: &mut Seats<'a>,
@@ -147,7 +147,7 @@ fn add_section<'a>(
     Ok(rows)
 }
 
-/// Adds the seats that an entry has, or the row of a ball device, where so many rows come before it.
+/// Adds the seats that an entry has, or the row of a ball device, if so many rows come before it.
 fn add_entry<'a>(
     seats: &mut Seats<'a>,
     before: usize,
@@ -161,7 +161,7 @@ fn add_entry<'a>(
     add_ball_device(&mut seats.devices, before, section, entry)
 }
 
-/// Adds the seats that an entry has, where so many rows come before it.
+/// Adds the seats that an entry has, if so many rows come before it.
 fn add_group<'a>(
     seats: &mut ByName<'a, Seat>,
     before: usize,
@@ -176,7 +176,7 @@ fn add_group<'a>(
     Ok(())
 }
 
-/// Adds the row of an entry that is a ball device, where so many rows come before it.
+/// Adds the row of an entry that is a ball device, if so many rows come before it.
 fn add_ball_device<'a>(
     rows: &mut ByName<'a, usize>,
     before: usize,
@@ -205,7 +205,7 @@ fn add_seats<'a>(
     Ok(())
 }
 
-/// How many rows come before what comes after this entry, where so many come before it, and `rowed` says whether
+/// How many rows come before what comes after this entry, if so many come before it, and `rowed` says whether
 /// other entries than shots have rows in its section. No memory holds so many entries that they cannot be counted.
 fn rows_after(
     rowed: bool,
@@ -222,7 +222,7 @@ fn rows_after(
     Ok(before)
 }
 
-/// Whether an entry has a row, where these shots are in groups of its text, and `rowed` says whether other entries
+/// Whether an entry has a row, if these shots are in groups of its text, and `rowed` says whether other entries
 /// than shots have rows in its section.
 fn has_row(rowed: bool, grouped: &Names<'_>, section: &[u8], entry: &Entry) -> bool
     ensures { (place : Place) → rowed ≡ is_among (row_sections place) section.now → result ≡ has_row place (is_found grouped.now) (named_entry section.now entry.now) }

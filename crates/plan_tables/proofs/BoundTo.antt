@@ -61,7 +61,7 @@ on e b = b.event.0 == e.0
 abbrev pub places_among : List Binding → EventId → List BindingId
 places_among bindings e = map (λ n. record { 0 = n }) (numbers_from (on e) 0 bindings)
 
--- one binding more has its place where it is on the event
+-- one binding more has its place if it is on the event
 pub places_among-more : (bindings : List Binding) (b : Binding) (e : EventId) → places_among (bindings ++ b ∷ []) e ≡ places_among bindings e ++ cond (b.event.0 == e.0) (record { 0 = length bindings } ∷ []) []
 places_among-more bindings b e = search (rules, numbers-append, map-append)
 

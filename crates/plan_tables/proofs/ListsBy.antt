@@ -1,5 +1,5 @@
--- Adding the number of one entry after the other to the list of its place: of a row or a binding to that of its mode, and
--- of a ball device to that of its target.
+-- Adding the number of one entry after the other to the list of its place: of a row or a binding to that of its mode,
+-- and of a ball device to that of its target.
 use Rattle.std.proofs.Common.{rules, ◌≡◌, ℕ, ◌+◌, ◌<◌, ◌==◌, Bool, false, cond, List, [], ◌∷◌, ◌++◌, length, map, get_or, set, Option, Some, None, Vec, Global, refl, sym, ◌∙◌, ap, subst, arith}
 use Rattle.std.specs.{Prelude.{IfSome, unwrap_or}, List.{All, filter, range_with_len}}
 use Rattle.std.specs.Option.{option_map, option_map_or}
@@ -35,7 +35,7 @@ module _ {X Y : Type 0} (make : ℕ → Y) (number : Y → ℕ) (back : (n : ℕ
       filter_of_map_range_with_len_more (λ (y : Y). is_at e (place (get_or items (number y) d))) make 0 i i (omega arith)
       ∙ ap (λ n. listed e i ++ alone (is_at e (place (get_or items n d))) i) (back i)
 
-  -- where each list is empty, nothing is listed
+  -- if each list is empty, nothing is listed
   pub listed_none : (lists : List (Vec Y Global)) → All (λ v. v.items ≡ []) lists → AreListed 0 (lists_view lists)
   listed_none lists empty e within = All-get_or (λ ys. ys ≡ []) (lists_view lists) e [] within (All-map (λ ys. ys ≡ []) (λ (v : Vec Y Global). v.items) lists empty)
 

@@ -19,7 +19,7 @@ module _ {X : Type 0} (number : ℕ → X) (place : X → ℕ) (back : (n : ℕ)
       let within = found_within (λ y. y) name names (place x) at in
       slice_get-get_or names (place x) [] within ∙ ap Some (found_at (λ y. y) name names (place x) [] at)
 
-  -- and where nothing is found, nothing has it
+  -- and if nothing is found, nothing has it
   not_found : (names : List (List ℕ)) (name : List ℕ) → option_map number (position (bytes_eq name) names) ≡ None → ¬ (Contains names name)
   not_found names name none (i, within, is) = absent (λ y. y) name names (unnumbered (position (bytes_eq name) names) none) i name within is
 
@@ -28,7 +28,7 @@ module _ (plan : PlanView) (name : List ℕ) where
   pub event_found : (e : EventId) → event_named plan name ≡ Some e → slice_get plan.events e.0 ≡ Some name
   event_found = found (λ n. record { 0 = n }) (λ (x : EventId). x.0) (λ n. refl) plan.events name
 
-  -- where a name has no event, no event has the name
+  -- if a name has no event, no event has the name
   pub event_absent : event_named plan name ≡ None → ¬ (Contains plan.events name)
   event_absent = not_found (λ n. record { 0 = n }) (λ (x : EventId). x.0) (λ n. refl) plan.events name
 
@@ -36,7 +36,7 @@ module _ (plan : PlanView) (name : List ℕ) where
   pub variable_found : (v : VariableId) → variable_named plan name ≡ Some v → slice_get plan.variables v.0 ≡ Some name
   variable_found = found (λ n. record { 0 = n }) (λ (x : VariableId). x.0) (λ n. refl) plan.variables name
 
-  -- where a name has no variable, no variable has the name
+  -- if a name has no variable, no variable has the name
   pub variable_absent : variable_named plan name ≡ None → ¬ (Contains plan.variables name)
   variable_absent = not_found (λ n. record { 0 = n }) (λ (x : VariableId). x.0) (λ n. refl) plan.variables name
 

@@ -41,11 +41,11 @@ module _ (bindings : List Binding) (i : ℕ) (d : Binding) (within : i < length 
 -- ---- from no binding to all
 
 module _ (lists : List (Vec BindingId Global)) where
-  -- where each list is empty, nothing is placed
+  -- if each list is empty, nothing is placed
   pub placed_none : All (λ v. v.items ≡ []) lists → ArePlaced [] (map (λ v. v.items) lists)
   placed_none empty e inside = All-get_or (λ ps. ps ≡ []) (map (λ v. v.items) lists) e [] inside (All-map (λ ps. ps ≡ []) (λ (v : Vec BindingId Global). v.items) lists empty)
 
-  -- where all bindings of a plan are placed, the lists are its places
+  -- if all bindings of a plan are placed, the lists are its places
   pub placed_all : (plan : PlanView) (bindings : List Binding) → length lists ≡ length plan.events → plan.bindings ≡ bindings → ArePlaced bindings (map (λ v. v.items) lists) → HasPlaces plan lists
   placed_all plan bindings count same placed =
       let long : length (map (λ (v : Vec BindingId Global). v.items) lists) ≡ length lists = length-map lists (λ (v : Vec BindingId Global). v.items) in

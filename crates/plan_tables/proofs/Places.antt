@@ -12,7 +12,7 @@ position_or_len-map f p (x ∷ xs) = ap (λ n. cond (not (p (f x))) (1 + n) 0) (
 pub position-map : {X Y : Type 0} (f : X → Y) (p : Y → Bool) (xs : List X) → position p (map f xs) ≡ position (λ x. p (f x)) xs
 position-map f p xs = rw (position_or_len-map f p xs, length-map xs f) refl
 
--- the place, or the length where there is none
+-- the place, or the length if there is none
 pub position-or_len : {X : Type 0} (p : X → Bool) (xs : List X) → unwrap_or (position p xs) (length xs) ≡ position_or_len p xs
 position-or_len p xs = search (rules, nat_lt, ltb-false, prefix_len-le-length)
 
@@ -27,6 +27,6 @@ module _ {X : Type 0} (key : X → List ℕ) (name : List ℕ) where
   pub found_within : (xs : List X) (i : ℕ) → position (λ x. bytes_eq name (key x)) xs ≡ Some i → i < length xs
   found_within xs i at = search rules
 
-  -- where it is not found, nothing has it
+  -- if it is not found, nothing has it
   pub absent : (xs : List X) → position (λ x. bytes_eq name (key x)) xs ≡ None → (i : ℕ) (d : X) → i < length xs → key (get_or xs i d) ≢ name
   absent xs none i d within same = search (rules, none_within, bytes_eq-Decides, get_or, fails_before_first)

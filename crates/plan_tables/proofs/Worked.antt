@@ -18,7 +18,7 @@ module _ (plan : PlanView) (works : List Work) (has : HasWorks plan works) where
   works_at e w within at =
       at ∙ ap (λ ws. get_or ws e.0 w) has ∙ get_or-map-range_with_len (λ n. work_of plan (record { 0 = n })) 0 (length plan.events) e.0 e.0 w within (omega arith)
 
--- ---- where an event has work, it is an event of a mode
+-- ---- if an event has work, it is an event of a mode
 
 abbrev numbered : ℕ → EventId
 numbered n = record { 0 = n }
@@ -34,7 +34,7 @@ module _ (events : ModeEvents) (e : EventId) (which : ModeEvent) where
 abbrev mode_from : ℕ → List PlanMode → ModeId → PlanMode
 mode_from n modes m = get_or modes (m.0 - n) no_mode
 
--- what work says, where these are the modes from number n on
+-- what work says, if these are the modes from number n on
 abbrev IsFoundFrom : ℕ → List PlanMode → EventId → Work → Type 0
 IsFoundFrom n modes e works.Nothing = Unit {0}
 IsFoundFrom n modes e (works.Game which) = ⊥
@@ -54,7 +54,7 @@ found_from n [] e = tt
 found_from n (x ∷ modes) e =
     found-first n x modes e (which_event x.mode.events e) (work_from (suc n) modes e) (which-is x.mode.events e) (found-later n x modes e (work_from (suc n) modes e) (found_from (suc n) modes e))
 
--- ---- where an event has work in the game, it is an event of the game
+-- ---- if an event has work in the game, it is an event of the game
 
 -- whether each event stands at its place in the order of the game's events, from number n on
 abbrev are_ordered_from : ℕ → List GameEvent → Bool

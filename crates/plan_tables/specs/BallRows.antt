@@ -46,8 +46,8 @@ IsPlain (Request n) = ⊥
 IsPlain (AddBalls n) = ⊥
 IsPlain _ = Unit {0}
 
--- What the effect lists of a ball device do, by their numbers: a ball enters it in list 0, leaves it in list 2, is lost in
--- list 3 and arrives in list 5. The others book nothing, and tell no other device anything.
+-- What the effect lists of a ball device do, by their numbers: a ball enters it in list 0, leaves it in list 2, is lost
+-- in list 3 and arrives in list 5. The others book nothing, and tell no other device anything.
 pub record BooksBalls (r : RowId) (lists : ℕ → List Action) : Type 0 where
   pub event : EventId
   pub drain : Bool
@@ -89,9 +89,9 @@ AreOfTwoRows a b = a.row ≡ b.row → ⊥
 
 -- ---- the plan
 
--- Only the lists of ball devices book balls, each what it is for. No binding acts on a ball device: only switches, alarms,
--- arrivals and requests for balls do. Each ball switch of a device is one switch, and that switch is no other ball switch of
--- it.
+-- Only the lists of ball devices book balls: one list books balls that enter, one balls that leave, one lost balls, and
+-- one balls that arrive. No binding acts on a ball device: only switches, alarms, arrivals and requests for balls do.
+-- Each ball switch of a device is one switch, and that switch is no other ball switch of it.
 pub record BookingsAreRight (plan : PlanView) : Type 0 where
   pub rows : (r : RowId) → r.0 < length plan.rows → BooksRightly r (row_at plan r).settings (actions_in plan r)
   pub bindings : All (λ b. IsOffBalls plan b.target) plan.bindings

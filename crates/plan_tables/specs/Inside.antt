@@ -72,7 +72,7 @@ HasWorks plan works = works ≡ map (λ e. work_of plan (record { 0 = e })) (ran
 abbrev pub HasPlaces : PlanView → List (Vec BindingId Global) → Type 0
 HasPlaces plan places = map (λ v. v.items) places ≡ map (λ e. places_of plan (record { 0 = e })) (range_with_len 0 (length plan.events))
 
--- the work of an event by its number, where these are the works of all
+-- the work of an event by its number, if these are the works of all
 abbrev pub work_at : List Work → EventId → Work
 work_at works e = slice_index_or works e.0 Nothing
 

@@ -11,7 +11,7 @@ entry_count plan Coils = length plan.coils
 entry_count plan Variables = length plan.variables
 entry_count plan Rows = length plan.rows
 
--- the names of a table, where its entries have names
+-- the names of a table, if its entries have names
 abbrev pub entry_names : PlanView → Table → List (List ℕ)
 entry_names plan Events = plan.events
 entry_names plan Bindings = []

@@ -21,8 +21,8 @@ use Rattle.plan_tables.specs.declared.devices.{DeviceRow.DeviceRow, BallTarget.B
 use Rattle.plan_tables.specs.declared.devices.BallTarget.TheVariants as targets
 use Rattle.plan_tables.specs.declared.devices.Settings.TheVariants.{Accrual, BallDevice, BallSave, Multiball}
 
--- a switch: its name, how it is read, which devices listen to it, whether a ball that presses it is on the playfield, and
--- what it posts when it becomes active and inactive
+-- a switch: its name, how it is read, which devices listen to it, whether a ball that presses it is on the playfield,
+-- and what it posts when it becomes active and inactive
 pub record PlanSwitch : Type 0 where
   pub name : List ℕ
   pub kind : SwitchKind
@@ -35,7 +35,7 @@ pub record PlanSwitch : Type 0 where
 abbrev pub switch_posts : Bool → PlanSwitch → List EventId
 switch_posts active s = if active then s.active else s.inactive
 
--- in place of a switch where there is none
+-- in place of a switch if there is none
 abbrev pub no_switch : PlanSwitch
 no_switch = record { name = []; kind = record { contact = NormallyOpen; quick = false }; listeners = []; confirms_playfield = false; active = []; inactive = [] }
 
@@ -48,7 +48,7 @@ pub record PlanCoil : Type 0 where
   pub name : List ℕ
   pub limits : CoilLimits
 
--- in place of a coil where there is none: no pulse and no hold is within its limits
+-- in place of a coil if there is none: no pulse and no hold is within its limits
 abbrev pub no_coil : PlanCoil
 no_coil = record { name = []; limits = record { max_pulse_ms = 0; max_pulse_power = 0; max_hold_power = 0; may_hold = false } }
 
@@ -57,11 +57,11 @@ pub record PlanMode : Type 0 where
   pub name : List ℕ
   pub mode : Mode
 
--- in place of an event where there is none
+-- in place of an event if there is none
 abbrev pub no_event : EventId
 no_event = record { 0 = 0 }
 
--- in place of a mode where there is none
+-- in place of a mode if there is none
 abbrev pub no_mode : PlanMode
 no_mode = record {
   name = [];
@@ -73,8 +73,8 @@ no_mode = record {
   };
 }
 
--- names, effect lists and rows of devices stand at their numbers, modes in the order of the machine's list, and bindings in
--- plan order
+-- names, effect lists and rows of devices stand at their numbers, modes in the order of the machine's list, and
+-- bindings in plan order
 pub record PlanView : Type 0 where
   pub modes : List PlanMode
   pub events : List (List ℕ)
@@ -87,7 +87,7 @@ pub record PlanView : Type 0 where
   pub row_lists : List ListId
   -- the names of the variables, at their numbers
   pub variables : List (List ℕ)
-  -- the rules of the game, where there is one
+  -- the rules of the game, if there is one
   pub game : Option GameRules
 
 -- the name of an event
@@ -135,7 +135,7 @@ abbrev pub work_or : ℕ → Option ModeEvent → Work → Work
 work_or n None rest = rest
 work_or n (Some which) rest = works.Mode (record { 0 = n }) which
 
--- the work of an event, where these are the modes from number n on
+-- the work of an event, if these are the modes from number n on
 abbrev pub work_from : ℕ → List PlanMode → EventId → Work
 work_from n [] e = works.Nothing
 work_from n (m ∷ ms) e = work_or n (which_event m.mode.events e) (work_from (suc n) ms e)
@@ -166,7 +166,7 @@ or_work works.Nothing rest = rest
 or_work (works.Mode m which) rest = works.Mode m which
 or_work (works.Game which) rest = works.Game which
 
--- what the machine itself does at an event, where these are the modes and the rules of the game
+-- what the machine itself does at an event, if these are the modes and the rules of the game
 abbrev pub work_among : List PlanMode → Option GameRules → EventId → Work
 work_among modes game e = or_work (work_from 0 modes e) (game_work game e)
 
@@ -174,7 +174,7 @@ work_among modes game e = or_work (work_from 0 modes e) (game_work game e)
 abbrev pub work_of : PlanView → EventId → Work
 work_of plan e = work_among plan.modes plan.game e
 
--- this one of the game's events, where there is a game
+-- this one of the game's events, if there is a game
 abbrev pub event_of_game : Option GameRules → GameEvent → EventId
 event_of_game None which = no_event
 event_of_game (Some rules) which = event_in_game rules which
@@ -182,8 +182,8 @@ event_of_game (Some rules) which = event_in_game rules which
 abbrev pub game_event : PlanView → GameEvent → EventId
 game_event plan which = event_of_game plan.game which
 
--- Whether a mode may hold the end of the ball: its settings say so, and there is a game. Without a game no ball ends, and
--- such a mode never starts.
+-- Whether a mode may hold the end of the ball: its settings say so, and there is a game. Without a game no ball ends,
+-- and such a mode never starts.
 abbrev pub may_hold_ball_end : PlanView → ModeId → Bool
 may_hold_ball_end plan m = is_some plan.game && (mode_at plan m).mode.holds_ball_end
 
@@ -215,7 +215,7 @@ coil_named plan name = option_map (λ n. record { 0 = n }) (position (λ c. byte
 abbrev pub actions_at : PlanView → ListId → List Action
 actions_at plan l = slice_index_or plan.lists l.0 []
 
--- in place of a binding where there is none
+-- in place of a binding if there is none
 abbrev pub no_binding : Binding
 no_binding = record { event = record { 0 = 0 }; owner = Machine; priority = 0; condition = None; target = Run (record { 0 = 0 }) }
 
@@ -223,7 +223,7 @@ no_binding = record { event = record { 0 = 0 }; owner = Machine; priority = 0; c
 abbrev pub binding_at : PlanView → BindingId → Binding
 binding_at plan p = slice_index_or plan.bindings p.0 no_binding
 
--- in place of a row where there is none
+-- in place of a row if there is none
 abbrev pub no_row : DeviceRow
 no_row = record {
   number = record { 0 = 0 };
@@ -332,11 +332,11 @@ abbrev pub actions_of_target : PlanView → Target → List Action
 actions_of_target plan (Run l) = actions_at plan l
 actions_of_target plan _ = []
 
--- those of a binding, where it is this owner's
+-- those of a binding, if it is this owner's
 abbrev pub actions_of_binding : PlanView → Owner → Binding → List Action
 actions_of_binding plan owner b = if is_owner owner b.owner then actions_of_target plan b.target else []
 
--- those of all effect lists of a row, where it is this owner's
+-- those of all effect lists of a row, if it is this owner's
 abbrev pub actions_of_row : PlanView → Owner → RowId → List Action
 actions_of_row plan owner r =
     if is_owner owner (row_at plan r).owner

@@ -1,4 +1,5 @@
--- What holds of every plan: each number in it is that of an entry, no two entries of a table have one name, and no table is above its limit.
+-- What holds of every plan: each number in it is that of an entry, no two entries of a table have one name, and no
+-- table is above its limit.
 use Rattle.std.specs.{Prelude.{ℕ, ◌+◌, ◌≡◌, ◌<◌, ◌≤◌, ◌≢◌, true, Option, IsSome, IfSome, length}, List.{All, AllPairs}}
 use Rattle.plan_tables.specs.declared.entries.{EventId.EventId, Listener.Listener}
 use Rattle.plan_tables.specs.declared.entries.Owner.{Owner, TheVariants.{Machine, Mode}}
@@ -92,7 +93,7 @@ pub record IsRowWithin (plan : PlanView) (r : RowId) : Type 0 where
   pub target : IsTargetThere (length plan.rows) (target_of plan r)
   pub lists : (list_of_row plan r 0).0 + list_count (row_at plan r).settings ≤ length plan.lists
 
--- where an event has work, it is this event of a mode of the plan, or of its game
+-- if an event has work, it is this event of a mode of the plan, or of its game
 abbrev pub IsWorkAt : PlanView → EventId → Work → Type 0
 IsWorkAt plan e work_kinds.Nothing = Unit {0}
 IsWorkAt plan e (work_kinds.Mode m which) = (m.0 < length plan.modes) × (e ≡ mode_event plan m which)

@@ -235,7 +235,7 @@ pub enum Action {
     Disable {
         coil: CoilId,
     },
-    /// This is done with a variable of the current player. Where that changes the variable, the
+    /// This is done with a variable of the current player. If that changes the variable, the
     /// event goes to the end of the queue.
     Change {
         variable: VariableId,
@@ -267,7 +267,7 @@ pub enum Action {
     Request {
         balls: u8,
     },
-    /// At least this many balls are to be in play: where fewer are in play, those that are missing are in play from
+    /// At least this many balls are to be in play: if fewer are in play, those that are missing are in play from
     /// now on, and the first trough, if there is one, is asked to eject them.
     AddBalls {
         balls: u8,
@@ -296,7 +296,7 @@ pub struct Binding {
     pub owner: Owner,
     /// Handlers of an event with a higher priority run first: at most 1,000,000.
     pub priority: u32,
-    /// It is done only where this is met; none: always.
+    /// It is done only if this is met; none: always.
     pub condition: Option<Condition>,
     /// What is done.
     pub target: Target,

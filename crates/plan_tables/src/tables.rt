@@ -34,7 +34,7 @@ pub struct Tables {
     pub rows: Vec<DeviceRow>,
     /// For each row the first of its effect lists; the others follow it.
     pub row_lists: Vec<ListId>,
-    /// The rules of the game; none where there is no game.
+    /// The rules of the game; none if there is no game.
     pub game: Option<GameRules>,
 }
 
@@ -320,7 +320,7 @@ impl Plan {
         Some(VariableId(place as u16))
     }
 
-    /// The rules of the game; none where the plan has no game.
+    /// The rules of the game; none if the plan has no game.
     pub fn game(&self) -> Option<GameRules>
         ensures game { result ≡ self.now.game }
         ensures valid { IsValid self.now }

@@ -85,7 +85,7 @@ fn set_works_of_modes(works: &mut [Work], modes: &[ModeEntry])
     }
 }
 
-/// Sets the work of the events of a mode. Where two of them are one, it has the work of the first.
+/// Sets the work of the events of a mode. If two of them are one, it has the work of the first.
 fn set_works_of_mode(works: &mut [Work], number: usize, events: ModeEvents)
     requires { number < 64 }
     ensures { AreModeWorks number events works.old works.new }

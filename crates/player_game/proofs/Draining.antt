@@ -15,7 +15,7 @@ nothing_posted : (is_on is_last : Bool) (g k : GameState) (p : PlayersState)
 nothing_posted true true g k p one = let none : 0 ≡ 1 = one in absurd (omega (arith, none))
 nothing_posted _ _ g k p one = refl
 
--- where one is left in play, nothing is posted: the ball does not end
+-- if one is left in play, nothing is posted: the ball does not end
 pub one-left : (rules : Option GameRules) (plan : PlanView) (home : ℕ) (g : GameState) (p : PlayersState)
     → in_play (game_step rules plan BallDrain home g p).game ≡ 1 → (game_step rules plan BallDrain home g p).posts ≡ []
 unfolding game_step

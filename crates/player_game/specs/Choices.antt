@@ -45,7 +45,7 @@ is_drain _ = false
 
 -- ---- laws
 
--- what an event posts is one of its choices, or nothing; scores are told where it tells them, and a ball is asked for where
+-- what an event posts is one of its choices, or nothing; scores are told if it tells them, and a ball is asked for if
 -- it asks for one
 pub record StepsAreChoices : Type 0 where
   pub posts : (rules : GameRules) (plan : PlanView) (which : GameEvent) (home : ℕ) (g : GameState) (p : PlayersState)

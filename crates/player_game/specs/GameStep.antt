@@ -161,7 +161,7 @@ step_by rules plan GameEnding home g p = leads_to (GameEnded ∷ []) g p
 step_by rules plan GameEnded home g p =
     record (leads_to [] (ended g) (turned 0 p)) { finals = true }
 
--- What an event of the game leads to, where so many balls are at home. Without a game it leads to nothing.
+-- What an event of the game leads to, if so many balls are at home. Without a game it leads to nothing.
 unfoldable pub game_step : Option GameRules → PlanView → GameEvent → ℕ → GameState → PlayersState → GameStep
 game_step None plan which home g p = leads_to [] g p
 game_step (Some rules) plan which home g p = step_by rules plan which home g p

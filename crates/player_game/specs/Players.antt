@@ -12,7 +12,7 @@ pub record PlayerState : Type 0 where
   pub ball : ℤ
   pub values : List ℤ
 
--- the players, the first one first, and the number of the current one, from 1 on; 0 where there is none
+-- the players, the first one first, and the number of the current one, from 1 on; 0 if there is none
 pub record PlayersState : Type 0 where
   pub players : List PlayerState
   pub current : ℕ
@@ -43,7 +43,7 @@ most_players (Some rules) = rules.max_players
 
 -- ---- variables
 
--- whether it is this variable, where there is one
+-- whether it is this variable, if there is one
 abbrev pub is_that : Option VariableId → VariableId → Bool
 is_that this v = option_map_or (λ w. w.0 == v.0) this false
 
@@ -73,11 +73,11 @@ value_of plan s n v =
 abbrev pub value_now : PlanView → PlayersState → VariableId → ℤ
 value_now plan s v = if s.current == 0 then pos 0 else value_of plan s s.current v
 
--- the score of a player: the variable of this name, and 0 where there is none
+-- the score of a player: the variable of this name, and 0 if there is none
 abbrev pub score_of : PlanView → PlayersState → ℕ → ℤ
 score_of plan s n = option_map_or (value_of plan s n) (variable_named plan (codes "score")) (pos 0)
 
--- whether a condition is met: without a current player none is, and where there is no condition, there is none to meet
+-- whether a condition is met: without a current player none is, and if there is no condition, there is none to meet
 abbrev pub is_met : PlanView → PlayersState → Option Condition → Bool
 is_met plan s None = true
 is_met plan s (Some c) = not (s.current == 0) && compares c.comparison (value_now plan s c.variable) c.number
@@ -93,11 +93,11 @@ acted Set number value = clamped number
 abbrev pub may_change : PlanView → PlayersState → VariableId → Bool
 may_change plan s v = not (s.current == 0) && not (is_ball plan v || is_number plan v)
 
--- the new value, where it is another one
+-- the new value, if it is another one
 abbrev pub if_new : ℤ → ℤ → Option ℤ
 if_new old new = if int_eq old new then None else Some new
 
--- what becomes of the variable: its new value, where an action changes it
+-- what becomes of the variable: its new value, if an action changes it
 abbrev pub changed_to : PlanView → VariableId → VariableAction → ℤ → PlayersState → Option ℤ
 changed_to plan v action number s =
     if may_change plan s v then if_new (value_now plan s v) (acted action number (value_now plan s v)) else None
@@ -115,11 +115,11 @@ after_change plan v (Some value) s = with_current plan (with_value v value) s
 
 -- ---- turns
 
--- the player of this number becomes the current one; none, where there is no such player
+-- the player of this number becomes the current one; none, if there is no such player
 abbrev pub turned : ℕ → PlayersState → PlayersState
 turned n s = record s { current = if nat_le n (length s.players) then n else 0 }
 
--- one player more, where there can be one
+-- one player more, if there can be one
 abbrev pub added : PlanView → PlayersState → PlayersState
 added plan s =
     if nat_lt (length s.players) (most_players plan.game) then record s { players = s.players ++ new_player plan ∷ [] } else s

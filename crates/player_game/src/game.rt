@@ -313,7 +313,7 @@ impl Game {
         self.holders.iter().any(|holds| *holds)
     }
 
-    /// A mode, numbered below 64, holds the end of the ball from now on. To be called where
+    /// A mode, numbered below 64, holds the end of the ball from now on. To be called only if
     /// `Plan::may_hold_ball_end` holds.
     pub fn hold(&mut self, mode: ModeId)
         requires { mode.0 < 64 }
@@ -352,7 +352,7 @@ impl Game {
     }
 }
 
-/// There is one player more, where there can be.
+/// There is one player more, if there can be.
 fn add(players: &mut Players<'_>) -> GameWork
     ensures players { players.new ≡ record players.old { state = added players.old.plan players.old.state } }
     ensures posts { result.posts.items ≡ [] }

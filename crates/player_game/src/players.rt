@@ -14,7 +14,7 @@ use std::marker::Model;
 /// The players of a game, their variables, and whose turn it is. Only `new` takes memory.
 ///
 /// Players have numbers from 1 on. There are at most as many as the game of the plan allows, and
-/// none where the plan has no game. The variables `ball` and `number` are the ball at which a player
+/// none if the plan has no game. The variables `ball` and `number` are the ball at which a player
 /// is, and the player's number.
 #[derive(Drop)]
 pub struct Players<'p> {
@@ -24,7 +24,7 @@ pub struct Players<'p> {
     slots: Vec<Slot>,
     /// How many players there are. The first slots are theirs.
     count: usize,
-    /// The number of the current player; 0 where there is none.
+    /// The number of the current player; 0 if there is none.
     current: usize,
 }
 
@@ -78,7 +78,7 @@ impl<'p> Players<'p> {
         self.current = 0;
     }
 
-    /// Adds a player, whose variables are 0, where there can be one player more. Reports whether
+    /// Adds a player, whose variables are 0, if there can be one player more. Reports whether
     /// there can be. If not, nothing has changed.
     pub fn add(&mut self) -> bool
         ensures state { self.new ≡ record self.old { state = added self.old.plan self.old.state } }
@@ -102,7 +102,7 @@ impl<'p> Players<'p> {
         self.count
     }
 
-    /// The player of this number becomes the current one. Where there is no such player, none is.
+    /// The player of this number becomes the current one. If there is no such player, none is.
     pub fn turn(&mut self, player: usize)
         ensures state { self.new ≡ record self.old { state = turned player self.old.state } }
         ensures few { AreFew self.new.plan self.new.state }
@@ -110,7 +110,7 @@ impl<'p> Players<'p> {
         self.current = if player <= self.count { player } else { 0 };
     }
 
-    /// The number of the current player; 0 where there is none.
+    /// The number of the current player; 0 if there is none.
     pub fn current(&self) -> usize
         ensures current { result ≡ self.now.state.current }
         ensures few { AreFew self.now.plan self.now.state }
@@ -118,7 +118,7 @@ impl<'p> Players<'p> {
         self.current
     }
 
-    /// The value of a variable of the plan, of the current player; 0 where there is none.
+    /// The value of a variable of the plan, of the current player; 0 if there is none.
     pub fn get(&self, variable: VariableId) -> i64
         requires { variable.0 < length self.now.plan.variables }
         ensures value { result ≡ value_now self.now.plan self.now.state variable }
@@ -130,9 +130,9 @@ impl<'p> Players<'p> {
         self.value(self.current, variable)
     }
 
-    /// Does this with a variable of the plan, of the current player. Reports the new value where it
+    /// Does this with a variable of the plan, of the current player. Reports the new value if it
     /// is another one. If not, nothing has changed: so it is with the variables `ball` and `number`,
-    /// and where there is no current player.
+    /// and when there is no current player.
     ///
     /// No value is further from 0 than 999,999,999,999,999: what would be ends there.
     pub fn change(
@@ -162,7 +162,7 @@ impl<'p> Players<'p> {
         slot.set(variable, value);
     }
 
-    /// What a variable of the current player becomes, where it becomes another value.
+    /// What a variable of the current player becomes, if it becomes another value.
     fn changed(&self, variable: VariableId, action: VariableAction, number: i64) -> Option<i64>
         requires { variable.0 < length self.now.plan.variables }
         ensures value { result ≡ changed_to self.now.plan variable action number self.now.state }
@@ -178,7 +178,7 @@ impl<'p> Players<'p> {
     }
 
     /// Whether the current player meets the condition. Without a current player no condition is met.
-    /// Where there is no condition, there is none to meet.
+    /// If there is no condition, there is none to meet.
     pub fn meets(&self, condition: Option<Condition>) -> bool
         requires { IsConditionWithin self.now.plan condition }
         ensures met { result ≡ is_met self.now.plan self.now.state condition }
@@ -192,7 +192,7 @@ impl<'p> Players<'p> {
         current != 0 && condition.comparison.holds(value, condition.number)
     }
 
-    /// The variable `score` of a player; 0 where the plan has no such variable.
+    /// The variable `score` of a player; 0 if the plan has no such variable.
     pub fn score(&self, player: usize) -> i64
         requires some { 1 ≤ player }
         requires player { player ≤ length self.now.state.players }
@@ -221,7 +221,7 @@ impl<'p> Players<'p> {
         self.slots[player - 1].value(variable)
     }
 
-    /// Which ball the current player is at; 0 before the first, and where there is no current player.
+    /// Which ball the current player is at; 0 before the first, and if there is no current player.
     pub(crate) fn ball(&self) -> i64
         ensures { result ≡ ball_now self.now.plan self.now.state }
     {

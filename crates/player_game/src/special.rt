@@ -6,7 +6,7 @@ ghost use Rattle.player_game.specs.Special.{special_of};
 
 use plan_tables::{Plan, VariableId};
 
-/// The variables that have a meaning of their own; none where the plan has no variable of the name.
+/// The variables that have a meaning of their own; none if the plan has no variable of the name.
 #[derive(Clone, Copy)]
 pub(crate) struct Special {
     /// The ball at which the player is.
@@ -52,7 +52,7 @@ impl Special {
     }
 }
 
-/// Whether it is this variable, where there is one.
+/// Whether it is this variable, if there is one.
 fn is_that(this: Option<VariableId>, variable: VariableId) -> bool
     ensures { result ≡ is_that this variable }
 {

@@ -54,8 +54,8 @@ ball_device:¶ => no section
 ";
 
 /// Texts, and what is read of them. A ball device is shown by its name; its ball switches; its coil and its target; how
-/// many milliseconds an attempt lasts, and those before a ball counts and before it is gone; whether a ball may leave by
-/// itself, and how many attempts there are; its tags; and whether it is a trough, a home of balls and a drain.
+/// many milliseconds an attempt lasts, and those before a ball counts and before it is gone; whether a ball may leave
+/// by itself, and how many attempts there are; its tags; and whether it is a trough, a home of balls and a drain.
 pub(crate) const BALLS: &str = "\
 @¶ball_devices:¶  d:¶    ball_switches: a, b¶ => ball_devices¶ d@3; a@4 b@4; - playfield@0; 10000 500 500; false 0;; false false false¶
 @¶ball_devices:¶  t:¶    ball_switches: [a]¶    tags: trough, drain¶    eject_coil: c¶    eject_targets: p¶    eject_timeouts: 1¶    entrance_count_delay: 2¶    exit_count_delay: 3¶    max_eject_attempts: 4¶  p:¶    ball_switches:¶    mechanical_eject: on¶    tags:¶      - home¶ => ball_devices¶ t@3; a@4; c@6 p@7; 1 2 3; false 4; trough@5 drain@5; true true true¶ p@12;; - playfield@0; 10000 500 500; true 0; home@16; false true false¶

@@ -313,7 +313,7 @@ fn add_head(bundle: &mut Pen, mode: &str) {
     bundle.put("\n#config_version=6\n");
 }
 
-// Adds a line, or the head of a text, where the line is `@M` or `@`.
+// Adds a line, or the head of a text, if the line is `@M` or `@`.
 fn add_line(bundle: &mut Pen, line: &str) {
     let mode = line.strip_prefix("@").unwrap_or(" ");
     if mode.starts_with(" ") {

@@ -1,4 +1,4 @@
-//! What each error of the readers says of itself, each variant of it.
+//! What each variant of each error of the readers says.
 
 use crate::cases::assert_text;
 use crate::pen::Pen;

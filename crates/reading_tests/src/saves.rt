@@ -56,8 +56,8 @@ multiball:¶ => no section
 ";
 
 /// Texts, and what is read of them. A ball save is shown by its name, for how many milliseconds it is active, how many
-/// balls it saves, and the events that enable and disable it; a multiball by its name, how many balls are to be in play,
-/// and the events that start it.
+/// balls it saves, and the events that enable and disable it; a multiball by its name, how many balls are to be in
+/// play, and the events that start it.
 pub(crate) const SAVES: &str = "\
 @¶ball_saves:¶  b:¶  c:¶    active_time: 10s¶    balls_to_save: 99¶    enable_events: ball_started, a{current_player.x>=2}¶    disable_events: d¶ => ball_saves¶ b@3; 0 1;;¶ c@4; 10000 99; ball_started@7 a{x GreaterOrEqual 2}@7; d@8¶
 @¶multiballs:¶  m: {ball_count: 2}¶  n:¶    start_events: a¶    ball_count: 99¶ => multiballs¶ m@3; 2;¶ n@4; 99; a@5¶

@@ -29,8 +29,8 @@ use Rattle.row_contributions.proofs.RowFacts.{All-each, All-made, All-listens, A
 use Rattle.row_contributions.proofs.SeatFacts.{row_given, silent, rows_of_text, IsRowAt, seat_at, rows_told_are, rows_counted}
 use Rattle.yaml_bytes.proofs.Each.{All-flat_map}
 
--- What a contribution of a text of this place is like: no mode comes by it, its row is of the place, and what it binds is
--- aimed so.
+-- What a contribution of a text of this place is like: no mode comes by it, its row is of the place, and what it binds
+-- is aimed so.
 abbrev pub IsOfText : (Place → Aim → Type 0) → Place → Contribution → Type 0
 IsOfText A place (mode name priority game holds) = ⊥
 IsOfText A place (binds e own aim) = A own aim
@@ -60,14 +60,14 @@ module _ (A : Place → Aim → Type 0) (place : Place) (n : ℕ) where
   places_told [] own = refl
   places_told (c ∷ cs) own = search (rules, own, All-head, All-tail, row_given, places_told cs (All-tail (IsOfText A place) c cs own))
 
--- where they are aimed at these rows, all are
+-- if they are aimed at these rows, all are
 pub aimed_before : (places : List (Place × ℕ)) (n : ℕ) (place : Place) (cs ds : List Contribution) → All (IsOfText (IsAimedAt places n) place) cs → AreAimed places n ds → AreAimed places n (cs ++ ds)
 aimed_before places n place [] ds own rest = rest
 aimed_before places n place (c ∷ cs) ds own rest = search (rules, own, All-head, All-tail, aimed_before places n place cs ds (All-tail (IsOfText (IsAimedAt places n) place) c cs own) rest)
 
 -- ---- what rows give
 
--- where each aim that says no row by its number is one of these
+-- if each aim that says no row by its number is one of these
 module _ (A : Place → Aim → Type 0) (plain : (own : Place) (aim : Aim) → IsUnnumbered aim → A own aim) (place : Place) where
   abbrev Q : Contribution → Type 0
   Q c = IsOfText A place c
@@ -177,7 +177,7 @@ module _ (A : Place → Aim → Type 0) (plain : (own : Place) (aim : Aim) → I
   in_entry Control section e = in_where A plain Control (device_of section e)
   in_entry Mode section e = in_where A plain Mode (device_of section e)
 
-  -- all that a section gives, or a text, where A holds of each act on a seat
+  -- all that a section gives, or a text, if A holds of each act on a seat
   module _ (place : Place) (seat : List ℕ → Option Seat) (to : List ℕ → Destination) (seats : (name : List ℕ) → IfSome (seat name) (λ s. (act : Act) → A place (On s.row act))) where
     abbrev R : Row → Type 0
     R r = All (IsOfText A place) (row_contributions rows.machine r)

@@ -1,5 +1,5 @@
--- What the contributions of every configuration say of balls: the rows of ball devices are as they are to be, they alone
--- have to do with balls, and no event acts on them.
+-- What the contributions of every configuration say of balls: the rows of ball devices are as they are to be, they
+-- alone have to do with balls, and no event acts on them.
 use Rattle.std.proofs.Common.{rules, ◌≡◌, ℕ, suc, ◌+◌, ◌<◌, ◌≤◌, ◌==◌, Bool, true, false, if◌then◌else◌, List, [], ◌∷◌, ◌++◌, length, map, get_or, true≢false, refl, sym, ◌∙◌, ap, subst, arith, codes}
 use Rattle.std.specs.Prelude.{Option, None, Some, option_map, IfSome, slice_get, ◌≢◌}
 use Rattle.std.specs.{Str.bytes_eq, List.{All, AllPairs, flat_map, list_any}}
@@ -241,7 +241,7 @@ device_each Q R place d row listening acting naming doing h =
     (All-append Q acts (named ++ done) (All-each Q (act_binding place) acting d.handled)
     (All-append Q named done (All-made Q (mentions Events) naming d.mentioned) (All-lists Q R doing 0 d.lists h))))
 
--- where nothing is asked of a handled event
+-- if nothing is asked of a handled event
 acting_any : (Q : Contribution → Type 0) → ((e : List ℕ) (place : Place) (act : Act) → Q (binds e place (Do act))) → ((c : Condition) → Q (under c)) → (place : Place) (x : Event × Act) → All Q (act_binding place x)
 acting_any Q binding condition place x = All-bound Q x.0 place (Do x.1) (binding x.0.name place x.1) (each_some (λ c. Q (under c)) condition x.0.condition)
 
@@ -348,7 +348,7 @@ module _ (rows : Rows) where
       ∙ list_any-append is_plays here rest
       ∙ or_weaker (is_game s) (has_game ss) (plays_in here) (plays_in rest) (in_both seat to s) (in_sections seat to ss) is
 
-  -- where the machine text has a game, its rules are given
+  -- if the machine text has a game, its rules are given
   pub game_is_given : has_game rows.machine ≡ true → list_any is_plays (contributions_of rows) ≡ true
   game_is_given is =
       let seat = seat_of Machine 0 rows.machine in
@@ -383,7 +383,7 @@ module _ (rows : Rows) where
   drain_device : (place : Place) (d : Device) → All (All (DrainsIn is_on)) d.lists → All V (device_contributions place d)
   drain_device place d h = device_each V (DrainsIn is_on) place d tt (λ k n. tt) (acting_any V (λ e p act. tt) (λ c. tt) place) (λ n. tt) (λ k e m. m) h
 
-  -- a ball may have drained only where there is a game
+  -- a ball may have drained only if there is a game
   pub drains_are_in_games : AllDrainInGame (contributions_of rows)
   drains_are_in_games =
       each_kept rows V plain_drain
@@ -436,7 +436,7 @@ once_device place d apart cs rest heard =
         (all_before Q (act_binding place) (λ (x : Event × Act) ds h. (tt, under_before Q (λ c es k. (tt, k)) x.0.condition ds h)) d.handled ((named ++ doing) ++ cs)
         (subst Q (sym (append_assoc named doing cs)) (each_before Q (mentions Events) (λ n ds h. (tt, h)) d.mentioned (doing ++ cs) (effects ns 0 d.lists))))
 
--- where no two ball switches of a ball device are one, no row listens twice to a switch
+-- if no two ball switches of a ball device are one, no row listens twice to a switch
 pub switches_heard_once : (rows : Rows) → All (λ s. All IsApart (ball_devices_in s)) rows.machine → AreHeardOnce [] (contributions_of rows)
 switches_heard_once rows apart =
     all_kept rows IsApart Once
@@ -453,7 +453,7 @@ switches_heard_once rows apart =
     few : (ns : List (List ℕ)) → length ns ≤ 1 → AllPairs (λ m n. m ≢ n) ns
     few ns short i j d less within = absurd (omega (arith, short, less, within))
 
--- so it is where rows do what they may do
+-- so it is if rows do what they may do
 pub doing_heard_once : (P : Effect → Type 0) (S L : List ℕ → Type 0) (rows : Rows) → AreDoing P S L rows → AreHeardOnce [] (contributions_of rows)
 doing_heard_once P S L rows h =
     switches_heard_once rows

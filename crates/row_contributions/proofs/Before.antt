@@ -14,7 +14,7 @@ module _ (Q : List Contribution → Type 0) where
     each_before [] rest h = h
     each_before (x ∷ xs) rest h = more x (map make xs ++ rest) (each_before xs rest h)
 
-    -- where nothing comes after it
+    -- if nothing comes after it
     pub each_alone : (xs : List X) → Q [] → Q (map make xs)
     each_alone [] h = h
     each_alone (x ∷ xs) h = more x (map make xs) (each_alone xs h)
@@ -40,7 +40,7 @@ All-bound Q e place aim binding condition = All-cons Q (binds e.name place aim) 
     by : (o : Option Condition) → IfSome o (λ c. Q (under c)) → All Q (under_where o)
     by x1 h = search rules
 
--- where it holds of every condition, it does of one if there is one
+-- if it holds of every condition, it does of one if there is one
 pub each_some : (R : Condition → Type 0) → ((c : Condition) → R c) → (o : Option Condition) → IfSome o R
 each_some R each x3 = search rules
 

@@ -18,7 +18,7 @@ module _ (P : List ℕ → Type 0) where
   use_fit : (c : Contribution) → IsFit P c → IsFitUse P (used c)
   use_fit x1 h = search rules
 
-  -- what holds of the names of a table that are used, where it holds of each that is fit for it
+  -- what holds of the names of a table that are used, if it holds of each that is fit for it
   module _ (table : Table) (Q : List ℕ → Type 0) (each : (o : Option (Table × List ℕ)) → IsFitUse P o → All Q (name_in_table table o)) where
     uses_fit : (cs : List Contribution) → All (IsFit P) cs → All Q (uses table cs)
     uses_fit cs h = All-flat_map Q (λ c. name_in_table table (used c)) cs (All-weaker (IsFit P) (λ c. All Q (name_in_table table (used c))) (λ c k. each (used c) (use_fit c k)) cs h)
@@ -37,7 +37,7 @@ module _ (P : List ℕ → Type 0) where
       by : (t : Table) (n : List ℕ) → IsFitName P t n → All IsName (name_in_table Switches (Some (t, n)))
       by x1 n k = search rules
 
-  -- where the names in the rows are names, each used name of an event meets P
+  -- if the names in the rows are names, each used name of an event meets P
   pub used_names : IsOfNames P → (rows : Rows) → All IsNamed rows.machine → All IsNamedMode rows.modes → All P (uses Events (contributions_of rows))
   used_names of rows machine modes = uses_fit Events P event_fit (contributions_of rows) (rows_fit P of rows machine modes)
 

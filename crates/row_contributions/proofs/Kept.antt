@@ -67,7 +67,7 @@ pub record IsPlainDevice (d : Device) : Type 0 where
   pub lists : All (All IsOfNoBall) d.lists
   pub listens : length d.listens ≤ 1
 
--- What is kept where plain contributions, a plain device, or a ball device of which B holds come first.
+-- What is kept when plain contributions, a plain device, or a ball device of which B holds come first.
 pub record IsKept (kinds : List Bool) (machine : List SectionRows) (B : BallDevice → Type 0) (Q : List Contribution → Type 0) : Type 0 where
   pub plain : (c : Contribution) → IsPlain kinds c → (cs : List Contribution) → Q cs → Q (c ∷ cs)
   pub device : (place : Place) (d : Device) → IsPlainDevice d → (cs : List Contribution) → Q cs → Q (device_contributions place d ++ cs)
@@ -113,7 +113,7 @@ module _ (machine : List SectionRows) where
   plain_group : (g : ShotGroup) (m : Members) → IsPlainDevice (group_device g m)
   plain_group g m = record { settings = tt; lists = posts_of_group IsOfNoBall posts_nothing m.profile g.name.text (texts g.shots); listens = omega arith }
 
-  -- where there is one
+  -- if there is one
   abbrev IsPlainWhere : Option Device → Type 0
   IsPlainWhere None = Unit {0}
   IsPlainWhere (Some d) = IsPlainDevice d
@@ -132,7 +132,7 @@ module _ (machine : List SectionRows) where
   plain_machine : (section : List ℕ) (e : Entry) → IsPlainWhere (machine_device machine section e)
   plain_machine section e = search (rules, plain_if, plain_flipper, plain_autofire, plain_entry)
 
--- ---- what is kept where contributions come first
+-- ---- what is kept when contributions come first
 
 module _ (kinds : List Bool) (machine : List SectionRows) (B : BallDevice → Type 0) (Q : List Contribution → Type 0) (kept : IsKept kinds machine B Q) where
   abbrev Keeps : List Contribution → Type 0
@@ -367,6 +367,6 @@ module _ (rows : Rows) where
             by false None h = tt
             by false (Some r) h = in_text Machine 0 rows.machine [] (rows_told rows.machine (modes_rows rows (rows_after_text Machine 0 rows.machine) rows.modes)) refl split true r h
 
-    -- what is kept holds of all contributions of a configuration, where B holds of its ball devices
+    -- what is kept holds of all contributions of a configuration, if B holds of its ball devices
     pub all_kept : (Q : List Contribution → Type 0) → IsKept row_kinds rows.machine B Q → All (λ s. All B (ball_devices_in s)) rows.machine → Q [] → Q (contributions_of rows)
     all_kept Q kept such empty = subst Q (append-nil (contributions_of rows)) (in_rows row_kinds rows.machine B Q kept (rows_of rows) (rows_are such) [] empty)

@@ -1,4 +1,5 @@
--- Acts are on rows of devices whose place is that of the binding, and rows of the machine listen, as contributions come.
+-- Acts are on rows of devices whose place is that of the binding, and rows of the machine listen, as contributions
+-- come.
 use Rattle.std.proofs.{Common.{rules, ◌≡◌, ℕ, suc, List, [], ◌∷◌, ◌++◌}, lemmas.List.Elements.{All-head, All-tail}}
 use Rattle.std.specs.{Prelude.{Option, None, Some}, List.All}
 use Rattle.mpf_values.specs.Events.{Condition}
@@ -9,7 +10,7 @@ use Rattle.row_contributions.specs.Contributions.{effects_from, listens_from, un
 use Rattle.row_contributions.specs.Facts.{row_after, IsPlacedAim, IsPlaced, ArePlaced}
 use Rattle.row_contributions.proofs.Before.{each_before, under_before}
 
--- whichever row came before, where none is needed
+-- whichever row came before, if none is needed
 pub ArePlaced-any : (o : Option Place) (cs : List Contribution) → ArePlaced None cs → ArePlaced o cs
 ArePlaced-any o [] h = tt
 ArePlaced-any o (c ∷ cs) h = (placed c h.0, after (ArePlaced-any o cs) c h.1)

@@ -1,5 +1,5 @@
--- What holds of each effect of the rows, of each event that their switches post, and of each switch to which their devices
--- listen, holds of those of their contributions.
+-- What holds of each effect of the rows, of each event that their switches post, and of each switch to which their
+-- devices listen, holds of those of their contributions.
 use Rattle.std.proofs.Common.{rules, ◌≡◌, ℕ, Bool, true, false, if◌then◌else◌, List, [], ◌∷◌, ◌++◌, map, get_or, codes}
 use Rattle.std.specs.{Prelude.{Option, None, Some, IfSome}, Str.bytes_eq, List.{All, flat_map}}
 use Rattle.std.proofs.lemmas.List.Elements.{All-nil, All-cons, All-append, All-map, All-weaker}
@@ -30,7 +30,7 @@ use Rattle.row_contributions.proofs.RowFacts.{All-made, All-listens, All-lists, 
 use Rattle.row_contributions.specs.Doing.{has_target, IsBallDeviceDoing, IsSwitchDoing, IsPlayerDoing, IsDeviceDoing, IsEntryDoing, IsCoilPlayerDoing, IsVariablePlayerDoing, IsShotDoing, IsShotGroupDoing, IsDoing, IsMachineDoing, AreDoing, Does}
 use Rattle.yaml_bytes.proofs.Each.{All-flat_map, All-from_map}
 
--- where this holds, that does
+-- if this holds, that does
 abbrev pub Where : Bool → Type 0 → Type 0
 Where true A = A
 Where false A = Unit {0}
@@ -38,7 +38,7 @@ Where false A = Unit {0}
 pub where_so : {A : Type 0} (b : Bool) → b ≡ true → Where b A → A
 where_so x1 is h = search rules
 
--- where a section has a name, what holds of its items as they are seen there
+-- if a section has a name, what holds of its items as they are seen there
 pub where_named : {X Y : Type 0} (R : Y → Type 0) (f : X → Y) (b : Bool) (xs : List X) → All R (map f (if b then xs else [])) → All (λ x. Where b (R (f x))) xs
 where_named R f true xs h = All-from_map R f xs h
 where_named R f false xs h = λ i d within. tt
@@ -199,12 +199,12 @@ module _ (P : Effect → Type 0) (S L : List ℕ → Type 0) where
         let changing = where_named (IsVariablePlayerDoing P S L) variable_player_of (bytes_eq s.name variable_player_name) ps variables in
         All-map GivesDoing (player place s.name) ps (λ i d within. in_player_entry place s.name (get_or ps i d) (own i d within) (others i d within) (changing i d within))
 
-    -- where an entry is a ball device of the machine text, it does so, and ejects its balls to what there is
+    -- if an entry is a ball device of the machine text, it does so, and ejects its balls to what there is
     abbrev IsBallEntryDoing : (List ℕ → Destination) → Place → List ℕ → Entry → Type 0
     IsBallEntryDoing to place section e =
         place ≡ Machine → bytes_eq section ball_devices_name ≡ true → IsBallDeviceDoing P S L rows (ball_device_of e) × (is_known (to (ball_device_of e).target.text) ≡ true)
 
-    -- an entry of a section, where it is a shot, a group, a ball device, or none of these
+    -- an entry of a section, whether it is a shot, a group, a ball device, or none of these
     in_entry_row : (place : Place) (seat : List ℕ → Option Seat) (to : List ℕ → Destination) (section : List ℕ) (e : Entry) → Where (bytes_eq section shots_name) (IsShotDoing P S L rows (shot_of e)) → Where (bytes_eq section shot_groups_name) (IsShotGroupDoing P S L rows (shot_group_of e))
         → IsBallEntryDoing to place section e → All D (entry_contributions machine place section e) → GivesDoing (entry_row rows place seat to section e)
     in_entry_row place seat to section e = by (bytes_eq section shots_name) (bytes_eq section shot_groups_name)

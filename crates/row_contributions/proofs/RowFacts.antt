@@ -53,7 +53,7 @@ use Rattle.yaml_bytes.proofs.Each.{All-flat_map}
 
 -- ---- what contributions are like
 
--- the name meets P where it is that of an event, and is a name where it is that of a switch, a coil or a variable
+-- the name meets P if it is that of an event, and is a name if it is that of a switch, a coil or a variable
 abbrev pub IsFitName : (List ℕ → Type 0) → Table → List ℕ → Type 0
 IsFitName P Events n = P n
 IsFitName P Switches n = IsName n
@@ -92,13 +92,13 @@ IsFit P _ = Unit {0}
 abbrev IsFitEvent : (List ℕ → Type 0) → Event → Type 0
 IsFitEvent P e = P e.name × IfSome e.condition (λ c. IsName c.variable)
 
--- a contribution is within its limits, and of the machine where it has to be
+-- a contribution is within its limits, and of the machine if it has to be
 abbrev pub IsRight : Contribution → Type 0
 IsRight c = IsLimited c × IsOfMachine c
 
 -- ---- the rows
 
--- What contributions are like, where the names of their row are names, where its lists are short, and where so many
+-- What contributions are like, if the names of their row are names, if its lists are short, and if so many
 -- modes have come before what is of one; and acts come after their rows.
 pub record Facts (P : List ℕ → Type 0) (n : ℕ) (Named Short Open : Type 0) (cs : List Contribution) : Type 0 where
   pub names : Named → All (IsFit P) cs
@@ -683,7 +683,7 @@ module _ (machine : List SectionRows) (P : List ℕ → Type 0) (of : IsOfNames 
   abbrev IsPlain : Contribution → Type 0
   IsPlain c = IsRoomy 1024 full c × IsOpen n c × IsRight c × IsPlaced None c
 
-  -- what a device gives, where an entry is one
+  -- what a device gives, if an entry is one
   abbrev IsGood : Place → Entry → Option Device → Type 0
   IsGood place e None = Unit {0}
   IsGood place e (Some d) = (IsNamedEntry e → IsFitDevice d) × (IsShortEntry 1024 e → IsRightDevice place d) × All (λ s. place ≡ Machine) d.listens
@@ -871,7 +871,7 @@ all_open machine n (r ∷ rs) h =
     let facts = row_facts machine (λ e. Unit {0}) any_name n r in
     AreOpened-append (row_contributions machine r) (given_by machine rs) n n (omega arith) (facts.modes (All-head (IsOpenRow n) r rs h)) (all_open machine n rs (All-tail (IsOpenRow n) r rs h))
 
--- what rows give is within its limits, and of the machine where it has to be
+-- what rows give is within its limits, and of the machine if it has to be
 all_right : (machine : List SectionRows) (rs : List Row) → All IsShortRow rs → All IsRight (given_by machine rs)
 all_right machine rs h =
     All-flat_map IsRight (row_contributions machine) rs
@@ -957,7 +957,7 @@ module _ (rows : Rows) where
   all_rows_short : AreListsShort rows → All IsShortRow (rows_of rows)
   all_rows_short h = rows_each IsShortRow IsShortSection IsShortMode rows (rows_short Machine) mode_rows_short h.0 h.1
 
-  -- each row of a place is open where the place is
+  -- each row of a place is open if the place is
   rows_open : (n : ℕ) (place : Place) → IsOpenPlace n place → (seat : List ℕ → Option Seat) (to : List ℕ → Destination) (name : List ℕ) (content : Content) → All (IsOpenRow n) (rows_from rows place seat to name content)
   rows_open n place opened seat to name (entries es) =
       All-map (IsOpenRow n) (entry_row rows place seat to name) es (λ i d within. entry_such (IsOpenRow n) rows place seat to name (get_or es i d) opened opened (λ own named. tt) opened)

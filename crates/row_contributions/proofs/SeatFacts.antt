@@ -1,5 +1,5 @@
--- The rows of devices that a text gives, as they are counted before it is read, and which of them the seats of its shots
--- are in, and which are those of its ball devices.
+-- The rows of devices that a text gives, as they are counted before it is read, and which of them the seats of its
+-- shots are in, and which are those of its ball devices.
 use Rattle.std.proofs.Common.{rules, ◌≡◌, ℕ, suc, ◌+◌, ◌-◌, ◌≤◌, Bool, true, false, ◌||◌, not, if◌then◌else◌, List, [], ◌∷◌, ◌++◌, length, map, refl, sym, ◌∙◌, ap, subst, arith}
 use Rattle.std.specs.Prelude.{Option, None, Some, IfSome, is_some, fold, slice_get}
 use Rattle.std.specs.{Str.bytes_eq, List.{All, flat_map, list_any}}
@@ -47,7 +47,7 @@ silent = search rules
 abbrev pub rows_told : List SectionRows → List Row → List Bool
 rows_told machine rs = flat_map (told row_given silent machine) rs
 
--- a row, where this holds
+-- a row, if this holds
 abbrev row_if : Bool → Bool → List Bool
 row_if b ball = if b then ball ∷ [] else []
 
@@ -83,7 +83,7 @@ groups_no_balls : (place : Place) → has_balls place shot_groups_name ≡ false
 groups_no_balls x1 = search rules
 
 module _ (machine : List SectionRows) where
-  -- an entry has a row where it is a ball save or a multiball
+  -- an entry has a row if it is a ball save or a multiball
   save_row : (place : Place) (section : List ℕ) (e : Entry) → bytes_eq section shot_groups_name ≡ false
       → told_where row_given silent place (save_device_of section e) ≡ row_if (bytes_eq section ball_saves_name || (bytes_eq section multiballs_name || (bytes_eq section shot_groups_name || false))) false
   unfolding save_device_of
@@ -92,7 +92,7 @@ module _ (machine : List SectionRows) where
       by : (s m g : Bool) → g ≡ false → told_where row_given silent place (if s then Some (save_device (ball_save_of e)) else (if m then Some (multiball_device (multiball_of e)) else None)) ≡ row_if (s || (m || (g || false))) false
       by x1 x2 g other = search rules
 
-  -- an entry that is neither a shot nor a group has a row where it is a device
+  -- an entry that is neither a shot nor a group has a row if it is a device
   device_row : (place : Place) (section : List ℕ) (e : Entry) → bytes_eq section shot_groups_name ≡ false → told_where row_given silent place (device_of section e) ≡ row_if (list_any (bytes_eq section) (row_sections Mode)) false
   unfolding device_of
   device_row place section e other = by (bytes_eq section counters_name) (bytes_eq section accruals_name) (bytes_eq section sequences_name) (bytes_eq section timers_name)
@@ -142,9 +142,9 @@ module _ (machine : List SectionRows) where
 
 -- ---- those that are counted
 
--- where those shots have seats that groups list
+-- if those shots have seats that groups list
 module _ (rows : Rows) (place : Place) (grouped : List ℕ → Bool) (seat : List ℕ → Option Seat) (to : List ℕ → Destination) (same : (name : List ℕ) → is_some (seat name) ≡ grouped name) where
-  -- a shot has a row where it has no seat
+  -- a shot has a row if it has no seat
   shot_row_is : (e : Entry) → told row_given silent rows.machine (shot_row rows place seat (shot_of e)) ≡ row_if (not (grouped e.name.text)) false
   unfolding shot_of
   shot_row_is e = by (seat e.name.text) (same e.name.text)
@@ -195,7 +195,7 @@ module _ (place : Place) (grouped : List ℕ → Bool) where
 
 -- ---- what is given under names
 
--- it is of a row that is such a one of these, where so many rows come before them
+-- it is of a row that is such a one of these, if so many rows come before them
 abbrev pub IsRowAt : ℕ → List Bool → Bool → ℕ → Type 0
 IsRowAt n rows ball r = (n ≤ r) × (slice_get rows (r - n) ≡ Some ball)
 
@@ -237,7 +237,7 @@ module _ {X : Type 0} (name : List ℕ) where
   abbrev has_it : List ℕ × X → Bool
   has_it x = bytes_eq name x.0
 
-  -- something is found where it is given under the name
+  -- something is found if it is given under the name
   latest_some : (xs : List (List ℕ × X)) (found : Option X) → is_some (fold (latest name) found xs) ≡ (is_some found || list_any has_it xs)
   latest_some [] found = by (is_some found)
     where
@@ -338,7 +338,7 @@ module _ (place : Place) (n : ℕ) (ss : List SectionRows) where
 -- ---- the machine text
 
 module _ (n : ℕ) (ss : List SectionRows) where
-  -- there is a row where there is a ball device
+  -- there is a row if there is a ball device
   pub ball_row_some : (name : List ℕ) → is_some (ball_row_of Machine n ss name) ≡ list_any (λ d. bytes_eq name d.name.text) (flat_map ball_devices_in ss)
   unfolding ball_devices_in
   ball_row_some name = found_some name entry_ball_row ball_devices_name ball_device_of (λ d. bytes_eq name d.name.text) (balls_each name) Machine n ss

@@ -62,7 +62,7 @@ pub AreShort-changes : (n : ℕ) (f : ℕ → ℕ) (items : List VariableItem) �
 AreShort-changes n f [] room = tt
 AreShort-changes n f (x ∷ xs) room = (tt, (omega (arith, room), AreShort-changes (suc n) full xs (omega (arith, room))))
 
--- effects in one list of a row, where those after it are empty
+-- effects in one list of a row, if those after it are empty
 AreShort-in : (k c : ℕ) (es : List Effect) (rest : List Contribution) → ((n : ℕ) (g : ℕ → ℕ) → ((j : ℕ) → k < j → g j ≤ 0) → AreShort n g rest)
     → (n : ℕ) (f : ℕ → ℕ) → f k ≤ c → c + length es ≤ 1024 → ((j : ℕ) → k < j → f j ≤ 0) → AreShort n f (map (does_in k) es ++ rest)
 AreShort-in k c [] rest then_ n f few room empty = then_ n f empty

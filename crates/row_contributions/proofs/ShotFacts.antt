@@ -201,6 +201,6 @@ module _ (rows : Rows) where
   pub profile_short : (name : List ℕ) → IsShortProfile (profile_of_name rows name)
   profile_short name = found_such IsShortProfile standard_short rows all_short name
 
-  -- a group is short where it has few shots
+  -- a group is short if it has few shots
   pub members_short : (g : ShotGroup) → length g.shots ≤ 16 → IsShortGroup g (members_of rows g)
   members_short g few = record { shots = few; states = first_such IsShortProfile standard_short rows all_short g.shots; enabled = flags_of _ }

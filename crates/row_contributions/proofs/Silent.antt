@@ -141,7 +141,7 @@ module _ {X : Type 0} (tell : Contribution → List X) (silent : IsSilent tell) 
   in_where : (place : Place) (o : Option Device) → Tells (where_device place o) (told_where place o)
   in_where place x2 = search (rules, in_device)
 
-  -- an entry of the machine text tells what a coil does, where it is one
+  -- an entry of the machine text tells what a coil does, if it is one
   abbrev pub told_machine : List SectionRows → List ℕ → Entry → List X
   told_machine machine section e =
       if bytes_eq section coils_name then flat_map tell (coil_contributions (coil_of e)) else (if bytes_eq section switches_name then [] else told_where Machine (machine_device machine section e))
@@ -234,7 +234,7 @@ module _ {X : Type 0} (tell : Contribution → List X) (silent : IsSilent tell) 
     rows_tell [] = refl
     rows_tell (r ∷ rs) = flat_map-append tell (row_contributions machine r) (given_by machine rs) ∙ (λ i. row_tells r i ++ rows_tell rs i)
 
-  -- where rows tell nothing either, no entry does but a coil of the machine text
+  -- if rows tell nothing either, no entry does but a coil of the machine text
   module _ (none : (place : Place) (settings : Settings) → tell (device place settings) ≡ []) (machine : List SectionRows) where
     pub none_machine : (section : List ℕ) (e : Entry) → bytes_eq section coils_name ≡ false → told_machine machine section e ≡ []
     none_machine section e other = by (bytes_eq section coils_name) (bytes_eq section switches_name) other

@@ -1,5 +1,5 @@
--- What the entries of ball devices say. Here `machine` is the sections of the machine text, which have the coils and the
--- game.
+-- What the entries of ball devices say. Here `machine` is the sections of the machine text, which have the coils and
+-- the game.
 use Rattle.std.specs.Prelude.{ℕ, Bool, true, false, ◌&&◌, List, [], ◌∷◌, ◌++◌, length, min, Option, None, Some, is_some, codes}
 use Rattle.std.specs.{List.list_any, Str.bytes_eq}
 use Rattle.mpf_sections.specs.Rows.{Written, BallDevice, Content, entry, SectionRows}
@@ -51,8 +51,8 @@ abbrev pub attempt_effects : List SectionRows → List ℕ → Option Written �
 attempt_effects machine name coil =
     posts (ball_event name (codes "_ball_eject_attempt")) ∷ posts (ball_event name (codes "_ejecting_ball")) ∷ eject_pulse machine coil
 
--- what it does after that: when the ball leaves, and when another is lost, when the ball that it has ejected is where it
--- should be, when one on its way is on the playfield, and when an attempt fails
+-- what it does after that: when the ball leaves, and when another is lost, when the ball that it has ejected is where
+-- it should be, when one on its way is on the playfield, and when an attempt fails
 abbrev pub later_lists : List ℕ → List (List Effect)
 later_lists name =
     (leaves ∷ [])
@@ -69,7 +69,7 @@ ball_lists machine d =
     ∷ attempt_effects machine d.name.text d.eject_coil
     ∷ later_lists d.name.text
 
--- that a ball has drained, where it may have
+-- that a ball has drained, if it may have
 abbrev pub drain_mentions : Bool → List (List ℕ)
 drain_mentions true = codes "ball_drain" ∷ []
 drain_mentions false = []
@@ -80,7 +80,7 @@ entry_mentions name drain = ball_event name (codes "_ball_enter") ∷ drain_ment
 
 -- ---- settings
 
--- The target, in the plan. A plan has at most 1,024 rows: where a row has a greater number there is no plan, and where a
+-- The target, in the plan. A plan has at most 1,024 rows: if a row has a greater number there is no plan, and if a
 -- destination is unknown there is none either.
 abbrev pub target_of : Destination → BallTarget
 target_of destinations.Playfield = targets.Playfield

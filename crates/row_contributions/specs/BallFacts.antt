@@ -29,8 +29,8 @@ IsBallFree (requests n) = ⊥
 IsBallFree (adds_balls n) = ⊥
 IsBallFree _ = Unit {0}
 
--- What the effect lists of a ball device do, by their numbers: a ball enters it in list 0, leaves it in list 2, is lost in
--- list 3 and arrives in list 5. The other lists have to do with no balls at all.
+-- What the effect lists of a ball device do, by their numbers: a ball enters it in list 0, leaves it in list 2, is lost
+-- in list 3 and arrives in list 5. The other lists have to do with no balls at all.
 pub record AreBallLists (done : ℕ → List Effect) : Type 0 where
   pub event : List ℕ
   pub drain : Bool
@@ -93,7 +93,8 @@ abbrev pub IsOffBallsAt : Option LastRow → Aim → Type 0
 IsOffBallsAt o (Do act) = IfRow (λ r. IsNoBallDevice r.settings) o
 IsOffBallsAt o _ = Unit {0}
 
--- Before a row comes, all is right that the row before does. An effect list that is of no row has nothing to do with balls.
+-- Before a row comes, all is right that the row before does. An effect list that is of no row has nothing to do with
+-- balls.
 abbrev pub IsFitting : Option LastRow → Contribution → Type 0
 IsFitting o (device place settings) = IsRight o
 IsFitting o (does_in k e) = IfRow (λ r. Unit {0}) o
@@ -137,7 +138,7 @@ abbrev pub is_plays : Contribution → Bool
 is_plays (plays min_balls balls_per_game max_players) = true
 is_plays _ = false
 
--- a ball may have drained only where there is a game
+-- a ball may have drained only if there is a game
 abbrev pub DrainsIn : Bool → Effect → Type 0
 DrainsIn game (enters e drain) = drain ≡ true → game ≡ true
 DrainsIn game _ = Unit {0}

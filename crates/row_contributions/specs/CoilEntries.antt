@@ -1,5 +1,5 @@
--- What the entries of coils, coil players, flippers and autofire coils say. Here `machine` is the sections of the machine
--- text, which have the coils.
+-- What the entries of coils, coil players, flippers and autofire coils say. Here `machine` is the sections of the
+-- machine text, which have the coils.
 use Rattle.std.specs.Prelude.{ℕ, Bool, if◌then◌else◌, List, [], ◌∷◌, ◌++◌, Option, None, Some, unwrap_or}
 use Rattle.mpf_sections.specs.declared.words.CoilAction.{CoilAction}
 use Rattle.mpf_sections.specs.declared.words.CoilAction.TheVariants as actions
@@ -22,7 +22,7 @@ limits_of_coil c = record {
   may_hold = c.may_hold;
 }
 
--- what of a coil is said by its entry where nothing else says it, and whether the coil may be held
+-- what of a coil is said by its entry if nothing else says it, and whether the coil may be held
 pub record Defaults : Type 0 where
   pub pulse_ms : ℕ
   pub pulse_power : ℕ
@@ -55,7 +55,7 @@ item_effect machine item = works item.coil.text (deed_by (defaults_called machin
 
 -- ---- flippers and autofire coils
 
--- where there is a coil that holds a flipper up, the main coil is pulsed and that one enabled; where there is none, the
+-- if there is a coil that holds a flipper up, the main coil is pulsed and that one enabled; if there is none, the
 -- main coil is enabled if it may be held, and else pulsed
 abbrev pub flipper_on : List SectionRows → Written → Option Written → List Effect
 flipper_on machine main (Some hold) =

@@ -113,7 +113,7 @@ starter event = bound event Control Start
 abbrev pub stopper : Event → List Contribution
 stopper event = bound event Control Stop
 
--- the event of this name stops the mode, where this holds
+-- the event of this name stops the mode, if this holds
 abbrev pub stopper_where : Bool → List ℕ → List Contribution
 stopper_where holds name = if holds then stopper (always name) else []
 
@@ -122,15 +122,15 @@ abbrev pub later_events : List ℕ → List Contribution
 later_events name =
     mode_event Starting name ∷ mode_event Started name ∷ mode_event Stopping name ∷ mode_event Stopped name ∷ []
 
--- whether the end of the ball stops a mode, and whether that of the game does: neither does if the mode may hold the end
--- of the ball
+-- whether the end of the ball stops a mode, and whether that of the game does: neither does if the mode may hold the
+-- end of the ball
 abbrev pub stops_at_ball_end : ModeSettings → Bool
 stops_at_ball_end s = s.stops_with_ball && not s.holds_ball_end
 
 abbrev pub stops_at_game_end : ModeSettings → Bool
 stops_at_game_end s = s.game && not s.holds_ball_end
 
--- what starts a mode and what stops it, as it is written; then the end of the ball, and of the game, where they stop it
+-- what starts a mode and what stops it, as it is written; then the end of the ball, and of the game, if they stop it
 abbrev pub controls : ModeSettings → List Contribution
 controls s =
     flat_map starter (events s.starts)
@@ -166,7 +166,7 @@ device_contributions place d =
     ∷ listens_from 0 d.listens
     ++ (flat_map (act_binding place) d.handled ++ (map (mentions Events) d.mentioned ++ effects_from 0 d.lists))
 
--- what a device gives, where an entry is one
+-- what a device gives, if an entry is one
 abbrev pub where_device : Place → Option Device → List Contribution
 where_device place None = []
 where_device place (Some d) = device_contributions place d
@@ -183,7 +183,7 @@ abbrev pub shot_switch : Option Written → List Contribution
 shot_switch None = []
 shot_switch (Some w) = mentions Switches w.text ∷ []
 
--- what acts on the row of this number, or where none is given, on the row that came last
+-- what acts on the row of this number, or if none is given, on the row that came last
 abbrev pub aim_at : Option ℕ → Act → Aim
 aim_at None act = Do act
 aim_at (Some row) act = On row act
@@ -191,7 +191,7 @@ aim_at (Some row) act = On row act
 abbrev pub act_at : Place → Option ℕ → Event × Act → List Contribution
 act_at place row h = bound h.0 place (aim_at row h.1)
 
--- what a shot gives beside its switch: where it has a seat, its events act on the group's row
+-- what a shot gives beside its switch: if it has a seat, its events act on the group's row
 abbrev pub seated : Place → Profile → Shot → Option Seat → List Contribution
 seated place p s None = device_contributions place (lone_device p s)
 seated place p s (Some seat) = flat_map (act_at place (Some seat.row)) (shot_acts seat.shot s)
@@ -227,8 +227,8 @@ machine_entry_contributions machine section e =
     else (if bytes_eq section switches_name then switch_contributions machine (switch_of e)
     else where_device Machine (machine_device machine section e))
 
--- What an entry gives, by the name of its section; what it says of a coil is by the sections of the machine text. Switches,
--- coils, flippers and autofire coils stand in that text alone.
+-- What an entry gives, by the name of its section; what it says of a coil is by the sections of the machine text.
+-- Switches, coils, flippers and autofire coils stand in that text alone.
 unfoldable pub entry_contributions : List SectionRows → Place → List ℕ → Entry → List Contribution
 entry_contributions machine Machine section e = machine_entry_contributions machine section e
 entry_contributions machine Control section e = where_device Control (device_of section e)

@@ -34,7 +34,7 @@ block_event name ending = codes "logicblock_" ++ name ++ ending
 abbrev pub block_endings : List (List ℕ)
 block_endings = codes "_updated" ∷ codes "_hit" ∷ codes "_complete" ∷ []
 
--- the events that are written, or its own where none is
+-- the events that are written, or its own if none is
 abbrev pub or_own : List Written → List ℕ → List (List ℕ)
 or_own ws own = if is_none ws then own ∷ [] else texts ws
 

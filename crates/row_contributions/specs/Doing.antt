@@ -1,5 +1,5 @@
 -- What holds of each effect, of each event that a switch posts, and of each switch to which a device listens or which a
--- setting names: of those of rows, and of those of contributions.
+-- setting names. It is said of those of rows, and then of those of contributions.
 use Rattle.std.specs.Prelude.{◌≡◌, ◌≢◌, ℕ, Bool, true, ◌||◌, List, Option, None, Some, IfSome, IsSome}
 use Rattle.std.specs.{List.{All, AllPairs, flat_map, list_any}, Str.bytes_eq}
 use Rattle.mpf_sections.specs.Rows.{Switch, EventPlayer, CoilPlayer, VariablePlayer, Shot, ShotGroup, BallDevice, SectionRows}
@@ -38,7 +38,7 @@ module _ (P : Effect → Type 0) (S L : List ℕ → Type 0) where
     pub lists : All (All P) d.lists
     pub listens : All L d.listens
 
-  -- where an entry is one
+  -- if an entry is one
   abbrev pub IsEntryDoing : Option Device → Type 0
   IsEntryDoing None = Unit {0}
   IsEntryDoing (Some d) = IsDeviceDoing d
@@ -61,8 +61,8 @@ module _ (P : Effect → Type 0) (S L : List ℕ → Type 0) where
       pub shots : All (λ w. IsSome (shot_called rows w.text)) g.shots
       pub lists : All (All P) (group_lists (members_of rows g).profile g.name.text (texts g.shots))
 
-    -- P holds of all that the effect lists of a ball device do, and L of the name of each of its ball switches, which are
-    -- no two of one name; and it ejects its balls onto the playfield or into a ball device
+    -- P holds of all that the effect lists of a ball device do, and L of the name of each of its ball switches, which
+    -- are no two of one name; and it ejects its balls onto the playfield or into a ball device
     pub record IsBallDeviceDoing (d : BallDevice) : Type 0 where
       pub lists : All (All P) (ball_lists rows.machine d)
       pub listens : All L (texts d.switches)
@@ -96,8 +96,8 @@ module _ (P : Effect → Type 0) (S L : List ℕ → Type 0) where
   IsMention Switches n = L n
   IsMention _ n = ⊥
 
-  -- S holds of the event that a contribution makes a switch post, P of what it makes an effect list do, and L of the switch
-  -- to which it makes a device listen, or which a setting names; and nothing is unknown
+  -- S holds of the event that a contribution makes a switch post, P of what it makes an effect list do, and L of the
+  -- switch to which it makes a device listen, or which a setting names; and nothing is unknown
   abbrev pub Does : Contribution → Type 0
   Does (active n) = S n
   Does (inactive n) = S n

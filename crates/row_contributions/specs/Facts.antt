@@ -108,7 +108,7 @@ IsLimited (does e) = IsEffectInRange e
 IsLimited (does_in k e) = IsEffectInRange e
 IsLimited _ = Unit {0}
 
--- what is of a mode comes after one, where so many have come
+-- what is of a mode comes after one, if so many have come
 abbrev pub IsOpenPlace : ℕ → Place → Type 0
 IsOpenPlace n Machine = Unit {0}
 IsOpenPlace n Control = 0 < n
@@ -136,7 +136,7 @@ AreOpened n (c ∷ cs) = IsOpen n c × AreOpened (modes_after n c) cs
 
 -- ---- rows of devices
 
--- the place of the row that came last, where the mode that came last is that of its time
+-- the place of the row that came last, if the mode that came last is that of its time
 abbrev pub row_after : Option Place → Contribution → Option Place
 row_after o (mode n priority game holds) = None
 row_after o (device place settings) = Some place
@@ -163,7 +163,7 @@ abbrev pub row_place : ℕ → Contribution → List (Place × ℕ)
 row_place n (device place settings) = (place, n) ∷ []
 row_place n _ = []
 
--- so it is with all rows, in turn, where so many modes came before
+-- so it is with all rows, in turn, if so many modes came before
 abbrev pub row_places : ℕ → List Contribution → List (Place × ℕ)
 row_places n [] = []
 row_places n (c ∷ cs) = row_place n c ++ row_places (modes_after n c) cs

@@ -82,7 +82,7 @@ handlers_act_at place row act hs = flat_map (act_at place row) (acts act (map ha
 abbrev pub names_mention : List Name → List Contribution
 names_mention ns = map (mentions Events) (texts (map name_view ns))
 
--- an effect list posts the events of these names, or its own where there are none
+-- an effect list posts the events of these names, or its own if there are none
 abbrev pub names_post_in : ℕ → List Name → List Contribution
 names_post_in k ns = map (does_in k) (map posts (texts (map name_view ns)))
 
@@ -266,7 +266,8 @@ switch_hit_binds place row hit switch = flat_map (act_at place row) (switch_hits
 abbrev pub group_binds : Place → typed_groups.ShotGroup → List Contribution
 group_binds place g = flat_map (act_binding place) (group_acts (shot_group_view g))
 
--- what the effect lists of a group post: its own, those of each of its shots, those of one shot, and those with an ending
+-- what the effect lists of a group post: its own, those of each of its shots, those of one shot, and those with an
+-- ending
 abbrev pub group_posts : profiles.Profile → List ℕ → List Name → List Contribution
 group_posts p name ns = effects_from 0 (group_lists (profile_view p) name (texts (map name_view ns)))
 

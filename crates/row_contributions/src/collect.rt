@@ -346,21 +346,21 @@ fn collect_controls<'a>(
     Ok(())
 }
 
-/// Whether the end of the ball stops a mode: not where the mode holds it.
+/// Whether the end of the ball stops a mode: not if the mode holds it.
 fn stops_at_ball_end(settings: &ModeSettings<'_>) -> bool
     ensures { result ≡ stops_at_ball_end (mode_settings_view settings.now) }
 {
     settings.stops_with_ball && !settings.holds_ball_end
 }
 
-/// Whether the end of the game stops a mode: not where the mode holds the end of the ball.
+/// Whether the end of the game stops a mode: not if the mode holds the end of the ball.
 fn stops_at_game_end(settings: &ModeSettings<'_>) -> bool
     ensures { result ≡ stops_at_game_end (mode_settings_view settings.now) }
 {
     settings.game && !settings.holds_ball_end
 }
 
-/// The event stops the mode that came last, where this holds.
+/// The event stops the mode that came last, if this holds.
 fn collect_stop_where<'a>(
     contributions: &mut Vec<Contribution<'a>>,
     holds: bool,

@@ -107,8 +107,8 @@ fn is_game(section: &Section) -> bool
 
 // ---- settings
 
-/// The target, in the plan. A plan has at most 1,024 rows: where a row has a greater number there is
-/// no plan, and where a destination is unknown there is none either.
+/// The target, in the plan. A plan has at most 1,024 rows: if a row has a greater number there is
+/// no plan, and if a destination is unknown there is none either.
 fn target_of(to: Destination) -> BallTarget
     ensures { result ≡ target_of to }
 {
@@ -141,7 +141,7 @@ fn ball_event<'a>(name: &'a [u8], end: &'static [u8]) -> Parts<'a>
     joined(b"balldevice_", name, end)
 }
 
-/// The events of its first list: that a ball has entered, and that it has drained, where it may.
+/// The events of its first list: that a ball has entered, and that it has drained, if it may.
 fn collect_mentions<'a>(
     contributions: &mut Vec<Contribution<'a>>,
     name: &'a [u8],
@@ -154,7 +154,7 @@ fn collect_mentions<'a>(
     Ok(())
 }
 
-/// The event that a ball has drained, where it may have.
+/// The event that a ball has drained, if it may have.
 fn collect_drain(contributions: &mut Vec<Contribution<'_>>, drain: bool) -> Result<(), AllocError>
     ensures { OnOk result (Gains contributions.old contributions.new (map (mentions Events) (drain_mentions drain))) }
 {

@@ -49,7 +49,7 @@ pub(crate) fn collect_coil<'a>(
 
 // ---- `coil_player`
 
-/// What the entry of a coil says where nothing else does. Where there is no such entry there is no
+/// What the entry of a coil says if nothing else does. If there is no such entry, there is no
 /// plan, and any numbers in their ranges serve.
 #[derive(Clone, Copy)]
 pub(crate) struct Defaults {
@@ -198,7 +198,7 @@ fn collect_two_coils<'a>(
     collect_effect(contributions, 1, Effect::Coil(hold.text, Deed::Disable))
 }
 
-/// The main coil holds the flipper up where it may be held, and else is pulsed.
+/// The main coil holds the flipper up if it may be held, and else is pulsed.
 fn collect_main_coil<'a>(
     contributions: &mut Vec<Contribution<'a>>,
     definitions: &Definitions<'_>,

@@ -22,7 +22,7 @@ use plan_rows::{Place, is_none};
 use plan_tables::devices::{Act, Settings};
 use std::alloc::AllocError;
 
-/// What an entry gives where it is a device, after what is there.
+/// What an entry gives if it is a device, after what is there.
 #[tactic(auto, unfolding(crate::specs::DeviceEntries::device_of))]
 pub(crate) fn collect_device<'a>(
     contributions: &mut Vec<Contribution<'a>>,
@@ -129,7 +129,7 @@ fn collect_block_lists<'a>(
     Ok(())
 }
 
-/// This effect list of the row posts the events that are written, or its own where none is.
+/// This effect list of the row posts the events that are written, or its own if none is.
 fn collect_list<'a>(
     contributions: &mut Vec<Contribution<'a>>,
     number: u16,

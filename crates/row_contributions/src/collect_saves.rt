@@ -19,7 +19,7 @@ use plan_tables::effect_lists::{
 };
 use std::alloc::AllocError;
 
-/// What an entry gives where it is a ball save or a multiball, after what is there.
+/// What an entry gives if it is a ball save or a multiball, after what is there.
 #[tactic(auto, unfolding(crate::specs::SaveEntries::save_device_of))]
 pub(crate) fn collect_save_device<'a>(
     contributions: &mut Vec<Contribution<'a>>,

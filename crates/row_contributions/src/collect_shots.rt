@@ -137,7 +137,7 @@ fn bank_settings(profile: &Profile<'_>, shots: u8, enabled: [bool; 16], group: b
 // ---- events
 
 /// Whose the bindings of a shot's events are, and on which row they act: on that of this number, or
-/// where none is given, on the row that came last.
+/// if none is given, on the row that came last.
 #[derive(Clone, Copy)]
 struct Target {
     place: Place,

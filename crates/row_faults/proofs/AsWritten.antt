@@ -66,7 +66,7 @@ module _ {A X : Type 0} (see : A → List X) (order : List ℕ) where
       seen-each (ordered_by (λ part. written_before order part.0) parts)
       ∙ ap (flat_map (λ (part : ℕ × List X). part.1)) (ordered-seen seen before parts)
 
--- where none is written, they stay as they are
+-- if none is written, they stay as they are
 module _ {A : Type 0} where
   abbrev first : ℕ × A → ℕ
   first part = written_before [] part.0

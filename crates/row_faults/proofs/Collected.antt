@@ -17,6 +17,6 @@ pub group-more : (f g : FaultsView) (is_own is_taken others : List ℕ → Bool)
     → with_faults g (group_faults g is_own others ms) ≡ with_faults f (group_faults f is_own is_taken (ls ++ ms))
 group-more f g is_own is_taken others ls ms is taken = search (rules, with-more, map-append, misplaced-append)
 
--- a fault where something is wrong with a name, as one of the names with which something is wrong
+-- a fault if something is wrong with a name, as one of the names with which something is wrong
 pub fault-kept : (wrong : Bool) (text : List ℕ) (w : Written) → fault_if wrong Name text w ≡ map (name_fault text) (kept_if wrong w [])
 fault-kept x1 text w = search rules

@@ -10,7 +10,7 @@ use Rattle.row_faults.specs.ShotFaults.{shot_faults, listed_by, listed_in, is_ow
 use Rattle.row_faults.specs.RowFaults.{name_fault, coil_faults_in, starts_at_end, timer_fault, section_faults, written_faults}
 
 module _ (modes : List (List ℕ)) (rows : Rows) (text : List ℕ) where
-  -- the faults of a section, where its groups may not list these shots
+  -- the faults of a section, if its groups may not list these shots
   abbrev with_misplaced : (is_taken : List ℕ → Bool) → SectionRows → List Written → List RowFaultView
   with_misplaced is_taken s ws =
       map (name_fault text) (reserved_among modes (posts_in s))
@@ -21,7 +21,7 @@ module _ (modes : List (List ℕ)) (rows : Rows) (text : List ℕ) where
       ++ map (name_fault text) ws
       ++ map (timer_fault text) (filter starts_at_end (timers_in s))
 
-  -- its groups list nothing, where it has none
+  -- its groups list nothing, if it has none
   none_misplaced : (is_own is_taken : List ℕ → Bool) (s : SectionRows) → shot_groups_in s ≡ [] → misplaced rows is_own is_taken (listed_in rows s) ≡ []
   none_misplaced is_own is_taken s none = ap (λ (gs : List _). misplaced rows is_own is_taken (flat_map (listed_by rows) gs)) none
 

@@ -26,6 +26,6 @@ written_before order place = unwrap_or (position (λ p. p == place) order) (leng
 unfoldable pub in_order : {X : Type 0} → List ℕ → List (ℕ × List X) → List X
 in_order order parts = flat_map (λ part. part.1) (ordered_by (λ part. written_before order part.0) parts)
 
--- the same, where each is given with the key of its setting
+-- the same, when each is given with the key of its setting
 abbrev pub as_written : {X : Type 0} → List Setting → List ℕ → List (List ℕ × List X) → List X
 as_written table order parts = in_order order (map (λ part. (place_of table part.0, part.1)) parts)

@@ -13,7 +13,7 @@ use Rattle.row_faults.specs.declared.fault.RowFaultKind.TheVariants.{Name, Pulse
 abbrev pub fault_at : RowFaultKind → List ℕ → Written → RowFaultView
 fault_at kind text w = record { kind = kind; text = text; line = w.line; name = w.text }
 
--- it, where something is wrong
+-- it, if something is wrong
 abbrev pub fault_if : Bool → RowFaultKind → List ℕ → Written → List RowFaultView
 fault_if true kind text w = fault_at kind text w ∷ []
 fault_if false kind text w = []
@@ -29,7 +29,7 @@ switch_name_faults machine text w = fault_if (not (has_switch machine w.text)) N
 
 -- ---- entries of `coils`
 
--- where more than one power is too great there is one fault
+-- if more than one power is too great there is one fault
 abbrev pub coil_faults : List ℕ → Coil → List RowFaultView
 coil_faults text c =
     fault_if (nat_lt c.max_pulse_ms c.pulse_ms) PulseLimit text c.name

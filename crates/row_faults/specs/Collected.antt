@@ -5,8 +5,8 @@ use Rattle.mpf_config.specs.Rows.{Rows}
 use Rattle.row_faults.specs.{FaultView.RowFaultView, RowFaults.name_fault}
 use Rattle.row_faults.specs.{Reserved.reserved_among, ShotFaults.{Listed, misplaced}}
 
--- The faults that were found in a text so far, and what faults depend on: all rows, the events of modes, and the name of
--- the text.
+-- The faults that were found in a text so far, and what faults depend on: all rows, the events of modes, and the name
+-- of the text.
 pub record FaultsView : Type 0 where
   pub rows : Rows
   pub modes : List (List ℕ)

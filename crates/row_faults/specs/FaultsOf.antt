@@ -143,7 +143,7 @@ faults_of_profile f name = profile_faults f.rows f.text (name_at_view name)
 abbrev pub faults_of_shot_switch : FaultsView → Option NameAt → List RowFaultView
 faults_of_shot_switch f switch = shot_switch_faults f.rows.machine f.text (option_map name_at_view switch)
 
--- what the groups of sections list, of one section, and one group; and these names, where a group lists this shot first
+-- what the groups of sections list, of one section, and one group; and these names, if a group lists this shot first
 abbrev pub listed_by_sections : Rows → List Section → List Listed
 listed_by_sections rows sections = listed_of rows (section_rows sections)
 
@@ -156,7 +156,7 @@ listed_by_group rows g = listed_by rows (shot_group_view g)
 abbrev pub names_listed : Option typed_shots.Shot → List Name → List Listed
 names_listed first ns = listed_with (option_map shot_view first) (map name_view ns)
 
--- the faults of what is listed, where the text defines its own shots and others are taken
+-- the faults of what is listed, if the text defines its own shots and others are taken
 abbrev pub faults_of_listed : {S : Type 0} → FaultsView → HashSet (Bor (List ℕ)) S → HashSet (Bor (List ℕ)) S → List Listed → List RowFaultView
 faults_of_listed f own taken listed = group_faults f (is_found own) (is_found taken) listed
 
@@ -235,7 +235,7 @@ faults_in_order f order parts = in_order order (map (λ part. (part.0, named_fau
 abbrev pub faults_of_parts : FaultsView → List (ℕ × Named) → List RowFaultView
 faults_of_parts f parts = flat_map (λ part. named_faults f.rows f.text part.1) parts
 
--- a fault of this name, where something is wrong
+-- a fault of this name, if something is wrong
 abbrev pub fault_where : FaultsView → Bool → RowFaultKind → NameAt → List RowFaultView
 fault_where f wrong kind name = fault_if wrong kind f.text (name_at_view name)
 

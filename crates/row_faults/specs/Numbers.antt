@@ -18,7 +18,7 @@ pub record IsNumbered (devices : List BallDevice) (found : List ℕ → Option �
   pub within : (name : List ℕ) → IfSome (found name) (λ n. n < length devices)
   pub called : (name : List ℕ) → device_at devices (found name) ≡ ball_device_among devices name
 
--- the number of the place of this name, where there are so many ball devices: that of the playfield comes after theirs,
+-- the number of the place of this name, if there are so many ball devices: that of the playfield comes after theirs,
 -- and then one for all names that nothing has
 abbrev pub number_of : (found : List ℕ → Option ℕ) → (count : ℕ) → List ℕ → ℕ
 number_of found count name = if bytes_eq name playfield then count else unwrap_or (found name) (count + 1)

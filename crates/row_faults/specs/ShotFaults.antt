@@ -73,7 +73,7 @@ abbrev pub taken_after : (List ℕ → Bool) → List Listed → List ℕ → Bo
 taken_after is_taken [] = is_taken
 taken_after is_taken (l ∷ ls) = taken_after (taken_with l is_taken) ls
 
--- this name before others, where it is misplaced
+-- this name before others, if it is misplaced
 abbrev pub kept_if : Bool → Written → List Written → List Written
 kept_if true w ws = w ∷ ws
 kept_if false w ws = ws

@@ -27,7 +27,7 @@ pub record IsHoldWithin (c : Coil) (power : ℕ) : Type 0 where
   pub allowed : c.may_hold ≡ true
   pub greatest : power ≤ c.max_hold_power
 
--- what the coil's own entry says where nothing else is said
+-- what the coil's own entry says if nothing else is said
 pub record IsCoilSound (c : Coil) : Type 0 where
   pub pulse : IsPulseWithin c c.pulse_ms c.pulse_power
   pub hold : c.hold_power ≤ c.max_hold_power
@@ -52,8 +52,7 @@ IsItemSound machine i = IsCoilSuch machine i.coil.text (λ c. IsActionWithin c i
 abbrev pub IsCoilPlayerSound : List SectionRows → CoilPlayer → Type 0
 IsCoilPlayerSound machine p = All (IsItemSound machine) p.items
 
--- A coil that holds the flipper up may be held. Where there is none, the main coil is held if it may be, and else
--- pulsed.
+-- A coil that holds the flipper up may be held. If there is none, the main coil is held if it may be, and else pulsed.
 pub record IsFlipperSound (machine : List SectionRows) (f : Flipper) : Type 0 where
   pub main_coil : IsCoilSuch machine f.main_coil.text IsCoilSound
   pub hold_coil : IfSome f.hold_coil (λ w. IsCoilSuch machine w.text (λ c. IsHoldWithin c c.hold_power))

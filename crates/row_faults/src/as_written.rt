@@ -60,7 +60,7 @@ pub(crate) fn as_written<T: Copy>(
 }
 
 /// Adds what is wrong with the names that settings have, in the order in which the settings are
-/// written. Where none is written, nothing has to be put in order.
+/// written. If none is written, nothing has to be put in order.
 pub(crate) fn add_as_written(
     faults: &mut Faults<'_, '_>,
     order: &[usize],

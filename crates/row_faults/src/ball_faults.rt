@@ -53,7 +53,7 @@ pub(crate) fn add_switches(faults: &mut Faults<'_, '_>, switches: &[Name]) -> Re
     Ok(())
 }
 
-/// Adds a fault where a setting names a coil that no entry defines.
+/// Adds a fault if a setting names a coil that no entry defines.
 pub(crate) fn add_named_coil(
     faults: &mut Faults<'_, '_>,
     coil: Option<NameAt<'_>>,
@@ -66,7 +66,7 @@ pub(crate) fn add_named_coil(
     }
 }
 
-/// Adds a fault where balls cannot be ejected to a place of this name.
+/// Adds a fault if balls cannot be ejected to a place of this name.
 pub(crate) fn add_target(faults: &mut Faults<'_, '_>, target: NameAt<'_>) -> Result<(), AllocError>
     ensures { OnOk result (Gains faults.old faults.new (faults_of_target faults.old target.entry)) }
 {

@@ -31,7 +31,7 @@ pub(crate) fn add_coil_faults(
 
 // ---- names
 
-/// Adds a fault where no entry defines a coil of this name.
+/// Adds a fault if no entry defines a coil of this name.
 pub(crate) fn add_coil_name(faults: &mut Faults<'_, '_>, name: NameAt<'_>) -> Result<(), AllocError>
     ensures { OnOk result (Gains faults.old faults.new (faults_of_coil_name faults.old name.entry)) }
 {
@@ -39,7 +39,7 @@ pub(crate) fn add_coil_name(faults: &mut Faults<'_, '_>, name: NameAt<'_>) -> Re
     add_if(faults, unknown, RowFaultKind::Name, name)
 }
 
-/// Adds a fault where no entry defines a switch of this name.
+/// Adds a fault if no entry defines a switch of this name.
 pub(crate) fn add_switch_name(
     faults: &mut Faults<'_, '_>,
     name: NameAt<'_>,
@@ -188,7 +188,7 @@ fn add_rules(faults: &mut Faults<'_, '_>, section: &Section) -> Result<(), Alloc
     Ok(())
 }
 
-/// Adds the faults of an entry of the section of this name, where it is a flipper or an autofire
+/// Adds the faults of an entry of the section of this name, if it is a flipper or an autofire
 /// coil.
 fn add_rule(faults: &mut Faults<'_, '_>, section: &[u8], entry: &Entry) -> Result<(), AllocError>
     ensures { OnOk result (Gains faults.old faults.new (faults_of_rule faults.old section.now entry.now)) }

@@ -70,7 +70,7 @@ fn fault_at(
     })
 }
 
-/// Adds a fault of this name of the text, where something is wrong.
+/// Adds a fault of this name of the text, if something is wrong.
 pub(crate) fn add_if(
     faults: &mut Faults<'_, '_>,
     wrong: bool,

@@ -77,7 +77,7 @@ fn first_of_each_line(
     Ok(listed)
 }
 
-/// Takes the line of a fault, and says whether it is new. Where memory runs out it may be taken or
+/// Takes the line of a fault, and says whether it is new. If memory runs out, it may be taken or
 /// not.
 fn is_new(alloc: Global, lines: &mut KeySet, fault: &RowFault) -> Result<bool, AllocError>
     ensures fresh { IfOk result (λ fresh. fresh ≡ not (is_among (copies_view lines.old) (printed_line fault.now))) }

@@ -176,7 +176,7 @@ fn add_step_blocks(faults: &mut Faults<'_, '_>, entries: &[Entry]) -> Result<(),
     Ok(())
 }
 
-/// Adds those of the names that settings have, in the order in which the settings are written. Where
+/// Adds those of the names that settings have, in the order in which the settings are written. If
 /// none is written, nothing has to be put in order.
 fn add_in_order(
     faults: &mut Faults<'_, '_>,

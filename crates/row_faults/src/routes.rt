@@ -90,7 +90,7 @@ fn is_wrong(leads: bool, again: bool, device: BallDevice<'_>) -> bool
 }
 
 /// Takes the ball switches of a ball device, and says whether one was taken, or stands twice among
-/// them. Where memory runs out, some may be taken.
+/// them. If memory runs out, some may be taken.
 fn take_switches<'a>(taken: &mut Switches<'a>, switches: &'a [Name]) -> Result<bool, AllocError>
     ensures again { IfOk result (λ again. again ≡ is_one_taken (texts_of switches.now) (is_found taken.old)) }
     ensures taken { IfOk result (λ _. is_found taken.new ≡ all_taken (texts_of switches.now) (is_found taken.old)) }

@@ -68,7 +68,7 @@ fn faults_of_texts<'a>(
     Ok(faults)
 }
 
-/// Adds the faults of the texts of these modes, where groups of texts before them list the shots
+/// Adds the faults of the texts of these modes, if groups of texts before them list the shots
 /// that are taken.
 fn add_modes<'a>(
     alloc: Global,
@@ -97,7 +97,7 @@ fn add_all(faults: &mut Vec<RowFault>, own: Vec<RowFault>) -> Result<(), AllocEr
     Ok(())
 }
 
-/// The faults of the text of this name, by line and number, where groups of texts before it list the
+/// The faults of the text of this name, by line and number, if groups of texts before it list the
 /// shots that are taken. Takes those that its groups list.
 fn faults_of_text<'a>(
     alloc: Global,

@@ -48,7 +48,7 @@ fn add_shot(faults: &mut Faults<'_, '_>, shot: Shot<'_>) -> Result<(), AllocErro
     add_as_written(faults, shot.order, &parts)
 }
 
-/// Adds a fault where no entry defines the profile of this name.
+/// Adds a fault if no entry defines the profile of this name.
 pub(crate) fn add_profile(
     faults: &mut Faults<'_, '_>,
     profile: NameAt<'_>,
@@ -59,7 +59,7 @@ pub(crate) fn add_profile(
     add_if(faults, unknown, RowFaultKind::Name, profile)
 }
 
-/// Adds a fault where a setting names a switch that no entry defines.
+/// Adds a fault if a setting names a switch that no entry defines.
 pub(crate) fn add_named_switch(
     faults: &mut Faults<'_, '_>,
     switch: Option<NameAt<'_>>,
@@ -170,7 +170,7 @@ fn are_of_two_profiles(one: Option<Shot<'_>>, other: Option<Shot<'_>>) -> bool
 
 // ---- the shots of a text
 
-/// The shots that these sections define, where they have groups. Without groups nothing asks for
+/// The shots that these sections define, if they have groups. Without groups nothing asks for
 /// them, and it gives none.
 pub(crate) fn shots_for_groups<'a>(
     alloc: Global,

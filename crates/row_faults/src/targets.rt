@@ -64,7 +64,7 @@ fn targets_of(
     Ok(targets)
 }
 
-/// The number of a place, where there are so many ball devices.
+/// The number of a place, if there are so many ball devices.
 fn number_of(numbers: &Numbers<'_>, count: usize, name: &[u8]) -> usize
     requires { count < usize.MAX }
     ensures { result ≡ number_of (number_found numbers.now) count name.now }
@@ -105,7 +105,7 @@ fn one_after_other(alloc: Global, first: &[usize], then: &[usize]) -> Result<Vec
         .collect(alloc)
 }
 
-/// Which of these numbers are that of the playfield, where there are as many ball devices.
+/// Which of these numbers are that of the playfield, if there are as many ball devices.
 fn are_playfield(alloc: Global, ends: &[usize]) -> Result<Vec<bool>, AllocError>
     ensures { IfOk result (λ leads. leads.items ≡ map (λ n. n == length ends.now) ends.now) }
 {

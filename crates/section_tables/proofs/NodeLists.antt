@@ -24,7 +24,7 @@ seen_counted (node ∷ nodes) = by (counts (node_view node)) refl (seen_counted 
 
 -- ---- what f gives for each item
 
--- where it fails, it says that the value is bad
+-- if it fails, it says that the value is bad
 abbrev OnlyBad : {B : Type 0} → Spot → Result B RowsFault → Type 0
 OnlyBad spot (Ok y) = Unit {0}
 OnlyBad spot (Err e) = e ≡ rows_fault_at BadValue spot
@@ -48,7 +48,7 @@ module _ {B : Type 0} (f : Spot → Item → Result B RowsFault) (spot : Spot) w
   abbrev read : List Node → Result (List B) RowsFault
   read nodes = each_read (node_item_at f spot) (filter counts nodes)
 
-  -- where a list has items, these are what is read
+  -- if a list has items, these are what is read
   abbrev Same : List Node → List Item → Type 0
   Same nodes items = (length (filter counts nodes) ≡ length items) × (read nodes ≡ each_read (f spot) items)
 
@@ -69,7 +69,7 @@ module _ {B : Type 0} (f : Spot → Item → Result B RowsFault) (spot : Spot) w
   same (sequence line inner ∷ nodes) items e = absurd (none-some items e)
   same (mapping line pairs ∷ nodes) items e = absurd (none-some items e)
 
-  -- where it has none, the value is bad
+  -- if it has none, the value is bad
   bad_onto : (r : Result B RowsFault) (rest : Result (List B) RowsFault) → OnlyBad spot r → rest ≡ refused BadValue spot → (r >>= λ y. rest >>= λ ys. Ok (y ∷ ys)) ≡ refused BadValue spot
   bad_onto x1 rest only e = search rules
 

@@ -139,14 +139,14 @@ default_named : (table : List Setting) → IsNamedTable table → AllByRecursion
 default_named [] q = tt
 default_named (s ∷ ss) q = (q.0.0, default_named ss q.1)
 
--- Each name in an entry is one, where those are that hold by default.
+-- Each name in an entry is one, if those are that hold by default.
 pub entry_named : (longest : ℕ) (table : List Setting) (p : Pair) (e : Entry) → IsNamedTable table → IsEntry longest table p e → IsNamedEntry e
 entry_named longest table p e q h = search (rules, overwritten_all, value_named, default_named)
 
 pub entries_named : (longest : ℕ) (barred : List (List ℕ)) (table : List Setting) (p : Pair) (es : List Entry) → IsNamedTable table → AreEntries longest barred table p es → AllByRecursion IsNamedEntry es
 entries_named longest barred table p es q h = all_zip (IsOtherEntry longest barred table) IsNamedEntry (λ x e k. entry_named longest table x e q k.entry) h.0 es h.2
 
--- No list in an entry has more items than the limit, where those have not that hold by default.
+-- No list in an entry has more items than the limit, if those have not that hold by default.
 pub entry_short : (longest : ℕ) (table : List Setting) (p : Pair) (e : Entry) → IsShortTable longest table → IsEntry longest table p e → IsShortEntry longest e
 entry_short longest table p e q h =
     All-from_recursion (IsShortValue longest) e.values

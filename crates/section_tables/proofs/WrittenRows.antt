@@ -90,6 +90,6 @@ module _ (table : List Setting) (row : List Seen) (i : ℕ) (d : Setting) (o : O
       let here : setting_lacks (setting_view (get_or table i d)) h.0 ≡ false = rw (is, h.1) at lacks in
       rw add-one (sym (rw here at h.2) ∙ so_far)
 
--- where reading fails, reading more fails alike
+-- if reading fails, reading more fails alike
 pub fails-then : {A B : Type 0} (e : ConfigFault) (r : Result A RowsFault) (f : A → Result B RowsFault) → FailsRows e r → FailsRows e (r >>= f)
 fails-then x1 r f h = search rules

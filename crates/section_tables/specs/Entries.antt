@@ -19,7 +19,7 @@ pairs_below node = or_none (pairs_in node) (text_in node)
 unfoldable pub nodes_below : Node → Option (List Node)
 nodes_below node = or_none (items_in node) (text_in node)
 
--- the settings that every entry takes, and at whose values nothing looks where the section's table does not have them
+-- the settings that every entry takes, and at whose values nothing looks if the section's table does not have them
 abbrev pub ignored_names : List (List ℕ)
 ignored_names =
     codes "number" ∷ codes "tags" ∷ codes "label" ∷ codes "debug" ∷ codes "platform" ∷ codes "platform_settings" ∷ codes "console_log"

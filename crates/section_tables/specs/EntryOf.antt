@@ -59,7 +59,8 @@ IsHandled item h = (e : Event) × IsEvent item.text e × (h ≡ handled_at item.
 
 -- ---- rows by a table
 
--- A row, and what a pair makes of it: where the table has its key, its value stands at that place; where not, it is one that is ignored.
+-- A row, and what a pair makes of it: if the table has its key, its value stands at that place; if not, it is one that
+-- is ignored.
 abbrev pub OverwritesAt : {T V : Type 0} → (T → Node → V → Type 0) → Bool → Pair → List V → List V → Option (ℕ × T) → Type 0
 OverwritesAt {T} {V} IsOf passes p row next (Some found) = (v : V) × IsOf found.1 p.value v × (next ≡ set row found.0 v)
 OverwritesAt IsOf passes p row next None = (passes ≡ true) × (next ≡ row)
@@ -74,7 +75,8 @@ IsOverwritten {T} {V} key_of IsOf passes table (p ∷ ps) row made =
 abbrev pub IsWhole : {T V : Type 0} → (T → V → Bool) → List T → List V → Type 0
 IsWhole lacks = AllZip (λ s v. lacks s v ≡ false)
 
--- The row of a mapping by a table: what holds where nothing is written, overwritten by the pairs; nothing that is required is lacking.
+-- The row of a mapping by a table: what holds if nothing is written, overwritten by the pairs; nothing that is required
+-- is lacking.
 pub record IsRow {T V : Type 0} (key_of : T → List ℕ) (IsOf : T → Node → V → Type 0) (passes : List ℕ → Bool) (default_of : T → V) (lacks : T → V → Bool)
     (table : List T) (node : Node) (row : List V) : Type 0 where
   pub pairs : List Pair
@@ -100,7 +102,7 @@ pub record AreFields (table : List Field) (others : Bool) (node : Node) (m : Fie
   pub line : m.line ≡ line_of node
   pub row : IsFieldRow table others node m.values
 
--- the name of a map whose first value is one; the empty text where it is none
+-- the name of a map whose first value is one; the empty text if it is none
 abbrev pub name_first : List Plain → List ℕ
 name_first (name w ∷ xs) = w.text
 name_first _ = []
@@ -112,7 +114,7 @@ own_name m = name_first m.values
 abbrev pub HaveOwnNames : List Fields → Type 0
 HaveOwnNames ms = AllPairs (λ x y. x ≢ y) (map own_name ms)
 
--- one value alone, at its place among those that hold where nothing is written; or the row of a map
+-- one value alone, at its place among those that hold if nothing is written; or the row of a map
 abbrev pub IsKeyedRow : List Field → ℕ → Scalar → Node → List Plain → Option (List ℕ) → Type 0
 IsKeyedRow table place short node row (Some text) = (v : Plain) × IsPlain short node v × (row ≡ set (map field_default table) place v)
 IsKeyedRow table place short node row None = IsFieldRow table false node row
@@ -136,7 +138,8 @@ pub record AreKeyed (table : List Field) (place : ℕ) (short : Scalar) (longest
 abbrev pub IsStep : ℕ → Node → List Handled → Type 0
 IsStep longest = AreListed IsHandled (at_least 1) longest
 
--- what a node says as the value of a setting of a kind, with at most so many items in a list; a map of names counts as one
+-- what a node says as the value of a setting of a kind, with at most so many items in a list; a map of names counts as
+-- one
 abbrev pub IsValue : ℕ → Kind → Node → Value → Type 0
 IsValue longest (single kind) node v = (x : Plain) × IsPlain kind node x × (v ≡ one x)
 IsValue longest (name_list bounds) node v = (xs : List Written) × AreListed IsWritten bounds longest node xs × (v ≡ names xs)

@@ -196,7 +196,7 @@ read_steps spot bounds tree = nodes_at (listed_at handled_in most_items (at_leas
 
 -- ---- texts
 
--- a value is what a text says, or nothing where it says nothing
+-- a value is what a text says, or nothing if it says nothing
 abbrev pub IsPlainSaid : Option plains.Plain → Option Plain → Type 0
 IsPlainSaid value said = give plain_view value ≡ said
 
@@ -226,7 +226,7 @@ FindsField found table key = found_view field_view found ≡ found_in field_key 
 abbrev pub lacking_field : List Field → List plains.Plain → Option (List ℕ)
 lacking_field table row = lacking field_key field_lacks (map field_view table) (plains_view row)
 
--- a row has for each field what holds where nothing is written
+-- a row has for each field what holds if nothing is written
 abbrev pub AreFieldDefaults : List Field → List plains.Plain → Type 0
 AreFieldDefaults table row = plains_view row ≡ map field_default (map field_view table)
 
@@ -258,7 +258,7 @@ read_fields spot table others tree = fields_at (map field_view table) (others_vi
 abbrev pub read_maps : Spot → List Field → Others → Bounds → Tree → Result (List Fields) RowsFault
 read_maps spot table others bounds tree = nodes_at (fields_at (map field_view table) (others_view others)) (bounds_view bounds) (spot_view spot) (node_view tree)
 
--- the maps in a list, where each has a name of its own
+-- the maps in a list, if each has a name of its own
 abbrev pub read_named_maps : Spot → List Field → Others → Bounds → Tree → Result (List Fields) RowsFault
 read_named_maps spot table others bounds tree = named_maps_at (map field_view table) (others_view others) (bounds_view bounds) (spot_view spot) (node_view tree)
 
@@ -292,11 +292,11 @@ FindsSetting found table key = found_view setting_view found ≡ found_in settin
 abbrev pub lacking_setting : List Setting → List values.Value → Option (List ℕ)
 lacking_setting table row = lacking setting_key setting_lacks (table_view table) (values_view row)
 
--- a row has for each setting what holds where nothing is written
+-- a row has for each setting what holds if nothing is written
 abbrev pub AreSettingDefaults : List Setting → List values.Value → Type 0
 AreSettingDefaults table row = values_view row ≡ map setting_default (table_view table)
 
--- a row has in it what holds where nothing is written, in no order, and it lacks this key first, or none
+-- a row has in it what holds if nothing is written, in no order, and it lacks this key first, or none
 abbrev pub IsBareRow : List Setting → EntryRow → Option (Bor (List ℕ)) → Type 0
 IsBareRow table row lacks =
     AreSettingDefaults table (row_values row) × (row.order.items ≡ []) × (option_slice (λ key. key) lacks ≡ lacking_setting table (row_values row))

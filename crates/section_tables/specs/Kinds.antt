@@ -21,7 +21,7 @@ abbrev pub fits : Bounds → ℕ → Bool
 fits (at_least least) n = nat_le least n
 fits (between least greatest) n = nat_le least n && nat_le n greatest
 
--- what holds where nothing is written, or that something has to be
+-- what holds if nothing is written, or that something has to be
 pub data Absent (V : Type 0) : Type 0 where
   required : Absent V
   default : V → Absent V
@@ -36,9 +36,10 @@ pub record KeyRule (K V : Type 0) : Type 0 where
 abbrev pub Field : Type 0
 Field = KeyRule Scalar Plain
 
--- What the value of a setting is to be: a text; a list of names, of posted events or of handled events; steps, each a list of handled events; a list of maps, in which other keys are ignored or not;
--- such a list in which the first field of each map is its name, and no two have the same one;
--- or a map of names, each with a map, or with one text that stands for the value of the field at this place.
+-- What the value of a setting is to be: a text; a list of names, of posted events or of handled events; steps, each a
+-- list of handled events; a list of maps, in which other keys are ignored or not; such a list in which the first field
+-- of each map is its name, and no two have the same one; or a map of names, each with a map, or with one text that
+-- stands for the value of the field at this place.
 pub data Kind : Type 0 where
   single : Scalar → Kind
   name_list : Bounds → Kind
@@ -57,8 +58,8 @@ pub record PlayerKinds : Type 0 where
   pub key : Scalar
   pub value : Kind
 
--- how a section is written: entries with the settings of a table, none of which has one of these names; those of a player;
--- one entry that is the section itself; or a list of names
+-- how a section is written: entries with the settings of a table, none of which has one of these names; those of a
+-- player; one entry that is the section itself; or a list of names
 pub data Shape : Type 0 where
   by_entries : List (List ℕ) → List Setting → Shape
   by_players : PlayerKinds → Shape

@@ -221,10 +221,10 @@ names_at most text p = listed_at written_in most (at_least 0) (key_spot text p) 
 
 -- ---- what reading finds
 
--- it is read, or it fails where what is above the limits
+-- it is read, or something is above the limits, and it fails
 abbrev pub IsReadOr : {B : Type 0} → Type 0 → Result B RowsFault → B → Type 0
 IsReadOr Above r y = (r ≡ Ok y) ⊎ (Above × (is_ok r ≡ false))
 
--- so it is where lists may have more items than the limit
+-- so it is if lists may have more items than the limit
 abbrev pub IsReadOrLong : {B : Type 0} → ℕ → Result B RowsFault → B → Type 0
 IsReadOrLong longest = IsReadOr (most_items < longest)

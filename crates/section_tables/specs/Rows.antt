@@ -12,7 +12,7 @@ pub record Handled : Type 0 where
   pub line : ℕ
   pub event : Event
 
--- what one text says, or nothing where nothing is written
+-- what one text says, or nothing if nothing is written
 pub data Plain : Type 0 where
   nothing : Plain
   flag : Bool → Plain
@@ -33,7 +33,8 @@ pub record Keyed : Type 0 where
   pub name : Written
   pub values : List Plain
 
--- the value of a setting: what one text says, names, names of events that are posted, handled events, steps of handled events, maps, or names with values
+-- the value of a setting: what one text says, names, names of events that are posted, handled events, steps of handled
+-- events, maps, or names with values
 pub data Value : Type 0 where
   one : Plain → Value
   names : List Written → Value

@@ -12,7 +12,7 @@ abbrev pub found_in : {T : Type 0} → (T → List ℕ) → List ℕ → List T 
 found_in key_of key [] = None
 found_in key_of key (s ∷ ss) = if bytes_eq (key_of s) key then Some (0, s) else behind_one (found_in key_of key ss)
 
--- what is found, where the first row has the number i
+-- what is found, if the first row has the number i
 abbrev pub shifted : {T : Type 0} → ℕ → Option (ℕ × T) → Option (ℕ × T)
 shifted i None = None
 shifted i (Some p) = Some (i + p.0, p.1)
@@ -23,7 +23,7 @@ setting_key s = s.key
 abbrev pub field_key : Field → List ℕ
 field_key f = f.key
 
--- what holds where nothing is written; nothing where something has to be
+-- what holds if nothing is written; nothing if something has to be
 abbrev pub plain_default : Absent Plain → Plain
 plain_default required = nothing
 plain_default (default x) = x
@@ -50,7 +50,7 @@ value_lacks _ _ = false
 abbrev pub field_lacks : Field → Plain → Bool
 field_lacks f = plain_lacks f.absent
 
--- the same, where there may be no value
+-- the same, when there may be no value
 abbrev pub lacks_if : Absent Value → Option Value → Bool
 lacks_if absent (Some v) = value_lacks absent v
 lacks_if absent None = false

@@ -9,12 +9,12 @@ use crate::table::Setting;
 use std::alloc::{AllocError, Global};
 use std::rc::Rc;
 
-/// A table, with what its section's entries share: what holds where nothing is written, and the row
+/// A table, with what its section's entries share: what holds if nothing is written, and the row
 /// of an entry in which nothing is.
 #[derive(Drop)]
 pub struct Bare<'t> {
     pub table: &'t [Setting],
-    /// What holds where nothing is written: a value for each setting.
+    /// What holds if nothing is written: a value for each setting.
     pub values: Rc<Vec<Value>>,
     pub row: Rc<EntryRow>,
     /// The key of the first setting that has to be written.

@@ -27,7 +27,7 @@ impl EntryRow {
 
 impl Entry {
     /// Its value of the setting at this place in the section's table: what is written, or what holds
-    /// where nothing is. There is none past the end of the table.
+    /// if nothing is. There is none past the end of the table.
     pub fn value(&self, place: usize) -> Option<&Value>
         ensures { value_option_view result ≡ slice_get (entry_view self.now).values place }
     {

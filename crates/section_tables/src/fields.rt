@@ -195,7 +195,7 @@ pub fn maps(
 
 // ---- maps with their own names
 
-// The name that the first value of a map is; the empty text where it is none.
+// The name that the first value of a map is; the empty text if it is none.
 fn own_name(map: &Fields) -> &[u8]
     ensures { result.now ≡ name_of_map map.now }
 {
@@ -252,7 +252,7 @@ pub fn named_maps(
 
 // ---- maps of names
 
-// A row with one value in it, where the table has that place.
+// A row with one value in it, if the table has that place.
 fn short_row(
     alloc: Global,
     table: &[Field],
@@ -316,7 +316,7 @@ fn keyed(
 }
 
 /// The names of a map with the values that belong to each; or the first fault, which is `Limit` at
-/// the spot where the map has more than 1,024 pairs.
+/// the spot if the map has more than 1,024 pairs.
 #[tactic(auto, unfolding(crate::specs::Reading::keyed_list_at))]
 pub fn keyed_list(
     alloc: Global,

@@ -16,7 +16,7 @@ use config_faults::{ConfigFault, FaultKind, spot_of};
 use std::alloc::Global;
 use yaml_subset::tree::{Key, Tree};
 
-// An entry of a player; or a fault: BadValue where its key does not say what it is to say, or
+// An entry of a player; or a fault: BadValue if its key does not say what it is to say, or
 // that of its value.
 #[tactic(auto, unfolding(crate::specs::Reading::player_at))]
 fn player(
@@ -74,7 +74,7 @@ pub fn players(
     // It has no others, however many items its lists may have.
     ensures only { IfOk result (λ xs. (longest : ℕ) (rows : List Row) → ArePlayersOf longest kinds pair.now rows → rows ≡ players_view xs) }
 
-    // A player that is refused, but for want of memory, has entries only where a list is too long.
+    // A player that is refused, but for want of memory, has entries only if a list is too long.
     ensures refused { IfErr result (λ e. e ≢ ConfigFault.NoMemory → (longest : ℕ) (rows : List Row) → ArePlayersOf longest kinds pair.now rows → 1024 < longest) }
 
     // Which fault it is, with its line and key, is what reading from the first entry gives.

@@ -74,8 +74,8 @@ pub fn is_empty(node: &Tree) -> bool
     node.as_scalar().is_some_and(|text| text.is_empty())
 }
 
-// The items of a list that is no YAML list. A fault stands at the spot: Limit where there are too
-// many, whatever they are; BadValue where the value is no list, or the bounds do not let it have so
+// The items of a list that is no YAML list. A fault stands at the spot: Limit if there are too
+// many, whatever they are; BadValue if the value is no list, or the bounds do not let it have so
 // many.
 #[tactic(auto, unfolding(crate::specs::Reading::list_items_at))]
 fn text_items<'a>(

@@ -85,8 +85,8 @@ pub fn pairs<'a, 't: 'a>(
     }
 }
 
-/// The pairs of a mapping that counts as a list. A fault is at the spot: BadValue where it is no
-/// mapping, or `Limit` where it has more than 1,024 pairs, whatever they are.
+/// The pairs of a mapping that counts as a list. A fault is at the spot: BadValue if it is no
+/// mapping, or `Limit` if it has more than 1,024 pairs, whatever they are.
 #[tactic(auto, unfolding(crate::specs::Reading::few_pairs_at))]
 pub fn few_pairs<'a, 't: 'a>(
     alloc: Global,

@@ -99,7 +99,7 @@ pub struct EntryRow {
     pub(crate) written: Vec<Value>,
     /// Their places in the table.
     pub(crate) order: Vec<usize>,
-    /// What holds where nothing is written: a value for each setting of the table.
+    /// What holds if nothing is written: a value for each setting of the table.
     pub(crate) bare: Rc<Vec<Value>>,
     ghost placed: { length order.items ≡ length written.items },
 }

@@ -76,7 +76,7 @@ pub fn word_in(words: &'static [&'static [u8]], text: &[u8]) -> Option<&'static 
     None
 }
 
-// The name that a text at a line says; or nothing where it says none.
+// The name that a text at a line says; or nothing if it says none.
 fn plain_name(alloc: Global, line: u32, text: &[u8]) -> Result<Option<Plain>, AllocError>
     ensures { IfOk result (λ value. IsPlainSaid value (name_said line text.now)) }
 {
@@ -87,7 +87,7 @@ fn plain_name(alloc: Global, line: u32, text: &[u8]) -> Result<Option<Plain>, Al
     Ok(Some(Plain::Name(Box::new(alloc, name)?)))
 }
 
-// The handled event that a text at a line says; or nothing where it says none.
+// The handled event that a text at a line says; or nothing if it says none.
 fn plain_event(alloc: Global, line: u32, text: &[u8]) -> Result<Option<Plain>, AllocError>
     ensures { IfOk result (λ value. IsPlainSaid value (event_said line text.now)) }
 {
@@ -98,7 +98,7 @@ fn plain_event(alloc: Global, line: u32, text: &[u8]) -> Result<Option<Plain>, A
     Ok(Some(Plain::Event(Box::new(alloc, handler)?)))
 }
 
-/// What a text at a line says; or nothing where it does not say what it is to say.
+/// What a text at a line says; or nothing if it does not say what it is to say.
 #[tactic(auto, unfolding(crate::specs::Reading::scalar_of))]
 pub fn scalar(
     alloc: Global,

@@ -168,7 +168,7 @@ pub fn entry(
     // The pair is no other, however many items its lists may have.
     ensures only { IfOk result (λ x. (longest : ℕ) (e : Row) → IsEntryOf longest table.now pair.now e → e ≡ entry_view x) }
 
-    // A pair that is refused, but for want of memory, is an entry only where a list is too long.
+    // A pair that is refused, but for want of memory, is an entry only if a list is too long.
     ensures refused { IfErr result (λ e. e ≢ ConfigFault.NoMemory → (longest : ℕ) (row : Row) → IsEntryOf longest table.now pair.now row → 1024 < longest) }
 
     // Which fault it is, with its line and key, is what reading from the first setting gives.
@@ -198,7 +198,7 @@ pub fn entries(
     // The section has no others, however many items its lists may have.
     ensures only { IfOk result (λ xs. (longest : ℕ) (es : List Row) → AreEntriesOf longest barred table.now pair.now es → es ≡ entries_view xs) }
 
-    // A section that is refused, but for want of memory, has entries only where a list is too long.
+    // A section that is refused, but for want of memory, has entries only if a list is too long.
     ensures refused { IfErr result (λ e. e ≢ ConfigFault.NoMemory → (longest : ℕ) (es : List Row) → AreEntriesOf longest barred table.now pair.now es → 1024 < longest) }
 
     // Which fault it is, with its line and key, is what reading from the first entry gives.
@@ -227,7 +227,7 @@ pub fn name_list(
     // The section lists no others, however many items it may have.
     ensures only { IfOk result (λ xs. (longest : ℕ) (ws : List Written) → AreNamesOf longest pair.now ws → ws ≡ names_view xs) }
 
-    // A section that is refused, but for want of memory, lists names only where the list is too long.
+    // A section that is refused, but for want of memory, lists names only if the list is too long.
     ensures refused { IfErr result (λ e. e ≢ ConfigFault.NoMemory → (longest : ℕ) (ws : List Written) → AreNamesOf longest pair.now ws → most < longest) }
 
     // Which fault it is is what reading the list gives.

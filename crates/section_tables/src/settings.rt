@@ -26,7 +26,7 @@ use yaml_subset::tree::{Key, Tree};
 
 // ---- keys
 
-/// The settings that every entry takes, and at whose values nothing looks where the section's
+/// The settings that every entry takes, and at whose values nothing looks if the section's
 /// table does not have them.
 const IGNORED: [&[u8]; 11] = [
     b"number",
@@ -69,7 +69,7 @@ fn setting_of<'t>(table: &'t [Setting], key: &[u8]) -> Option<(usize, &'t Settin
     None
 }
 
-// ---- what holds where nothing is written
+// ---- what holds if nothing is written
 
 // This name alone.
 fn default_name(alloc: Global, text: &[u8]) -> Result<Vec<Name>, AllocError>
@@ -96,7 +96,7 @@ fn default_event(alloc: Global, name: &[u8]) -> Result<Vec<Handler>, AllocError>
     Ok(handlers)
 }
 
-// What holds where a setting is not written.
+// What holds if a setting is not written.
 fn default_value(alloc: Global, without: Without) -> Result<Value, AllocError>
     ensures { IfOk result (λ value. value_view value ≡ value_default (without_view without)) }
 {
@@ -140,7 +140,7 @@ fn lacks(without: Without, value: &Value) -> bool
     }
 }
 
-// The same, where there may be no value.
+// The same, when there may be no value.
 fn lacks_at(without: Without, value: Option<&Value>) -> bool
     ensures { result ≡ lacks_if (without_view without) (value_option_view value.entry) }
 {

@@ -7,7 +7,7 @@ use Rattle.device_objects.specs.Bank.{complete_lists, gone_on, hit_lists}
 abbrev pub states_after_hit : BankSettings → (shot state : ℕ) → (states : List ℕ) → List ℕ
 states_after_hit b shot state states = if b.advance_on_hit then gone_on b shot state states else states
 
--- what the hit runs: the lists of the hit, and where it has moved the shot, those of a group that is complete
+-- what the hit runs: the lists of the hit, and if it has moved the shot, those of a group that is complete
 abbrev pub lists_of_hit : BankSettings → (shot state : ℕ) → (states : List ℕ) → List ℕ
 lists_of_hit b shot state states =
     if b.advance_on_hit then hit_lists b shot state ++ complete_lists b state (gone_on b shot state states) else hit_lists b shot state

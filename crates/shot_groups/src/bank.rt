@@ -106,7 +106,7 @@ pub(crate) fn is_within(settings: &BankSettings) -> bool
     settings.shots <= 16 && settings.last_state <= 15
 }
 
-/// A shot of this number is hit, which does nothing where it is disabled.
+/// A shot of this number is hit, which does nothing if it is disabled.
 fn take_hit(settings: &BankSettings, slot: &mut BankSlot, shot: usize) -> Outcome
     requires { IsWithinLimits (kinds.Bank settings.now) }
     ensures slot { slot.new ≡ (slot_step settings.now (acts.Hit shot) slot.old).0 }

@@ -35,7 +35,7 @@ pub struct MaskBankKind {
 pub struct MaskSlot {
     /// The game to which it belongs, as in [`BankSlot`].
     game: u64,
-    /// Bit i is set where shot i is enabled.
+    /// Bit i is set if shot i is enabled.
     enabled: u16,
     /// The state of each shot.
     states: [u8; 16],
@@ -181,7 +181,7 @@ fn is_enabled(enabled: u16, shot: usize) -> bool
     is_set(enabled, shot)
 }
 
-/// A shot of this number is hit, which does nothing where it is disabled.
+/// A shot of this number is hit, which does nothing if it is disabled.
 fn take_hit(settings: &BankSettings, slot: &mut MaskSlot, shot: usize) -> Outcome
     requires { IsWithinLimits (kinds.Bank settings.now) }
     ensures slot { slot_of slot.new ≡ (slot_step settings.now (acts.Hit shot) (slot_of slot.old)).0 }

@@ -1,4 +1,5 @@
--- What each call does with the due moments: a change arms its own switch alone, and later than its moment; what is accepted is not due any more.
+-- What each call does with the due moments: a change arms its own switch alone, and later than its moment; what is
+-- accepted is not due any more.
 use Rattle.std.proofs.Common.{rules, ◌≡◌, ◌≢◌, ℕ, ◌<◌, ◌≤◌, ◌⊎◌, Bool, Some, None, List, length, map, slice_set, slice_index_or, refl, ap, sym, subst, inl, inr}
 use Rattle.std.proofs.{lemmas.{Bool.{cases_lt, cases_eq}, Option.none-some}, Math.ListN.get_or-map}
 use Rattle.std.proofs.lemmas.List.{get_or-set_same, get_or-set_other, get_or_past, set_past}
@@ -29,11 +30,11 @@ module _ (s : SwitchesView) (set : SwitchId) (x : SwitchState) where
   pub due-set : (n : SwitchId) (at : ℕ) → due_of (set_state set x s) n ≡ Some at → (due_of s n ≡ Some at) ⊎ ((n.0 ≡ set.0) × (x.due ≡ Some at))
   due-set n at is = search (rules, cases_eq, due-other, cases_lt, slice_index_or, slice_set, state-same, set-past)
 
-  -- it is not due where the new state is not
+  -- it is not due if the new state is not
   pub due-none : x.due ≡ None → due_of (set_state set x s) set ≡ None
   due-none none = search (rules, cases_lt, state-same, set-past, get_or_past)
 
-  -- where the new state is due as the old one was, all are
+  -- if the new state is due as the old one was, all are
   pub due-kept : x.due ≡ due_of s set → (n : SwitchId) → due_of (set_state set x s) n ≡ due_of s n
   due-kept kept n = search (rules, cases_eq, due-other, cases_lt, slice_index_or, slice_set, state-same, set-past)
 

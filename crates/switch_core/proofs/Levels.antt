@@ -9,7 +9,8 @@ use Rattle.switch_core.specs.AcceptedLevel.{RawChange, delay_of, standing, is_de
 filter-cond : (f : RawChange → Bool) (b : Bool) (xs ys : List RawChange) → filter f (cond b xs ys) ≡ cond b (filter f xs) (filter f ys)
 filter-cond f b xs ys = search rules
 
--- An older raw change stays among those that stand (b) just where it is over at the later one (n), and then it is over afterwards, too (o).
+-- An older raw change stays among those that stand (b) exactly if it is over at the later one (n), and then it is over
+-- afterwards, too (o).
 kept : (p : RawChange) (fs gs end : List RawChange) (b n o : Bool) → fs ≡ gs ++ end → (n ≡ true → o ≡ true) → cond (b && n) (cond o (p ∷ fs) fs) fs ≡ cond b (cond n (p ∷ gs) gs) gs ++ end
 kept p fs gs end b n o is over = search rules
 

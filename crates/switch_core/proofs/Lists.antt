@@ -83,7 +83,7 @@ module _ (kinds : List SwitchKind) (states : List State) (switch : SwitchId) (ki
     reported-made : reported (set_state switch (make (kind_at (lists_view kinds states) switch) (state_at (lists_view kinds states) switch)) (lists_view kinds states)) switch ≡ record { switch = switch; active = new.active }
     reported-made = search (rules, length-map, slice_index_or, slice_set, get_or-set_same, makes)
 
-  -- what is due next is the same, where the new state is due as the old one was
+  -- what is due next is the same, if the new state is due as the old one was
   pub set-next : new.due ≡ old.due → next_due (lists_view kinds (slice_set states switch.0 new)) ≡ next_due (lists_view kinds states)
   set-next same =
       let s = lists_view kinds states in

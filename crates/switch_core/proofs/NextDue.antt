@@ -28,14 +28,14 @@ none-cons : (x : SwitchState) (xs : List SwitchState) → x.due ≡ None → ((j
 none-cons x xs here rest j = search rules
 
 module _ (k : ℕ) (x : SwitchState) (xs : List SwitchState) where
-  -- the first of the rest is the first of all, where the state before them is not due or due later
+  -- the first of the rest is the first of all, if the state before them is not due or due later
   least-rest : (at n : ℕ) → ((moment : ℕ) → x.due ≡ Some moment → at < moment) → IsFirst (k + 1) xs at n → (j moment : ℕ) → due_in (x ∷ xs) j ≡ Some moment → (at < moment) ⊎ ((at ≡ moment) × (n ≤ k + j))
   least-rest at n later f j moment is = search rules
 
   first-rest : (at n : ℕ) → ((moment : ℕ) → x.due ≡ Some moment → at < moment) → IsFirst (k + 1) xs at n → IsFirst k (x ∷ xs) at n
   first-rest at n later f = let is = f.is_at in record { place = suc f.place; is_at = omega arith; due = f.due; least = least-rest at n later f }
 
-  -- the state before the rest is the first, where none of them is due earlier
+  -- the state before the rest is the first, if none of them is due earlier
   least-here : (at : ℕ) → x.due ≡ Some at → ((j moment : ℕ) → due_in xs j ≡ Some moment → at ≤ moment) → (j moment : ℕ) → due_in (x ∷ xs) j ≡ Some moment → (at < moment) ⊎ ((at ≡ moment) × (k ≤ k + j))
   least-here at here later j moment is = search rules
 

@@ -53,7 +53,7 @@ module _ (s : SwitchesView) (n : SwitchId) where
   pub accept-other_level : (at : ℕ) → AreRead s → n.0 < length s.states → due_of s n ≡ Some at → active_at (accept n s) n ≡ not (active_at s n)
   accept-other_level at h within due = search rules
 
-  -- where a change is not accepted at once, all levels are as before
+  -- if a change is not accepted at once, all levels are as before
   pub change-same_levels : (level : Bool) (now : ℕ) → is_taken (kind_at s n) level (state_at s n) ≡ false → (m : SwitchId)
       → active_at (after_change n level now s) m ≡ active_at s m
   change-same_levels level now is m =

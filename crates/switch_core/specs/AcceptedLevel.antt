@@ -10,7 +10,7 @@ pub record RawChange : Type 0 where
   pub at : ℕ
   pub level : Bool
 
--- how long a raw change has to stand: 5 ms, and not at all where the switch is quick
+-- how long a raw change has to stand: 5 ms, and not at all if the switch is quick
 abbrev pub delay_of : SwitchKind → ℕ
 delay_of kind = if kind.quick then 0 else 5
 

@@ -27,7 +27,7 @@ abbrev pub last_moment : ℕ → List SwitchCall → ℕ
 last_moment moment [] = moment
 last_moment moment (call ∷ calls) = last_moment (call_moment call) calls
 
--- A change comes where nothing is due at or before its moment; what is due next is accepted at its moment.
+-- A change comes when nothing is due at or before its moment; what is due next is accepted at its moment.
 abbrev pub IsInTime : SwitchesView → SwitchCall → Type 0
 IsInTime s (Change switch level now) = IsNothingDueBy s now
 IsInTime s (Fire now) = (switch : SwitchId) × IsNextDue s now switch
@@ -37,7 +37,7 @@ abbrev pub AreInTime : ℕ → SwitchesView → List SwitchCall → Type 0
 AreInTime moment s [] = Unit {0}
 AreInTime moment s (call ∷ calls) = (moment ≤ call_moment call) × IsInTime s call × AreInTime (call_moment call) (after_call call s) calls
 
--- a switch's raw changes among calls, where its raw level before them is this
+-- a switch's raw changes among calls, if its raw level before them is this
 abbrev pub raw_changes : SwitchId → Bool → List SwitchCall → List RawChange
 raw_changes switch raw [] = []
 raw_changes switch raw (Change other level now ∷ calls) =

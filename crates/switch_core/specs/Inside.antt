@@ -7,7 +7,7 @@ use Rattle.switch_core.specs.Switches.{SwitchesView, IsComplete, no_kind, due_as
 
 -- ---- those that wait
 
--- a switch that is due, where there is one, in front of others
+-- a switch that is due, if there is one, in front of others
 abbrev pub in_front : Option (ℕ × SwitchId) → List (ℕ × SwitchId) → List (ℕ × SwitchId)
 in_front None others = others
 in_front (Some d) others = d ∷ others
@@ -22,7 +22,8 @@ abbrev pub soonest : List (ℕ × SwitchId) → Option (ℕ × SwitchId)
 soonest [] = None
 soonest (d ∷ others) = sooner (Some d) (soonest others)
 
--- The list has the switches that are due by these states. Among the states is that of the switch, which is due at this moment, or not at all.
+-- The list has the switches that are due by these states. Among the states is that of the switch, which is due at this
+-- moment, or not at all.
 pub record IsWaiting (switch : SwitchId) (due : Option ℕ) (states : List SwitchState) (waiting : List (ℕ × SwitchId)) : Type 0 where
   pub within : switch.0 < length states
   pub due_is : (slice_index_or states switch.0 (idle no_kind)).due ≡ due
@@ -30,7 +31,7 @@ pub record IsWaiting (switch : SwitchId) (due : Option ℕ) (states : List Switc
 
 -- ---- what is kept
 
--- Every switch has a state, those that are due are listed where there is room for all, and this is what is due next.
+-- Every switch has a state, those that are due are listed if there is room for all, and this is what is due next.
 pub record IsKept (next : Option (ℕ × SwitchId)) (waiting : Vec (ℕ × SwitchId) Global) (s : SwitchesView) : Type 0 where
   pub complete : IsComplete s
   pub next_is : next ≡ next_due s

@@ -17,7 +17,7 @@ pub record IsComplete (s : SwitchesView) : Type 0 where
 
 -- ---- one switch among them
 
--- in place of a kind where there is no switch
+-- in place of a kind if there is no switch
 abbrev pub no_kind : SwitchKind
 no_kind = no_switch.kind
 
@@ -54,7 +54,7 @@ all_idle plan = record { kinds = map (λ s. s.kind) plan.switches; states = map 
 abbrev pub after_change : SwitchId → Bool → ℕ → SwitchesView → SwitchesView
 after_change switch level now s = set_state switch (changed (kind_at s switch) now level (state_at s switch)) s
 
--- The change is reported where it is accepted at once.
+-- The change is reported if it is accepted at once.
 abbrev pub reported_by_change : SwitchId → Bool → ℕ → SwitchesView → Option Change
 reported_by_change switch level now s =
     if is_taken (kind_at s switch) level (state_at s switch) then Some (reported (after_change switch level now s) switch) else None

@@ -70,7 +70,7 @@ impl State {
         }
     }
 
-    /// The state after a change to another raw level, which waits where it says something new.
+    /// The state after a change to another raw level, which waits if it says something new.
     fn awaited(self, kind: SwitchKind, level: bool, now: u64) -> State
         requires { now < 2 ^ 40 }
         ensures { state_view result ≡ awaited kind now level (state_view self) }

@@ -24,7 +24,7 @@ pub struct Switches {
     /// switches. Mostly there are few, so that what is due next is found without a look at the
     /// states of all switches.
     waiting: Vec<(u64, SwitchId)>,
-    /// What is due next. It is looked for only where a due moment changes.
+    /// What is due next. It is looked for only when a due moment changes.
     next: Option<(u64, SwitchId)>,
 }
 
@@ -154,7 +154,7 @@ fn set_due(waiting: &mut Vec<(u64, SwitchId)>, switch: SwitchId, was: Option<u64
     put_in(waiting, at, switch, due);
 }
 
-/// Takes out the switch at a place, where it was due.
+/// Takes out the switch at a place, if it was due.
 fn take_out(waiting: &mut Vec<(u64, SwitchId)>, at: usize, was: Option<u64>)
     requires { is_some was ≡ true → at < length waiting.old.items }
     ensures items { waiting.new.items ≡ (if is_some was then remove waiting.old.items at else waiting.old.items) }
@@ -165,7 +165,7 @@ fn take_out(waiting: &mut Vec<(u64, SwitchId)>, at: usize, was: Option<u64>)
     }
 }
 
-/// Puts in a switch at a place, where it is due. There has to be room for it.
+/// Puts in a switch at a place, if it is due. There has to be room for it.
 fn put_in(waiting: &mut Vec<(u64, SwitchId)>, at: usize, switch: SwitchId, due: Option<u64>)
     requires place { at ≤ length waiting.old.items }
     requires room { length waiting.old.items < vec_capacity waiting.old }

@@ -14,12 +14,12 @@ pub placed-less : (at less : ℕ) (text a b : List ℕ) → at ≤ length a → 
 placed-less at less text a b within few placed =
     sym (take-take (at + less) (at + length text) b (omega arith)) ∙ ap (take (at + less)) placed.text_is ∙ take-after at less text a within
 
--- where the page alone grows by the text
+-- if the page alone grows by the text
 pub puts-on-page : (written : Option (List ℕ)) (page more text : List ℕ) → more ≡ page ++ text → Puts written page written more text
 puts-on-page None page more text is = tt
 puts-on-page (Some xs) page more text is = ap (λ l. xs ++ l) is ∙ sym (append_assoc xs page text)
 
--- Where a page that was empty at first has grown, and is written in the end, the text that was put on it is written.
+-- If a page that was empty at first has grown, and is written in the end, the text that was put on it is written.
 pub written-out : (first grown last : Option (List ℕ)) (empty page text : List ℕ) → empty ≡ [] → Appends grown last page → Puts first empty grown page text → Appends first last text
 written-out None grown last empty page text nothing out puts = tt
 written-out (Some xs) None last empty page text nothing out puts = absurd puts

@@ -18,7 +18,7 @@ switch_tail_named name active = codes " switch " ++ switch_text name active
 abbrev pub switch_tail : PlanView → SwitchId → Bool → List ℕ
 switch_tail plan s active = switch_tail_named (switch_at plan s).name active
 
--- both of a switch: where it is inactive, and active
+-- both of a switch: when it is inactive, and active
 abbrev pub switch_tails_of : PlanSwitch → SwitchTails
 switch_tails_of s = record { inactive = switch_tail_named s.name false; active = switch_tail_named s.name true }
 

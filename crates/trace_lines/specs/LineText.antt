@@ -83,10 +83,10 @@ start_text plan line = decimal line.moment ++ codes " " ++ owner_text plan line.
 abbrev pub line_text : PlanView → Line → List ℕ
 line_text plan line = start_text plan line ++ rest_text plan line.happening
 
--- `MOMENT machine off NAME`, and LF: at the moment the coil was put off
+-- `MOMENT machine off NAME`, and LF: at the moment the coil was turned off
 abbrev pub off_text : PlanView → ℕ → CoilId → List ℕ
 off_text plan moment coil = decimal moment ++ codes " machine off " ++ (coil_at plan coil).name ++ 10 ∷ []
 
--- these coils were put off, in order
+-- these coils were turned off, in order
 abbrev pub off_texts : PlanView → ℕ → List CoilId → List ℕ
 off_texts plan moment coils = flat_map (off_text plan moment) coils

@@ -63,7 +63,7 @@ impl Front {
         }
     }
 
-    /// As `turn_to`, and slower where it is of this moment already. Nearly all lines are of the moment
+    /// As `turn_to`, and slower if it is of this moment already. Nearly all lines are of the moment
     /// of the line before.
     #[cold]
     #[inline(never)]

@@ -12,15 +12,15 @@ use std::simd::Simd;
 /// How many bytes a page has.
 const PAGE: usize = 4096;
 
-/// How many bytes of a phrase are copied where it has no more, as most have.
+/// How many bytes of a phrase are copied if it has no more, as most have.
 const SHORT: usize = 32;
 
 /// The writer failed.
 #[derive(Clone, Copy)]
 pub struct WriteFailed;
 
-/// Text that is on its way to a writer: 4 KiB of it at most. It is written where there is no more room
-/// on the page, and by `write_out`. A short text is put on a page in some twenty instructions, where a
+/// Text that is on its way to a writer: 4 KiB of it at most. It is written when there is no more room
+/// on the page, and by `write_out`. A short text is put on a page in some twenty instructions, while a
 /// write takes more than twice as many. What is on a page that is dropped is lost.
 #[derive(Drop)]
 pub struct Page {

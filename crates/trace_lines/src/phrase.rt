@@ -9,7 +9,7 @@ pub const PHRASE: usize = 64;
 /// A text, made to be put on a page: its start is copied at once, whatever its length.
 #[derive(Drop)]
 pub struct Phrase {
-    /// The first bytes of the text, and others after them where it is short.
+    /// The first bytes of the text, and others after them if it is short.
     start: [u8; PHRASE],
     /// How many of them are of the text.
     len: usize,
@@ -44,7 +44,7 @@ impl Phrase {
         Ok(Phrase { start, len, rest })
     }
 
-    /// The start, how many of its bytes are of the text, and the text after them: none where the
+    /// The start, how many of its bytes are of the text, and the text after them: none if the
     /// start is not full.
     pub fn parts(&self) -> (&[u8; PHRASE], usize, &[u8])
         ensures text { self.now ≡ take result.1 result.0.now ++ result.2.now }

@@ -69,14 +69,14 @@ impl<'p> PrintedPlan<'p> {
         self.plan
     }
 
-    /// ` event NAME`, and LF: none where the plan lacks the event.
+    /// ` event NAME`, and LF: none if the plan lacks the event.
     pub(crate) fn event_tail(&self, event: EventId) -> Option<&Phrase>
         ensures { MatchOption result (event_tail self.now event ≡ event_tail_named []) (λ tail. tail.now ≡ event_tail self.now event) }
     {
         self.event_tails.get(event.0 as usize)
     }
 
-    /// ` switch NAME active`, or `inactive`, and LF: none where the plan lacks the switch.
+    /// ` switch NAME active`, or `inactive`, and LF: none if the plan lacks the switch.
     pub(crate) fn switch_tail(&self, switch: SwitchId, active: bool) -> Option<&Phrase>
         ensures { MatchOption result (switch_tail self.now switch active ≡ switch_tail_named [] active) (λ tail. tail.now ≡ switch_tail self.now switch active) }
     {
@@ -88,7 +88,7 @@ impl<'p> PrintedPlan<'p> {
         }
     }
 
-    /// `NAME `: none where the plan lacks the variable.
+    /// `NAME `: none if the plan lacks the variable.
     pub(crate) fn variable_word(&self, variable: VariableId) -> Option<&Phrase>
         ensures { MatchOption result (variable_word self.now variable ≡ variable_word_named []) (λ word. word.now ≡ variable_word self.now variable) }
     {

@@ -35,7 +35,7 @@ pub fn put_trace<W: Write>(
     }
 }
 
-/// Puts lines on the page, whatever moment the front is of. It is made anew only where a line is of
+/// Puts lines on the page, whatever moment the front is of. It is made anew only if a line is of
 /// another moment than the one before.
 fn put_lines<W: Write>(
     plan: &PrintedPlan<'_>,
@@ -54,7 +54,7 @@ fn put_lines<W: Write>(
     Ok(())
 }
 
-/// Writes that these coils were put off at a moment.
+/// Writes that these coils were turned off at a moment.
 pub fn write_off<W: Write>(
     plan: &Plan,
     moment: u64,
@@ -273,7 +273,7 @@ fn put_number<W: Write>(
     page.put_start::<START, W>(&room[start..], DIGITS + 1 - start, writer)
 }
 
-/// The name of a mode: nothing where the plan lacks it.
+/// The name of a mode: nothing if the plan lacks it.
 fn mode_name(plan: &Plan, mode: ModeId) -> &[u8]
     ensures { result.now ≡ (mode_at plan.now mode).name }
 {
@@ -295,7 +295,7 @@ fn command_name(plan: &Plan, command: Command) -> &[u8]
     }
 }
 
-/// The name of a coil: nothing where the plan lacks it.
+/// The name of a coil: nothing if the plan lacks it.
 fn coil_name(plan: &Plan, coil: CoilId) -> &[u8]
     ensures { result.now ≡ (coil_at plan.now coil).name }
 {

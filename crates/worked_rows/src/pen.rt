@@ -3,7 +3,7 @@
 use std::alloc::Global;
 use std::fmt::{Debug, Display};
 
-/// A text that is written piece by piece. Where an allocation is refused a piece is missing, and the
+/// A text that is written piece by piece. If an allocation is refused a piece is missing, and the
 /// text is lost. So what writes needs no `?`, and no `write!` of many parts, which are both slow to
 /// prove.
 #[derive(Drop)]

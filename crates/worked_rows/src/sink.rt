@@ -34,7 +34,7 @@ impl Sink {
         }
     }
 
-    /// How often it was written to, where it fails, and else 0.
+    /// How often it was written to, if it fails, and else 0.
     pub fn writes(&self) -> u64 {
         match self {
             Sink::Failing { writes, .. } => *writes,
@@ -42,7 +42,7 @@ impl Sink {
         }
     }
 
-    /// Shows how often it was written to, where it fails, or what it kept.
+    /// Shows how often it was written to, if it fails, or what it kept.
     pub fn show(&self, pen: &mut Pen) {
         self.show_kept(pen);
         if let Sink::Failing { writes, .. } = self {

@@ -49,7 +49,7 @@ impl<'a> Source<'a> {
         }
     }
 
-    /// How often it was read. Not counted, and 0, where a read gives all.
+    /// How often it was read. Not counted, and 0, if a read gives all.
     pub fn reads(&self) -> u64 {
         match self {
             Source::Text(_) => 0,
@@ -58,7 +58,7 @@ impl<'a> Source<'a> {
         }
     }
 
-    /// Shows how often it was read, where that is counted.
+    /// Shows how often it was read, if that is counted.
     pub fn show(&self, pen: &mut Pen) {
         if let Source::Text(_) = self {
             return;
@@ -105,7 +105,7 @@ impl Read for Source<'_> {
     }
 }
 
-/// Puts a byte at the front of the buffer, where it has room, and says how many were put.
+/// Puts a byte at the front of the buffer, if it has room, and says how many were put.
 fn put_byte(buf: &mut [u8], byte: u8) -> usize
     ensures { result ≤ length buf.new }
 {

@@ -130,7 +130,7 @@ timers:
 (end)
 ";
 
-/// The text behind this name; the text itself where it names none.
+/// The text behind this name; the text itself if it names none.
 pub fn named(text: &str) -> &str {
     if !text.starts_with('(') {
         return text;

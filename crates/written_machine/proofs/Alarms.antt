@@ -32,7 +32,7 @@ if_some : (P : ℕ → Type 0) (o : Option ℕ) (x : ℕ) → IfSome o P → o �
 if_some P o x h is = subst (λ (o : Option ℕ). IfSome o P) is h
 
 module _ (plan : PlanView) where
-  -- of a device that is called the next state is kept, where there is such a device
+  -- of a device that is called the next state is kept, if there is such a device
   turned-at : (call : Call) (r : RowId) (s : Machine) → (device_at (set_device r (called plan call r s).0 s) r ≡ (called plan call r s).0) ⊎ ((k : ℕ) → devices.part_due (device_at (set_device r (called plan call r s).0 s) r) k ≡ None)
   turned-at call r s = search (rules, cases_lt, get_or-set_same, slice_set, get_or_past, length-set)
 
@@ -155,7 +155,7 @@ switch_due-same s t e n = ap (λ (v : SwitchesView). due_of v n) e
 source-part : (s : Machine) (source : Source) (due : ℕ) → source_due s source ≡ Some due → (k : ℕ) × (part_due s source k ≡ Some due)
 source-part s source due is = search (rules, if_some, devices_are_due_with_their_parts)
 
--- and where nothing is due before a moment, no part is
+-- and if nothing is due before a moment, no part is
 parts-after : (m : ℕ) (s : Machine) → ((source : Source) (due : ℕ) → source_due s source ≡ Some due → m ≤ due)
     → (source : Source) (k due : ℕ) → part_due s source k ≡ Some due → m ≤ due
 parts-after m s h (switch n) k due is = h (switch n) due is

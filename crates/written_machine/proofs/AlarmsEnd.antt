@@ -32,7 +32,7 @@ module _ {X : Type 0} (f g : X → ℕ) (less : (x : X) → g x ≤ f x) where
   total-no_more [] = omega arith
   total-no_more (x ∷ xs) = omega (arith, less x, total-no_more xs)
 
-  -- where one of them is less, so is the whole
+  -- if one of them is less, so is the whole
   total-fewer : (xs : List X) (x : X) → Contains xs x → g x + 1 ≤ f x → total g xs + 1 ≤ total f xs
   total-fewer [] x (k, l, is) fewer = absurd (omega arith)
   total-fewer (y ∷ ys) x (zero, l, is) fewer = search (rules, total-no_more)
@@ -139,7 +139,7 @@ module _ (plan : PlanView) (bound : ℕ) where
       switches = has_states-after plan (Alarm at source) s steps.count (after_alarm at source s) steps.steps going.switches;
     }
 
-    -- where it comes at the moment of the state, one part fewer is due then
+    -- if it comes at the moment of the state, one part fewer is due then
     alarm-fewer : IsValid plan → IsGoing s → at ≡ s.moment → due_now (after_alarm at source s) + 1 ≤ due_now s
     alarm-fewer valid going same =
         let t = after_alarm at source s in
@@ -177,7 +177,7 @@ module _ (plan : PlanView) (bound : ℕ) where
     none-due : (k : ℕ) (s : Machine) → due_by until (next_alarm s) ≡ None → alarms_by plan bound until k s ≡ []
     none-due k s none = search rules
 
-    -- where nothing is due no alarm comes
+    -- if nothing is due, no alarm comes
     pub alarms_by-none : (k : ℕ) (s : Machine) → IsNoAlarmDueBy s until → alarms_by plan bound until k s ≡ []
     alarms_by-none k s nothing = none-due k s (nothing-due_by s until nothing)
 
@@ -278,7 +278,7 @@ module _ (plan : PlanView) (bound : ℕ) where
     pub alarms_by-all : IsNoAlarmDueBy (state_after plan bound (alarms_by plan bound until (most_alarms plan until s) s) s) until
     alarms_by-all = leaves-nothing until valid s going
 
-    -- the next alarm, where it is due by the moment, and then those that are due after it
+    -- the next alarm, if it is due by the moment, and then those that are due after it
     pub alarms_by-next : (at : ℕ) (source : Source) → IsNextAlarm s at source → at ≤ until
         → alarms_by plan bound until (most_alarms plan until s) s
         ≡ Alarm at source ∷ alarms_by plan bound until (most_alarms plan until (settled plan bound (Alarm at source) s)) (settled plan bound (Alarm at source) s)

@@ -110,7 +110,7 @@ module _ (plan : PlanView) (valid : IsValid plan) (right : BookingsAreRight plan
       this_row : one (r.0 == r.0) ≡ 1
       this_row = ap one (eq-eqb r.0 r.0 refl)
 
-      -- where the ledger books nothing
+      -- if the ledger books nothing
       nothing-calm : (t : BallState) → HasBallShape d t → balls_in t ≡ balls_in b → is_away t.eject ≡ is_away b.eject
           → IsCalm plan no_lag (set_device r (states.BallDevice t) s)
       nothing-calm t shape balls away =

@@ -1,5 +1,5 @@
--- Between the calls of devices the ledger says how many balls count in each device, and how many devices are Away to each
--- target. A whole call of a ball device leaves it so, and all that it books may be booked.
+-- Between the calls of devices the ledger says how many balls count in each device, and how many devices are Away to
+-- each target. A whole call of a ball device leaves it so, and all that it books may be booked.
 use Rattle.std.proofs.Common.{rules, ◌≡◌, ℕ, ◌+◌, ◌^◌, ◌<◌, ◌≤◌, ◌&&◌, inl, inr, Bool, true, false, List, length, slice_set, sym, ap, ap₂, ◌∙◌, subst, arith}
 use Rattle.std.specs.List.{count_by}
 use Rattle.std.proofs.lemmas.{Bool.cases_eq, List.Sums.{sum_by-le, count_by-le-length, length-filter}}
@@ -44,8 +44,8 @@ lag_at late target = one (is_target target late)
 abbrev pub limit : ℕ
 limit = 2 ^ 31
 
--- Each ball device has a state, and the ledger a number for each row. So many balls lie in a device as count in it, and so
--- many are on their way to a target as devices are Away to it, up to the lag. No booking was left out.
+-- Each ball device has a state, and the ledger a number for each row. So many balls lie in a device as count in it, and
+-- so many are on their way to a target as devices are Away to it, up to the lag. No booking was left out.
 pub record IsCalm (plan : PlanView) (lag : BallTarget → ℕ) (s : Machine) : Type 0 where
   pub kept : s.bookings_left_out ≡ 0
   pub count : length s.devices ≡ length plan.rows

@@ -39,7 +39,7 @@ module _ (r : RowId) where
   abbrev counts : List BallSwitch → ℕ → Bool
   counts bs i = (get_or bs i empty).counted
 
-  -- 1 where a ball counts at the listener's ball switch, and that is one of the row
+  -- 1 if a ball counts at the listener's ball switch, and that is one of the row
   abbrev counts_at : List BallSwitch → Listener → ℕ
   counts_at bs l = one (l.row.0 == r.0 && counts bs l.switch)
 
@@ -54,7 +54,7 @@ module _ (r : RowId) where
             omega (arith, zero_is, sum_by-cons (λ (x : BallSwitch). cond x.counted 1 0) b bs, none-counts bs (λ i. none (suc i)))
       ]
 
-  -- where one is emptied, one fewer counts if it did
+  -- when one is emptied, one fewer counts if it did
   emptied : (bs : List BallSwitch) (i : ℕ) → count_by (λ b. b.counted) (set bs i empty) + one (counts bs i) ≡ count_by (λ b. b.counted) bs
   emptied bs i = search (rules, cases_lt, sum_by-set, set_past, get_or_past)
 
@@ -64,7 +64,7 @@ module _ (r : RowId) where
   emptied-none : (bs : List BallSwitch) (i : ℕ) → counts (set bs i empty) i ≡ false
   emptied-none bs i = search (rules, cases_lt, get_or-set_same, set_past, get_or_past)
 
-  -- the listeners count each ball once, where each ball that counts has one, and no two are for one ball switch
+  -- the listeners count each ball once, if each ball that counts has one, and no two are for one ball switch
   pub listeners-count : (ls : List Listener) (bs : List BallSwitch) → AllPairs AreApart ls → ((i : ℕ) → counts bs i ≡ true → is_heard r i ls ≡ true)
       → sum_by (counts_at bs) ls ≡ count_by (λ b. b.counted) bs
   listeners-count [] bs apart heard = sym (none-counts bs (λ i is. false≢true (heard i is)))

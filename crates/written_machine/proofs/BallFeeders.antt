@@ -77,7 +77,7 @@ row-counts f p r n within feeds passes =
 -- ---- the first that passes
 
 module _ {X : Type 0} (p : X → Bool) (P : X → Type 0) where
-  -- what is found passes; where nothing is found none passes
+  -- what is found passes; if nothing is found, none passes
   abbrev pub Found : List X → Option X → Type 0
   Found xs None = count_by p xs ≡ 0
   Found xs (Some x) = (p x ≡ true) × P x

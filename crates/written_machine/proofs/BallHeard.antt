@@ -44,8 +44,8 @@ use Rattle.yaml_bytes.proofs.Each.{none_of}
 
 -- ---- one ball switch
 
--- A ball switch follows these changes, and its own switch, unless it is a quick one, is due only after the last that was
--- done at the ball switch.
+-- A ball switch follows these changes, and its own switch, unless it is a quick one, is due only after the last that
+-- was done at the ball switch.
 pub record IsHeard (d : BallSettings) (quick : Bool) (moment : ℕ) (due : Option ℕ) (b : BallSwitch) (changes : List LevelChange) : Type 0 where
   pub since : ℕ
   pub early : since ≤ moment
@@ -110,7 +110,7 @@ module _ (plan : PlanView) where
     pub changes : (n : SwitchId) → LeadTo false (changes_of n ls) (active_at s.switches n)
     pub reads : AreRead s.switches
 
-  -- where no ball switch and no change is new
+  -- if no ball switch and no change is new
   on-heard : (ls ms : List Line) (s t : Machine) → s.moment ≤ t.moment
       → ((n : SwitchId) (at : ℕ) → due_of t.switches n ≡ Some at → (due_of s.switches n ≡ Some at) ⊎ (t.moment < at))
       → ((n : SwitchId) → quick_at n ≡ true → due_of t.switches n ≡ None)
@@ -479,7 +479,7 @@ module _ (plan : PlanView) where
         → IsFollowed (before ++ s.lines) (begin plan stimulus s)
     begin-followed before stimulus s allowed empty_queue h = search (rules, begin-heard, begin-calm, has_states-begin, not_late-begin, allowed-first)
 
-    -- a ball counts at a switch where it counts at its ball switch
+    -- a ball counts at a switch if it counts at its ball switch
     listener-says : (trace : List Line) (s : Machine) → AreHeard trace s → IsCalm plan no_lag s → (at : ℕ) → s.moment ≤ at → IsNoAlarmDueBy s at
         → (r : RowId) (d : BallSettings) → (row_at plan r).settings ≡ kinds.BallDevice d → (n : SwitchId) (i : ℕ) → is_heard r i (listeners_of plan n) ≡ true
         → (ball_switch s r i).counted ≡ is_counted plan d at trace n

@@ -11,7 +11,7 @@ use Rattle.written_machine.specs.Counted.{counts_from, is_late, not_undone, leve
 filter-cond : (f : LevelChange → Bool) (b : Bool) (xs ys : List LevelChange) → filter f (cond b xs ys) ≡ cond b (filter f xs) (filter f ys)
 filter-cond f b xs ys = search rules
 
--- An older change stays among those that stand (b) just where the later one is late (n), and then it counts (o).
+-- An older change stays among those that stand (b) exactly if the later one is late (n), and then it counts (o).
 kept : (p : LevelChange) (fs gs end : List LevelChange) (b n o : Bool) → fs ≡ gs ++ end → (n ≡ true → o ≡ true)
     → cond (b && n) (cond o (p ∷ fs) fs) fs ≡ cond b (cond n (p ∷ gs) gs) gs ++ end
 kept p fs gs end b n o is over = search rules

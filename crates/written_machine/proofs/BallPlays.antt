@@ -51,8 +51,8 @@ pub record IsOther (plan : PlanView) (s t : Machine) : Type 0 where
   pub changes : (n : SwitchId) → changes_of n t.lines ≡ changes_of n s.lines
   pub kept : t.bookings_left_out ≡ s.bookings_left_out
 
--- The machine goes on by what does not concern balls, by such calls of ball devices, by arrivals on the playfield, and by
--- requests for balls.
+-- The machine goes on by what does not concern balls, by such calls of ball devices, by arrivals on the playfield, and
+-- by requests for balls.
 pub data Plays (plan : PlanView) (may : Call → Type 0) : Machine → Machine → Type 0 where
   still : {s t : Machine} → IsOther plan s t → Plays plan may s t
   ball : (call : Call) (r : RowId) (d : BallSettings) (s : Machine) → r.0 < length plan.rows

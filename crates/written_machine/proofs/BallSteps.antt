@@ -1,4 +1,5 @@
--- What each call of a ball device leads to: how many balls count in it then, whether it is Away, and what its lists book.
+-- What each call of a ball device leads to: how many balls count in it then, whether it is Away, and what its lists
+-- book.
 use Rattle.std.proofs.Common.{rules, ◌≡◌, ℕ, ◌+◌, ◌<◌, ◌≤◌, min, inl, inr, ◌⊎◌, Bool, true, false, not, cond, Option, None, Some, List, [], ◌∷◌, length, nat_lt, refl, sym, ap, ◌∙◌, arith}
 use Rattle.std.{specs.List.count_by, proofs.lemmas.List.{get_or_past, set_past, Sums.sum_by-set}}
 use Rattle.std.proofs.lemmas.{Bool.{cases_lt, cond_both}, Option.none-some}
@@ -27,7 +28,7 @@ AreQuiet (k ∷ ks) = IsQuiet k × AreQuiet ks
 
 -- ---- what a call leads to
 
--- the ball switches are the same, and it is Away where it was
+-- the ball switches are the same, and it is Away if it was
 pub record IsSame (s t : BallState) : Type 0 where
   pub switches : t.switches ≡ s.switches
   pub away : is_away t.eject ≡ is_away s.eject
@@ -35,7 +36,7 @@ pub record IsSame (s t : BallState) : Type 0 where
 same-balls : (s t : BallState) → t.switches ≡ s.switches → balls_in t ≡ balls_in s
 same-balls s t is = ap (count_by (λ b. b.counted)) is
 
--- What an answer is: nothing is booked; a ball has entered, where one may; the one that was ejected has left; one is
+-- What an answer is: nothing is booked; a ball has entered, if one may; the one that was ejected has left; one is
 -- lost; or the one that was on its way is on the playfield.
 pub data Answer (enter : Type 0) (s : BallState) : BallState → List ℕ → Type 0 where
   nothing : (t : BallState) (lists : List ℕ) → balls_in t ≡ balls_in s → is_away t.eject ≡ is_away s.eject → AreQuiet lists
@@ -155,7 +156,7 @@ module _ (d : BallSettings) (enter : Type 0) where
   to_playfield now (Away a) s is target = confirmed-answer now s d.target target (ap is_away is)
   to_playfield now _ s is target = nothing s [] refl refl tt
 
-  -- where it ejects balls to the playfield
+  -- if it ejects balls to the playfield
   pub confirm-answer : (now : ℕ) (s : BallState) → d.target ≡ Playfield → IsAnswer enter s (ball_step d (calls.Act acts.Confirm) now s)
   confirm-answer now s target = to_playfield now s.eject s refl target
 

@@ -37,7 +37,7 @@ may-can c l is = search rules
 
 -- ---- one line more
 
--- where a list with one more is parted, that is its last line, or a line of the list
+-- if a list with one more is parted, that is its last line, or a line of the list
 parted : (ls : List Line) (l : Line) (before : List Line) (line : Line) (after : List Line) → ls ++ l ∷ [] ≡ before ++ line ∷ after
     → ((before ≡ ls) × (line ≡ l)) ⊎ ((rest : List Line) × (ls ≡ before ++ line ∷ rest))
 parted [] l [] line after is = inl (refl, ap (λ (xs : List Line). get_or xs 0 l) (sym is))

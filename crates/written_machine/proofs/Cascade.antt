@@ -120,7 +120,7 @@ module _ (plan : PlanView) (valid : IsValid plan) (w : EventId → ℕ) (fits : 
   waiting-weigh [] h = omega arith
   waiting-weigh (p ∷ ps) h = search (rules, waiting-weigh ps h.1)
 
--- where the weights fit and the bound is theirs, each cascade ends within it
+-- if the weights fit and the bound is theirs, each cascade ends within it
 pub fitting-cascades_end : (c : CheckedView) → IsValid c.plan → IsFitting c.plan (weight_of c.weights) → c.bound ≡ bound_of c.plan (weight_of c.weights) → CascadesEnd c
 fitting-cascades_end c valid fits bound =
     let plan = c.plan in
@@ -142,6 +142,6 @@ fitting-cascades_end c valid fits bound =
       cost = λ stimuli trace s run empty stimulus allowed n t steps. (within-cascade plan valid w fits stimulus s empty (within-run plan valid w fits stimuli trace s run).states allowed n t steps).most;
     }
 
--- So it is where the weights of a plan were verified.
+-- So it is if the weights of a plan were verified.
 pub verified-cascades_end : (c : CheckedView) → IsValid c.plan → IsVerified c.plan c.weights c.bound → CascadesEnd c
 verified-cascades_end c valid verified = fitting-cascades_end c valid verified.fits verified.bound_is

@@ -31,7 +31,7 @@ use Rattle.written_machine.specs.Machine.{Machine, write, post, set_ledger, coun
 use Rattle.written_machine.specs.{Devices.HasDevices, StimulusCost.weigh}
 use Rattle.written_machine.specs.Moves.{Move, Wrote, Sent, Switched, Began, Ended, Marked, Released, Turned, Asked, Booked, Varied, Stepped, AddedBalls, do_move, cost_of_move, MayHold, IsListed, Licence, MayDo, Does, quiet, moved, both, less, Grows}
 
--- what these cost one after another, where each finds the state that the one before it leaves
+-- what these cost one after another, if each finds the state that the one before it leaves
 abbrev pub each_now : {X : Type 0} → (X → Machine → Machine) → (X → Machine → Cost) → List X → Machine → Cost
 each_now f cost [] s = Lines 0
 each_now f cost (x ∷ xs) s = Both (cost x s) (each_now f cost xs (f x s))
@@ -51,12 +51,12 @@ module _ (plan : PlanView) (may : Move → Type 0) where
   does-weaker other weaker (both a b) = both (does-weaker other weaker a) (does-weaker other weaker b)
   does-weaker other weaker (less a fewer) = less (does-weaker other weaker a) fewer
 
-  -- where each does its own cost, all do the costs together
+  -- if each does its own cost, all do the costs together
   pub all_do-does : {X : Type 0} (f : X → Machine → Machine) (cost : X → Cost) (P : X → Type 0) → ((x : X) (s : Machine) → P x → Does plan may (cost x) s (f x s)) → (xs : List X) → All P xs → (s : Machine) → Does plan may (each_of cost xs) s (all_do f xs s)
   all_do-does f cost P each [] h s = quiet
   all_do-does f cost P each (x ∷ xs) h s = both (each x s (All-head P x xs h)) (all_do-does f cost P each xs (All-tail P x xs h) (f x s))
 
-  -- where what each costs depends on the state that it finds
+  -- if what each costs depends on the state that it finds
   pub all_do-does_now : {X : Type 0} (f : X → Machine → Machine) (cost : X → Machine → Cost) (P : X → Type 0) → ((x : X) (s : Machine) → P x → Does plan may (cost x s) s (f x s)) → (xs : List X) → All P xs → (s : Machine) → Does plan may (each_now f cost xs s) s (all_do f xs s)
   all_do-does_now f cost P each [] h s = quiet
   all_do-does_now f cost P each (x ∷ xs) h s = both (each x s (All-head P x xs h)) (all_do-does_now f cost P each xs (All-tail P x xs h) (f x s))
@@ -83,7 +83,7 @@ module _ (plan : PlanView) (m : ModeId) (s : Machine) where
   stop-by P posted not = post_if-by P (mode_event plan m Stopping) ended_mode posted not (is_post (stop_answer (mode_state s.modes m).phase))
 
 module _ (owner : Owner) (call : LedgerCall) (s : Machine) where
-  -- something is booked, where it may be, and there is a line
+  -- something is booked, if it may be, and there is a line
   abbrev pub booked_now : Machine
   booked_now = write owner (lines.Balls (booked call s.ledger) (counts_of (after_call call s.ledger))) (set_ledger (after_call call s.ledger) s)
 
@@ -194,12 +194,12 @@ module _ (plan : PlanView) where
         ];
   }
 
-  -- there are as many players as before where a variable changes
+  -- there are as many players as before when a variable changes
   varied-few : (v : VariableId) (value : Option ℤ) (p : PlayersState) → AreFew plan p → AreFew plan (after_change plan v value p)
   varied-few v value p h = search rules
 
-  -- the switches are read as the plan says, and each has a state, as each mode, each device and each coil has, and there are
-  -- no more players than there can be
+  -- the switches are read as the plan says, and each has a state, as each mode, each device and each coil has, and
+  -- there are no more players than there can be
   pub record HasStates (s : Machine) : Type 0 where
     pub kinds : s.switches.kinds ≡ (all_idle plan).kinds
     pub switches : length s.switches.states ≡ length plan.switches
@@ -282,7 +282,7 @@ module _ (plan : PlanView) where
     pub waits-does : HasEntries plan → {c : Cost} {s t : Machine} → Does plan (MayDo plan l) c s t → WaitsInPlan s → WaitsInPlan t
     waits-does entries d h = does-keeps plan (MayDo plan l) WaitsInPlan (waits-move entries) d h
 
-    -- where no switch may change
+    -- if no switch may change
     switches-move : (l.switches → ⊥) → (x : Move) (s : Machine) → MayDo plan l x → (do_move plan x s).switches ≡ s.switches
     switches-move none x s may = search rules
 

@@ -17,6 +17,6 @@ module _ (plan : PlanView) where
   pub drain-game : (s : Machine) → (step_game plan BallDrain s).game ≡ (step_now plan BallDrain s).game
   drain-game s = ap (λ (t : Machine). t.game) (drain-step s) ∙ posts-game (step_now plan BallDrain s).posts (do_move plan (Stepped BallDrain) s)
 
-  -- where one ball is left in play, nothing is posted
+  -- if one ball is left in play, nothing is posted
   pub last-posts : (s : Machine) → (in_play (step_game plan BallDrain s).game == 1) ≡ true → (step_now plan BallDrain s).posts ≡ []
   last-posts s one = search (rules, tested-left, drain-game)

@@ -11,7 +11,7 @@ use Rattle.written_machine.specs.EventStep.{taken, is_kept, before_handlers, aft
 use Rattle.written_machine.proofs.Does.{grows-does, none-grows, then-grows}
 use Rattle.written_machine.proofs.Parts.{does-handler, does-before, does-after}
 
--- where each adds, all do
+-- if each adds, all do
 pub all_do-grows : {X : Type 0} (f : X → Machine → Machine) → ((x : X) (s : Machine) → Grows s (f x s)) → (xs : List X) (s : Machine) → Grows s (all_do f xs s)
 all_do-grows f each [] s = none-grows s
 all_do-grows f each (x ∷ xs) s = then-grows (each x s) (all_do-grows f each xs (f x s))

@@ -49,7 +49,7 @@ abbrev pub heard : ModeId → Bool → List Said → Bool
 heard m on [] = on
 heard m on (x ∷ xs) = heard m (heard_after m on x.work) xs
 
--- the mode is heard only where it may be
+-- the mode is heard only when it may be
 abbrev pub IsFine : ModeId → Bool → List Said → Type 0
 IsFine m on [] = Unit {0}
 IsFine m on (x ∷ xs) = (x.owner ≡ owners.Mode m → on ≡ true) × IsFine m (heard_after m on x.work) xs
@@ -76,7 +76,7 @@ abbrev numbered : ℕ → ModeId
 numbered n = record { 0 = n }
 
 module _ (plan : PlanView) (valid : IsValid plan) (m : ModeId) (within : m.0 < length plan.modes) where
-  -- the mode may be heard where a line of it is
+  -- the mode may be heard if a line of it is
   fine-at : (on : Bool) (before : List Line) (line : Line) (after : List Line) → IsFine m on (all_written plan (before ++ line ∷ after)) → line.owner ≡ owners.Mode m → heard m on (all_written plan before) ≡ true
   fine-at on [] line after h is = h.0 is
   fine-at on (l ∷ before) line after h is = fine-at (heard_after m on (work_written plan l.happening)) before line after h.1 is

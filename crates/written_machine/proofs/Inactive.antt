@@ -27,7 +27,7 @@ stopped-off settings now world state shape = inactive-off (device_step settings 
 
 -- ---- a multiball that is not running does not end
 
--- so nothing happens where it is told to
+-- so nothing happens when it is told to
 pub end-still : (plan : PlanView) (r : RowId) (s : Machine) → is_multiball (row_at plan r).settings ≡ true → is_on (device_at s r) ≡ false
     → call_device plan (calls.Act acts.End) r s ≡ s
 end-still plan r s is off = search (rules, set-get_or)

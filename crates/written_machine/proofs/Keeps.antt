@@ -7,8 +7,9 @@ use Rattle.event_queue.specs.declared.queue.Posted.{Posted}
 use Rattle.written_machine.{specs.{Machine.Machine, Moves.{Does, MayHandle}}, proofs.Parts.does-order}
 use Rattle.written_machine.specs.EventStep.{before_handlers, is_kept, do_after, EventStep, EventSteps}
 
--- Inv holds between event steps, and During while an event is handled: from the machine's work before its handlers until
--- that after them, whether a stop was kept or not. The lines since the latest stimulus stand behind the earlier ones.
+-- Inv holds between event steps, and During while an event is handled: from the machine's work before its handlers
+-- until that after them, whether a stop was kept or not. The lines since the latest stimulus stand behind the earlier
+-- ones.
 module _ (plan : PlanView) (Inv : List Line → Machine → Type 0) (During : Posted → List Line → Machine → Type 0)
     (opens : (before : List Line) (first : Posted) (rest : List Posted) (s : Machine) → s.waiting ≡ first ∷ rest → Inv before s → During first before (before_handlers plan first rest s))
     (moves : (before : List Line) (first : Posted) (c : Cost) (s t : Machine) → Does plan (MayHandle plan s) c s t → During first before s → During first before t)

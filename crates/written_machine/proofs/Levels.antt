@@ -62,7 +62,7 @@ module _ (plan : PlanView) (valid : IsValid plan) where
         last = later.last;
       }
 
-  -- where nothing is due each switch has the accepted level of its raw changes
+  -- if nothing is due, each switch has the accepted level of its raw changes
   pub levels-run : LevelsFollowRawChanges plan
   levels-run stimuli trace s run at after quiet n within =
       let called = run-called stimuli (initial plan) trace s run (not_late-initial plan valid) 0 (omega arith) in

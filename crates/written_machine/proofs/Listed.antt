@@ -29,7 +29,7 @@ contains-any p (y ∷ xs) x (suc i, within, is) holds = search (rules, contains-
 -- ---- the actions of an owner
 
 module _ (plan : PlanView) where
-  -- those of a binding, where it runs this list
+  -- those of a binding, if it runs this list
   pub binding-among : (b : Binding) (l : ListId) (a : Action) → Contains plan.bindings b → b.target ≡ Run l → Contains (actions_at plan l) a → Contains (actions_of plan b.owner) a
   binding-among b l a listed is has =
       let own : actions_of_binding plan b.owner b ≡ actions_at plan l =

@@ -106,7 +106,7 @@ module _ (s : Machine) where
   nothing-from : (a : Option (ℕ × SwitchId)) (b : Option (ℕ × RowId)) → next_due s.switches ≡ a → least_of (dues s) ≡ b → next_from a b ≡ None → (source : Source) (due : ℕ) → source_due s source ≡ Some due → ⊥
   nothing-from a b p q none source due is = search (rules, no_switch-due, no_device-due, none-some)
 
-  -- there is none just where nothing is due
+  -- there is none exactly if nothing is due
   pub none-nothing : next_alarm s ≡ None → (source : Source) (due : ℕ) → source_due s source ≡ Some due → ⊥
   none-nothing none = nothing-from (next_due s.switches) (least_of (dues s)) refl refl none
 
@@ -146,7 +146,7 @@ none-where until o h = search rules
 not_due-where : (until : ℕ) (o : Option (ℕ × Source)) → due_by until o ≡ None → option_map_or (λ (a : ℕ × Source). nat_le a.0 until) o false ≡ false
 not_due-where until o h = search rules
 
--- there is none just where nothing is due by the moment
+-- there is none exactly if nothing is due by the moment
 pub due_by-none : (s : Machine) (until : ℕ) → due_by until (next_alarm s) ≡ None → IsNoAlarmDueBy s until
 due_by-none s until h = not_due-nothing s until (not_due-where until (next_alarm s) h)
 

@@ -36,7 +36,7 @@ module _ (plan : PlanView) where
       let total = price-each_sum w (cost_of_handler plan) order in
       omega (arith, same, kept, total, handlers_cost w running e)
 
-  -- so an event step is there where an event waits
+  -- so an event step is there if an event waits
   pub plan_order-step : (s : Machine) (first : Posted) (rest : List Posted) → s.waiting ≡ first ∷ rest
       → EventStep plan s (after_event plan first rest (by_priority plan (handlers_in plan (before_handlers plan first rest s) first.event)) s)
   plan_order-step s first rest waits = record {

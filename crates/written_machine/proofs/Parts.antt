@@ -61,7 +61,7 @@ module _ (plan : PlanView) where
       by : (a : Bool) → IsFreeSwitch plan (switch_at plan n) → All (IsFree plan) (posts_of plan n a)
       by x1 h = search rules
 
-  -- where a binding starts or stops a mode or acts on a device, it is one of the plan
+  -- if a binding starts or stops a mode or acts on a device, it is one of the plan
   abbrev pub IsThere : Target → Type 0
   IsThere (Run l) = Unit {0}
   IsThere (Start m) = m.0 < length plan.modes
@@ -84,7 +84,7 @@ module _ (plan : PlanView) where
 
   -- ---- the actions of an owner
 
-  -- where it is a mode, the action is among its own
+  -- if it is a mode, the action is among its own
   abbrev pub IsItsOwn : Owner → Action → Type 0
   IsItsOwn owners.Machine a = Unit {0}
   IsItsOwn (owners.Mode m) a = Contains (actions_of plan (owners.Mode m)) a
@@ -117,7 +117,7 @@ module _ (plan : PlanView) where
 
   -- ---- what things cost in a state
 
-  -- where `tell` costs what `tell_now` says
+  -- if `tell` costs what `tell_now` says
   module _ (tell : Telling → Machine → Machine) (tell_now : Telling → Machine → Cost) where
     abbrev pub wanted_now : ℕ → Machine → Cost
     wanted_now zero s = Lines 0
@@ -169,7 +169,7 @@ module _ (plan : PlanView) where
   target_now owner (Stop m) s = cost_of_target plan (Stop m)
   target_now owner (Act r act) s = call_now (calls.Act act) r s
 
-  -- where its condition is not met, a handler costs nothing
+  -- if its condition is not met, a handler costs nothing
   abbrev pub handler_now : BindingId → Machine → Cost
   handler_now place s =
       if is_met plan s.players (binding_at plan place).condition then target_now (binding_at plan place).owner (binding_at plan place).target s else Lines 0
@@ -223,12 +223,12 @@ module _ (plan : PlanView) where
   before_now (Mode m Stopped) s = Lines 0
   before_now (Game which) s = Lines 0
 
-  -- a line for each player, where scores are told
+  -- a line for each player, if scores are told
   abbrev pub finals_now : Bool → Machine → Cost
   finals_now true s = each_of (λ player. Lines 1) (range_with_len 1 (length s.players.players))
   finals_now false s = Lines 0
 
-  -- one ball more is wanted, where a ball is asked for
+  -- one ball more is wanted, if a ball is asked for
   abbrev pub request_now : Bool → Machine → Cost
   request_now asks s = if asks then telling_now (Wanted 1) s else Lines 0
 
@@ -239,7 +239,7 @@ module _ (plan : PlanView) where
       let stepped = do_move plan (Stepped which) s in
       Both (Lines 0) (Both (finals_now step.finals stepped) (Both (request_now step.requests (write_finals plan step.finals stepped)) (cost_of_choice plan step.posts)))
 
-  -- the multiballs, where they end
+  -- the multiballs, if they end
   abbrev pub ends_now : Machine → Cost
   ends_now s = if in_play s.game == 1 then each_now (call_device plan (calls.Act End)) (call_now (calls.Act End)) (multiball_rows plan) s else Lines 0
 
@@ -261,7 +261,7 @@ module _ (plan : PlanView) where
   after_now (Mode m Stopped) s = cost_if_led (led_by plan (Mode m Stopped))
   after_now (Game which) s = game_now which s
 
-  -- what may be done by these owners, where the machine is one of them: ball devices are its own
+  -- what may be done by these owners, if the machine is one of them: ball devices are its own
   module _ (by : Owner → Type 0) (switches : Type 0) (machine : by owners.Machine) where
     abbrev May : Move → Type 0
     May = MayDo plan (ordinary plan by switches)
@@ -478,7 +478,7 @@ module _ (plan : PlanView) where
   does-before (Mode m Stopped) s = quiet
   does-before (Game which) s = quiet
 
-  -- the scores of all players are told, where this holds
+  -- the scores of all players are told, if this holds
   pub does-finals : (told : Bool) (s : Machine) → Does plan (MayWork plan) (finals_now told s) s (write_finals plan told s)
   does-finals true s =
       all_do-does plan (MayWork plan) (write_final plan) (λ player. Lines 1) (λ player. Unit {0}) (λ player t h. moved (Wrote owners.Machine (lines.Final player (score_of plan t.players player))) t (λ own. tt, tt, tt, tt))
@@ -504,7 +504,7 @@ module _ (plan : PlanView) where
   works-call : (call : Call) (r : RowId) (s : Machine) → Does plan (MayWork plan) (call_now call r s) s (call_device plan call r s)
   works-call call r s = works (does-call (λ owner. Unit {0}) ⊥ tt call r (λ own. tt) s)
 
-  -- the multiballs end, where only one ball is left
+  -- the multiballs end, if only one ball is left
   does-ends : (s : Machine) → Does plan (MayWork plan) (ends_now s) s (end_multiballs plan s)
   does-ends s = by (in_play s.game == 1)
     where

@@ -9,7 +9,7 @@ use Rattle.written_machine.{specs.PlanOrder.{plan_step_from, plan_step, plan_ste
 use Rattle.written_machine.specs.{Run.{Stimulus, IsAllowed, begin, IsRun}, GoodRun.CascadesEnd, CheckedView.CheckedView}
 
 module _ (plan : PlanView) where
-  -- where no event waits, nothing happens
+  -- if no event waits, nothing happens
   pub plan_step-idle : (s : Machine) → s.waiting ≡ [] → plan_step plan s ≡ s
   plan_step-idle s empty = ap (λ (ps : List Posted). plan_step_from plan ps s) empty
 
@@ -17,7 +17,7 @@ module _ (plan : PlanView) where
   plan_steps-idle zero s empty = refl
   plan_steps-idle (suc n) s empty = ap (plan_steps plan n) (plan_step-idle s empty) ∙ plan_steps-idle n s empty
 
-  -- where one waits, its step is taken in plan order
+  -- if one waits, its step is taken in plan order
   pub plan_step-taken : (s : Machine) (first : Posted) (rest : List Posted) → s.waiting ≡ first ∷ rest → plan_step plan s ≡ after_event plan first rest (by_priority plan (handlers_in plan (before_handlers plan first rest s) first.event)) s
   plan_step-taken s first rest waits = ap (λ (ps : List Posted). plan_step_from plan ps s) waits
 

@@ -59,7 +59,7 @@ module _ (plan : PlanView) (entries : HasEntries plan) (w : EventId → ℕ) whe
   told-devices : (owner : Owner) (player : ℕ) (v : VariableId) (e : EventId) (value : Option ℤ) (s : Machine) → HasDevices plan s.devices → HasDevices plan (tell_change owner player v e value s).devices
   told-devices owner player v e value s has = search rules
 
-  -- where each telling is within its cost, and more balls cost the same to ask for
+  -- if each telling is within its cost, and more balls cost the same to ask for
   module _ (tell : Telling → Machine → Machine) (now : Telling → Machine → Cost) (cost : Telling → Cost)
       (tells : (telling : Telling) (s : Machine) → HasDevices plan s.devices → (price w (now telling s) ≤ price w (cost telling)) × HasDevices plan (tell telling s).devices)
       (alike : (m n : ℕ) → price w (cost (Wanted m)) ≡ price w (cost (Wanted n))) where
@@ -219,7 +219,7 @@ module _ (plan : PlanView) (entries : HasEntries plan) (w : EventId → ℕ) whe
   request-priced true s has = (telling-priced (Wanted 1) s has).0
   request-priced false s has = omega arith
 
-  -- scores are told and a ball is asked for at most where the event says so, and the posts are one of its choices, or none
+  -- scores are told and a ball is asked for only if the event says so, and the posts are one of its choices, or none
   record IsChosen (which : GameEvent) (step : GameStep) : Type 0 where
     told : (k : ℕ) → (if step.finals then k else 0) ≤ (if tells_scores which then k else 0)
     requests : price w (if step.requests then cost_of_telling plan (Wanted 1) else Lines 0) ≤ price w (cost_of_request plan which)
@@ -241,7 +241,7 @@ module _ (plan : PlanView) (entries : HasEntries plan) (w : EventId → ℕ) whe
       (each-priced (call_device plan (calls.Act End)) (call_now plan (calls.Act End)) (λ r. cost_of_call plan r (calls.Act End)) (λ r. r.0 < length plan.rows)
       (λ r t there k. call-priced (calls.Act End) r t there k tt) (multiball_rows plan) (multiballs-within plan) s has).0
 
-  -- A ball has drained that is not saved. Where multiballs end, the game posts nothing.
+  -- A ball has drained that is not saved. If multiballs end, the game posts nothing.
   counted-priced : (e : EventId) → work_of plan e ≡ Game BallDrain → (s : Machine) → HasDevices plan s.devices → AreFew plan s.players → price w (drained_now plan None s) ≤ price w (cost_of_game plan (Game BallDrain))
   counted-priced e is s has few = by (in_play after.game == 1) refl
     where
@@ -283,7 +283,7 @@ module _ (plan : PlanView) (entries : HasEntries plan) (w : EventId → ℕ) whe
 
   -- ---- stimuli
 
-  -- where a device fires it is one of the plan, and due
+  -- if a device fires, it is one of the plan, and due
   abbrev pub IsFired : Machine → Stimulus → Type 0
   IsFired s (SwitchChange at n level) = Unit {0}
   IsFired s (Alarm at (switch n)) = Unit {0}

@@ -72,7 +72,7 @@ module _ (plan : PlanView) where
 
 -- ---- what rests
 
--- The devices and coils have states. Where a device of the mode is due, or is an active ball save or a running multiball,
+-- The devices and coils have states. If a device of the mode is due, or is an active ball save or a running multiball,
 -- or the mode holds a coil, the mode runs.
 pub record Rests (plan : PlanView) (m : ModeId) (s : Machine) : Type 0 where
   pub devices : HasDevices plan s.devices
@@ -82,19 +82,19 @@ pub record Rests (plan : PlanView) (m : ModeId) (s : Machine) : Type 0 where
   pub holds : (coil : CoilId) → IsHolding (owners.Mode m) s.coils coil → takes_part (running_of s.modes) (owners.Mode m) ≡ true
 
 module _ (plan : PlanView) (valid : IsValid plan) (own : ActsAreOwn plan) (m : ModeId) where
-  -- where modes, devices and coils are the same
+  -- if modes, devices and coils are the same
   pub same-rests : (s t : Machine) → t.modes ≡ s.modes → t.devices ≡ s.devices → t.coils ≡ s.coils → Rests plan m s → Rests plan m t
   same-rests s t modes devices coils h = search rules
 
-  -- where the same modes run
+  -- if the same modes run
   pub running-rests : (s t : Machine) → running_of t.modes ≡ running_of s.modes → t.devices ≡ s.devices → t.coils ≡ s.coils → Rests plan m s → Rests plan m t
   running-rests s t running devices coils h = search rules
 
-  -- where the mode runs
+  -- if the mode runs
   pub runs-rests : (s : Machine) → HasDevices plan s.devices → length s.coils ≡ length plan.coils → takes_part (running_of s.modes) (owners.Mode m) ≡ true → Rests plan m s
   runs-rests s has count runs = record { devices = has; rests = λ r due is armed. runs; acts = λ r is on. runs; count = count; holds = λ coil is. runs }
 
-  -- where all devices of the mode are quiet, and it holds no coil
+  -- if all devices of the mode are quiet, and it holds no coil
   pub quiet-rests : (s : Machine) → HasDevices plan s.devices → ((r : RowId) → r.0 < length plan.rows → (row_at plan r).owner ≡ owners.Mode m → IsQuiet plan s r)
       → length s.coils ≡ length plan.coils → ((coil : CoilId) → IsNotHolding (owners.Mode m) s.coils coil) → Rests plan m s
   quiet-rests s has quiet count free = search (rules, none-some, due-row, cases_lt, is_on, get_or_past)

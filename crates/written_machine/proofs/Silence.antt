@@ -1,5 +1,5 @@
--- A mode that is stopped is silent, in every run: what the moves of handlers, the machine's works and the beginning of a
--- stimulus keep.
+-- A mode that is stopped is silent, in every run: what the moves of handlers, the machine's works and the beginning of
+-- a stimulus keep.
 use Rattle.std.proofs.Common.{◌≡◌, ℕ, ◌<◌, ◌⊎◌, if◌then◌else◌, inl, inr, Some, Bool, true, false, ◌==◌, cond, List, [], ◌∷◌, ◌++◌, length, refl, ap, sym, subst, ◌∙◌, rules, Option, All, None}
 use Rattle.std.{specs.List.range_with_len, proofs.lemmas.Bool.{cases_eq, eq-eqb, ne_eqb, cases_lt}}
 use Rattle.std.proofs.lemmas.List.{get_or-replicate, length-replicate, length-set, get_or_past, get_or-map, length-map}
@@ -79,7 +79,7 @@ free-mine : (m : ModeId) (w : Work) → IsFreeWork w ⊎ (w ≡ Game BallDrain) 
 free-mine m w x1 = search rules
 
 module _ (plan : PlanView) (valid : IsValid plan) (free : PostsAreFree plan) (own : ActsAreOwn plan) (m : ModeId) (within : m.0 < length plan.modes) where
-  -- the mode is heard only where it may be, and no device of it is due unless it runs
+  -- the mode is heard only when it may be, and no device of it is due unless it runs
   abbrev Stays : List Line → List ModeEvent → Machine → Type 0
   Stays before front s = HoldsIn plan m before front s × Rests plan m s
 
@@ -274,7 +274,7 @@ module _ (plan : PlanView) (valid : IsValid plan) (free : PostsAreFree plan) (ow
   step-stays : (before : List Line) (which : GameEvent) (s : Machine) → HasGame plan → Stays before [] s → Stays before [] (step_game plan which s)
   step-stays before which s has h = search (rules, posts-stay, request-stays, finals-stay, running-rests)
 
-  -- a ball save that is active is told to save, or a multiball that is running to end: where it is the mode's, that runs
+  -- a ball save that is active is told to save, or a multiball that is running to end: if it is the mode's, that runs
   call-stays : (before : List Line) (call : Call) (r : RowId) (s : Machine) → is_on (device_at s r) ≡ true → Stays before [] s → Stays before [] (call_device plan call r s)
   call-stays before call r s on h =
       moves-hold before (λ owner. (owner ≡ (row_at plan r).owner) ⊎ IsMachine owner) ⊥ (running_of s.modes) runs [] _ s (call_device plan call r s)
@@ -394,7 +394,7 @@ module _ (plan : PlanView) (valid : IsValid plan) (free : PostsAreFree plan) (ow
   arrived-holds : (before : List Line) (at : ℕ) (s : Machine) → HoldsIn plan m before [] s → HoldsIn plan m (before ++ s.lines) [] (arrived at s)
   arrived-holds before at s h = search rules
 
-  -- where the mode speaks at the beginning of a stimulus, it runs: a device of it is due
+  -- if the mode speaks at the beginning of a stimulus, it runs: a device of it is due
   begins-runs : (stimulus : Stimulus) (s : Machine) → IsAllowed plan s stimulus → Rests plan m s → Begins plan stimulus (owners.Mode m) → IsTaking s
   begins-runs stimulus s allowed h x1 = search rules
 

@@ -34,7 +34,7 @@ module _ (plan : PlanView) (m : ModeId) where
   goes_on : (w : Work) (c : List ModeEvent) (xs : List Said) → (AllByRecursion IsNoEnd c → heard m true xs ≡ true) → AllByRecursion IsNoEnd (mine m w c) → heard m (heard_after m true w) xs ≡ true
   goes_on w c xs next h = search rules
 
-  -- where its last event does not wait, a mode that may be heard may still be heard after all that waits
+  -- if its last event does not wait, a mode that may be heard may still be heard after all that waits
   heard_on : (q : List Posted) → AllByRecursion IsNoEnd (waiting_of plan m q) → heard m true (all_awaited plan q) ≡ true
   heard_on [] h = refl
   heard_on (p ∷ q) h = goes_on (work_of plan p.event) (waiting_of plan m q) (all_awaited plan q) (heard_on q) h

@@ -5,7 +5,7 @@ use Rattle.plan_tables.specs.PlanView.{PlanView}
 use Rattle.written_machine.specs.{Machine.Machine, PlanOrder.settled}
 use Rattle.written_machine.specs.{Run.{Source, Stimulus, Alarm}, NextAlarm.next_alarm}
 
--- the next alarm, where it is due by the moment
+-- the next alarm, if it is due by the moment
 abbrev pub due_by : ℕ → Option (ℕ × Source) → Option (ℕ × Source)
 due_by until None = None
 due_by until (Some a) = if nat_le a.0 until then Some a else None

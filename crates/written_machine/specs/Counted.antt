@@ -33,8 +33,8 @@ pub record IsLedgerOf (plan : PlanView) (bs : List Booking) (l : Ledger) : Type 
   pub targets : length l.to_devices ≡ length plan.rows
   pub booked : HasBooked bs l
 
--- Wherever a line tells of a booking, its counts are those of a ledger that has booked just what the trace has up to it,
--- this booking with it.
+-- Wherever a line tells of a booking, its counts are those of a ledger that has booked just what the trace has up to
+-- it, this booking with it.
 abbrev pub AreCountsRight : PlanView → List Line → Type 0
 AreCountsRight plan trace =
     (before : List Line) (line : Line) (after : List Line) (booking : Booking) (counts : BallCounts)
@@ -61,8 +61,8 @@ abbrev pub level_after : Option LevelChange → Bool
 level_after None = false
 level_after (Some c) = c.active
 
--- Whether a ball counts at a ball switch at a moment: what the last of its changes says that are not undone and count by
--- then. If there is none, no ball counts.
+-- Whether a ball counts at a ball switch at a moment: what the last of its changes says that are not undone and count
+-- by then. If there is none, no ball counts.
 abbrev pub counted_level : BallSettings → Bool → ℕ → List LevelChange → Bool
 counted_level d quick moment changes =
     level_after (last_or None (filter (λ c. nat_le (counts_from d c) moment) (not_undone d quick changes)))

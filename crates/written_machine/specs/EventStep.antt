@@ -39,7 +39,7 @@ is_kept (Mode m Stopped) s = false
 is_kept (Game which) s = false
 
 -- After the handlers: a mode goes on from one of its events to the next. At `stopping`, after its own handlers of that
--- event, its devices stop, the coils that it holds are disabled, and then it ends. At `started` it is told to stop, where
+-- event, its devices stop, the coils that it holds are disabled, and then it ends. At `started` it is told to stop, if
 -- a stop was kept. At `stopped` it lets go of the end of the ball. The game goes on as its event says.
 abbrev pub do_after : PlanView → Bool → Work → Machine → Machine
 do_after plan kept Nothing s = s

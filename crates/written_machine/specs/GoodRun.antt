@@ -47,7 +47,7 @@ pub record CascadesEnd (c : CheckedView) : Type 0 where
 pub record CoilsStayWithinLimits (c : CheckedView) : Type 0 where
   -- Each command that was sent to a coil is within the coil's limits.
   pub limits : InEveryRun c.plan (λ stimuli trace s. All (λ q. IsWithin (limits_of c.plan) q.command) (sendings trace))
-  -- A coil that may not be held is on at no more moments in a row than its greatest pulse has.
+  -- A coil that may not be held is on at no more moments in a row than its greatest pulse has milliseconds.
   pub stretches : InEveryRun c.plan (λ stimuli trace s.
       (coil : CoilId) → (limits_at (limits_of c.plan) coil).may_hold ≡ false →
       (first count : ℕ) → IsOnThroughout (sendings trace) coil first count → count ≤ (limits_at (limits_of c.plan) coil).max_pulse_ms)
@@ -58,11 +58,11 @@ pub record CoilsStayWithinLimits (c : CheckedView) : Type 0 where
 pub record StoppedModesAreSilent (c : CheckedView) : Type 0 where
   -- A stopped mode writes no line: before each line of a mode it has started, and has not stopped since.
   pub silent : InEveryRun c.plan (λ stimuli trace s. IsSilent c.plan trace)
-  -- No device of a stopped mode is due: where one is due, its mode has started, and has not stopped since.
+  -- No device of a stopped mode is due: if one is due, its mode has started, and has not stopped since.
   pub resting : InEveryRun c.plan (λ stimuli trace s.
       (m : ModeId) (r : RowId) (due : ℕ) → r.0 < length c.plan.rows → (row_at c.plan r).owner ≡ owners.Mode m →
       source_due s (device r) ≡ Some due → HasStarted c.plan m trace)
-  -- A stopped mode holds no coil: where one holds a coil, it has started, and has not stopped since.
+  -- A stopped mode holds no coil: if a mode holds a coil, it has started, and has not stopped since.
   pub released : InEveryRun c.plan (λ stimuli trace s.
       (m : ModeId) (coil : CoilId) → m.0 < length c.plan.modes →
       is_held_for (sendings trace) (owners.Mode m) coil ≡ true → HasStarted c.plan m trace)
@@ -71,8 +71,8 @@ pub record StoppedModesAreSilent (c : CheckedView) : Type 0 where
 pub record BallsAreAccountedFor (c : CheckedView) : Type 0 where
   -- Each known ball is in a device, on its way, or on the playfield.
   pub somewhere : InEveryRun c.plan (λ stimuli trace s. IsBalanced s.ledger)
-  -- No booking is left out: the ledger may make each that comes. When a ball enters a device, fewer than 2^32 are known;
-  -- when one leaves a device, one is counted in it; when one arrives on the playfield, one was on its way.
+  -- No booking is left out: the ledger may make each that comes. When a ball enters a device, fewer than 2^32 are
+  -- known; when one leaves a device, one is counted in it; when one arrives on the playfield, one was on its way.
   pub kept : InEveryRun c.plan (λ stimuli trace s. s.bookings_left_out ≡ 0)
   -- At no moment are 2^32 balls known.
   pub few : InEveryRun c.plan (λ stimuli trace s. s.ledger.known < 2 ^ 32)

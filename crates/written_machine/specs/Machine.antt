@@ -64,7 +64,8 @@ pub record Machine : Type 0 where
   pub bookings_left_out : ℕ
 
 -- At the beginning it is moment 0, all switches are inactive, all modes idle, all devices in their first states, all
--- coils off, no ball is known, there is no game, no mode holds the end of a ball, nothing waits, and no booking was left out.
+-- coils off, no ball is known, there is no game, no mode holds the end of a ball, nothing waits, and no booking was
+-- left out.
 abbrev pub initial : PlanView → Machine
 initial plan = record {
   moment = 0;
@@ -120,12 +121,12 @@ all_do does (x ∷ xs) s = all_do does xs (does x s)
 abbrev pub has_game : Machine → Bool
 has_game s = not (is_none s.game.phase)
 
--- the machine posts the event where this holds
+-- the machine posts the event if this holds
 abbrev pub post_if : Bool → EventId → Machine → Machine
 post_if true e s = post owners.Machine e s
 post_if false e s = s
 
--- A mode is told to start. Where it starts, the event that says so is posted. If it may hold the end of the ball, it holds
+-- A mode is told to start. If it starts, the event that says so is posted. If it may hold the end of the ball, it holds
 -- that from now on.
 abbrev pub start_mode : PlanView → ModeId → Machine → Machine
 start_mode plan m s =
@@ -135,13 +136,13 @@ start_mode plan m s =
     post_if begins (mode_event plan m WillStart)
     (set_game (held_if (begins && may_hold_ball_end plan m) m s.game) (set_mode m (started needs (has_game s) old) s))
 
--- whether a stop posts an event: where it is neither kept nor ignored
+-- whether a stop posts an event: if it is neither kept nor ignored
 abbrev pub is_post : StopAnswer → Bool
 is_post answers.Post = true
 is_post answers.Kept = false
 is_post answers.Ignored = false
 
--- A mode is told to stop. Where it is active, the event that says so is posted.
+-- A mode is told to stop. If it is active, the event that says so is posted.
 abbrev pub stop_mode : PlanView → ModeId → Machine → Machine
 stop_mode plan m s =
     let old = mode_state s.modes m in
@@ -151,7 +152,8 @@ stop_mode plan m s =
 abbrev pub drop_hold : ModeId → Machine → Machine
 drop_hold m s = set_game (released m s.game) s
 
--- A mode has stopped, and lets go of the end of the ball. If it was the last mode that held that, `ball_ended` is posted.
+-- A mode has stopped, and lets go of the end of the ball. If it was the last mode that held that, `ball_ended` is
+-- posted.
 abbrev pub release_ball_end : PlanView → ModeId → Machine → Machine
 release_ball_end plan m s =
     if may_hold_ball_end plan m
@@ -186,7 +188,7 @@ abbrev pub tell_change : Owner → ℕ → VariableId → EventId → Option ℤ
 tell_change owner player v e None s = s
 tell_change owner player v e (Some value) s = post owner e (write owner (lines.Player player v value) s)
 
--- An action on a variable of the current player. Where the variable does not change, nothing happens.
+-- An action on a variable of the current player. If the variable does not change, nothing happens.
 abbrev pub change_variable : PlanView → Owner → VariableId → VariableAction → ℤ → EventId → Machine → Machine
 change_variable plan owner v action n e s =
     let value = changed_to plan v action n s.players in
@@ -209,17 +211,17 @@ book owner call s =
     then write owner (lines.Balls (booked call s.ledger) (counts_of (after_call call s.ledger))) (set_ledger (after_call call s.ledger) s)
     else leave_out s
 
--- `ball_drain` is posted where `drain` holds and the game is in phase Ball
+-- `ball_drain` is posted if `drain` holds and the game is in phase Ball
 abbrev pub drain_if : PlanView → Owner → Bool → Machine → Machine
 drain_if plan owner drain s = if drain && is_ball_on s.game.phase then post owner (game_event plan BallDrain) s else s
 
 -- An effect list tells another device in two cases: a ball has entered a device, which the first device that is Away to
--- it is told; and more balls are wanted, which the first trough is told. In accepted plans what that device answers tells
--- no further one (`GoodRun`). So lists nest one deep, and nothing here calls itself. `do_action`, `do_list`, `do_answer` and
--- `call_device` come twice. With `_by` at the end they have an argument `tell`, which tells the other device. Without
--- it, `tell` is `tell_first`. This calls the other device by `call_device_by`, where `tell` is `tell_nobody`.
+-- it is told; and more balls are wanted, which the first trough is told. In accepted plans what that device answers
+-- tells no further one (`GoodRun`). So lists nest one deep, and nothing here calls itself. `do_action`, `do_list`,
+-- `do_answer` and `call_device` come twice. With `_by` at the end they have an argument `tell`, which tells the other
+-- device. Without it, `tell` is `tell_first`. This calls the other device by `call_device_by` with `tell_nobody`.
 
--- After a ball has entered a device: where it was on its way there, the device that ejected it is told; else it may have
+-- After a ball has entered a device: if it was on its way there, the device that ejected it is told; else it may have
 -- drained.
 abbrev pub after_entry : PlanView → (Telling → Machine → Machine) → Owner → RowId → Bool → Origin → Machine → Machine
 after_entry plan tell owner r drain Awaited s = tell (Arrived (Device r)) s
@@ -300,8 +302,8 @@ first_away plan target s = find (λ r. is_device_away (device_at s r)) (feeders_
 abbrev pub tell_nobody : Telling → Machine → Machine
 tell_nobody telling s = s
 
--- Which device is told. Of a ball that has arrived it is the first that is Away to the target. Of balls that are wanted it
--- is the first trough.
+-- Which device is told. Of a ball that has arrived it is the first that is Away to the target. Of balls that are wanted
+-- it is the first trough.
 abbrev pub told_device : PlanView → Telling → Machine → Option RowId
 told_device plan (Arrived target) s = first_away plan target s
 told_device plan (Wanted n) s = first_trough plan
@@ -339,7 +341,7 @@ do_target plan owner (Start m) s = start_mode plan m s
 do_target plan owner (Stop m) s = stop_mode plan m s
 do_target plan owner (Act r act) s = call_device plan (calls.Act act) r s
 
--- a binding does nothing where its condition is not met
+-- a binding does nothing if its condition is not met
 abbrev pub do_binding : PlanView → Binding → Machine → Machine
 do_binding plan b s = if is_met plan s.players b.condition then do_target plan b.owner b.target s else s
 
@@ -361,12 +363,12 @@ post_game plan which s = post owners.Machine (game_event plan which) s
 abbrev pub write_final : PlanView → ℕ → Machine → Machine
 write_final plan player s = write owners.Machine (lines.Final player (score_of plan s.players player)) s
 
--- so is that of each player, where this holds
+-- so is that of each player, if this holds
 abbrev pub write_finals : PlanView → Bool → Machine → Machine
 write_finals plan true s = all_do (write_final plan) (range_with_len 1 (length s.players.players)) s
 write_finals plan false s = s
 
--- where `asks` holds, one ball more is wanted
+-- if `asks` holds, one ball more is wanted
 abbrev pub ask_ball : PlanView → Bool → Machine → Machine
 ask_ball plan asks s = if asks then tell_first plan (Wanted 1) s else s
 
@@ -389,11 +391,12 @@ is_active_save _ = false
 abbrev pub first_active_save : PlanView → Machine → Option RowId
 first_active_save plan s = if is_ball_on s.game.phase then find (λ r. is_active_save (device_at s r)) (save_rows plan) else None
 
--- where only one ball is left in play, the multiballs end
+-- if only one ball is left in play, the multiballs end
 abbrev pub end_multiballs : PlanView → Machine → Machine
 end_multiballs plan s = if in_play s.game == 1 then all_do (call_device plan (calls.Act End)) (multiball_rows plan) s else s
 
--- A ball has drained. A ball save saves it, if there is one. Otherwise one ball less is in play, and multiballs may end.
+-- A ball has drained. A ball save saves it, if there is one. Otherwise one ball less is in play, and multiballs may
+-- end.
 abbrev pub drain_ball : PlanView → Option RowId → Machine → Machine
 drain_ball plan None s = end_multiballs plan (step_game plan BallDrain s)
 drain_ball plan (Some r) s = call_device plan (calls.Act Save) r s
@@ -416,8 +419,8 @@ tell_listeners plan a s = all_do (tell_listener plan a.active) (listeners_of pla
 abbrev pub confirm_on_playfield : PlanView → Change → Machine → Machine
 confirm_on_playfield plan a s = if a.active && (switch_at plan a.switch).confirms_playfield then tell_first plan (Arrived Playfield) s else s
 
--- A switch was accepted as active or inactive: its line is written, the devices that listen to it are told, and then its
--- events are posted. Before these a ball may have arrived on the playfield.
+-- A switch was accepted as active or inactive: its line is written, the devices that listen to it are told, and then
+-- its events are posted. Before these a ball may have arrived on the playfield.
 abbrev pub do_accepted : PlanView → Change → Machine → Machine
 do_accepted plan a s =
     all_do (post owners.Machine) (posts_of plan a.switch a.active)

@@ -1,4 +1,5 @@
--- What handlers and works do, one change of the machine after another, and which changes each may make.
+-- What handlers and the machine's own work do, one change of the machine after another, and which changes each may
+-- make.
 use Rattle.std.specs.{Prelude.{◌≡◌, ℕ, ℤ, ◌≤◌, ◌<◌, ◌⊎◌, Option, true, length}, List.list_any}
 use Rattle.plan_tables.specs.PlanView.{PlanView, actions_of, is_enable_of, mode_event, row_at, work_of}
 use Rattle.plan_tables.specs.Valid.{HasEntries, IsValid}
@@ -24,7 +25,8 @@ use Rattle.written_machine.specs.Run.{switch, device, Stimulus, SwitchChange, Al
 
 -- ---- single changes
 
--- One change of the machine. A new kind of change is a new constructor here, with a line in each function by cases below.
+-- One change of the machine. A new kind of change is a new constructor here, with a line in each function by cases
+-- below.
 pub data Move : Type 0 where
   Wrote : (owner : Owner) (what : Happening) → Move
   Sent : (owner : Owner) (e : EventId) → Move
@@ -42,7 +44,7 @@ pub data Move : Type 0 where
   Asked : (owner : Owner) (command : Command) → Move
   -- the ledger books something
   Booked : (owner : Owner) (call : LedgerCall) → Move
-  -- a variable of the current player has this value from now on, where there is one
+  -- a variable of the current player has this value from now on, if there is one
   Varied : (v : VariableId) (value : Option ℤ) → Move
   -- the game goes on by one of its events
   Stepped : (which : GameEvent) → Move
@@ -108,7 +110,7 @@ abbrev pub IsNoBooking : Happening → Type 0
 IsNoBooking (lines.Balls booking counts) = ⊥
 IsNoBooking _ = Unit {0}
 
--- where it is a mode, an action of it enables the coil
+-- if it is a mode, an action of it enables the coil
 abbrev pub MayHold : PlanView → CoilId → Owner → Type 0
 MayHold plan coil owners.Machine = Unit {0}
 MayHold plan coil (owners.Mode m) = list_any (is_enable_of coil) (actions_of plan (owners.Mode m)) ≡ true
@@ -119,16 +121,16 @@ IsListed plan owner (commands.Pulse coil ms power) = Unit {0}
 IsListed plan owner (commands.Enable coil power) = MayHold plan coil owner
 IsListed plan owner (commands.Disable coil) = Unit {0}
 
--- A licence: by which owners lines and events may come and devices be called, which events, whether switches may change,
--- and whether modes may be marked and let go of the end of the ball.
+-- A licence: by which owners lines and events may come and devices be called, which events, whether switches may
+-- change, and whether modes may be marked and let go of the end of the ball.
 pub record Licence : Type 1 where
   pub by : Owner → Type 0
   pub posts : EventId → Type 0
   pub switches : Type 0
   pub marks : Type 0
 
--- What a licence allows. Where the plan's numbers are those of entries, only events and modes of the plan are touched.
--- Owners are looked at where bindings act on devices of their own owner alone.
+-- What a licence allows. If the plan's numbers are those of entries, only events and modes of the plan are touched.
+-- Owners are looked at if bindings act on devices of their own owner alone.
 abbrev pub MayDo : PlanView → Licence → Move → Type 0
 MayDo plan l (Wrote owner what) = (ActsAreOwn plan → l.by owner) × IsNoEvent what × IsNoCommand what × IsNoBooking what
 MayDo plan l (Sent owner e) = (ActsAreOwn plan → l.by owner) × (HasEntries plan → e.0 < length plan.events) × l.posts e
@@ -144,7 +146,7 @@ MayDo plan l (Varied v value) = Unit {0}
 MayDo plan l (Stepped which) = Unit {0}
 MayDo plan l (AddedBalls n) = Unit {0}
 
--- Where nothing in a valid plan posts an event at which the machine itself does something, but the start button's, this
+-- If nothing in a valid plan posts an event at which the machine itself does something, but the start button's, this
 -- is none either, or it is that of a ball that drains.
 abbrev pub IsFreeThere : PlanView → EventId → Type 0
 IsFreeThere plan e = IsValid plan → PostsAreFree plan → IsFree plan e ⊎ (work_of plan e ≡ Game BallDrain)
@@ -172,7 +174,7 @@ TakesPart s owner = takes_part (running_of s.modes) owner ≡ true
 abbrev pub IsMachine : Owner → Type 0
 IsMachine owner = owner ≡ owners.Machine
 
--- lines and events of these owners; where it does not matter who posts what, no event at which the machine itself does
+-- lines and events of these owners; when it does not matter who posts what, no event at which the machine itself does
 -- something
 abbrev pub ordinary : PlanView → (Owner → Type 0) → Type 0 → Licence
 ordinary plan by switches = record { by = by; posts = IsFreeThere plan; switches = switches; marks = ⊥ }

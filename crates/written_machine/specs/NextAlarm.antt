@@ -14,7 +14,7 @@ next_of_switches s = option_map (λ d. (d.0, switch d.1)) (next_due s.switches)
 abbrev pub next_of_devices : Machine → Option (ℕ × Source)
 next_of_devices s = option_map (λ d. (d.0, device d.1)) (least_of (map devices.due_of s.devices))
 
--- of an alarm of a switch and one of a device the one that comes first: the switch's, where they are due at one moment
+-- of an alarm of a switch and one of a device the one that comes first: the switch's, if they are due at one moment
 abbrev pub first_of : Option (ℕ × Source) → Option (ℕ × Source) → Option (ℕ × Source)
 first_of None b = b
 first_of (Some a) None = Some a

@@ -5,7 +5,7 @@ use Rattle.event_queue.specs.{declared.queue.Posted.Posted, PlanOrder.by_priorit
 use Rattle.written_machine.specs.{Machine.Machine, Run.{Stimulus, begin}}
 use Rattle.written_machine.specs.EventStep.{before_handlers, handlers_in, after_event}
 
--- the event step in plan order; nothing where no event waits
+-- the event step in plan order; nothing if no event waits
 abbrev pub plan_step_from : PlanView → List Posted → Machine → Machine
 plan_step_from plan [] s = s
 plan_step_from plan (first ∷ rest) s =

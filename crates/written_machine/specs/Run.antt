@@ -19,8 +19,8 @@ abbrev pub source_due : Machine → Source → Option ℕ
 source_due s (switch n) = due_of s.switches n
 source_due s (device r) = devices.due_of (device_at s r)
 
--- When the parts of a source are due, by their numbers: `source_due` is the first of these moments. A switch has one part,
--- whatever the number.
+-- When the parts of a source are due, by their numbers: `source_due` is the first of these moments. A switch has one
+-- part, whatever the number.
 abbrev pub part_due : Machine → Source → ℕ → Option ℕ
 part_due s (switch n) k = due_of s.switches n
 part_due s (device r) k = devices.part_due (device_at s r) k
@@ -89,9 +89,9 @@ begin plan (Wait at) s = arrived at s
 
 -- ---- runs
 
--- Each stimulus comes with a number: how many event steps follow it. The next one comes only once nothing waits, so that
--- a run may stop in mid-cascade only at its end. In the trace the lines of each stimulus come after those of the one
--- before it.
+-- Each stimulus comes with a number: how many event steps follow it. The next one comes only once nothing waits, so
+-- that a run may stop in mid-cascade only at its end. In the trace the lines of each stimulus come after those of the
+-- one before it.
 abbrev pub IsRun : PlanView → List (Stimulus × ℕ) → Machine → List Line → Machine → Type 0
 IsRun plan [] old trace new = (trace ≡ []) × (new ≡ old)
 IsRun plan ((stimulus, n) ∷ more) old trace new =

@@ -12,7 +12,7 @@ holder_of owner (Pulse coil ms power) = None
 holder_of owner (Enable coil power) = Some owner
 holder_of owner (Disable coil) = None
 
--- the command that an owner sent at a moment, where that is what happened
+-- the command that an owner sent at a moment, if that is what happened
 abbrev pub sent_at : ℕ → Owner → Happening → List Sending
 sent_at moment owner (lines.Coil command) = record { at = moment; command = command; owner = holder_of owner command } ∷ []
 sent_at moment owner _ = []
@@ -24,7 +24,7 @@ sent_in l = sent_at l.moment l.owner l.happening
 abbrev pub sendings : List Line → List Sending
 sendings trace = flat_map sent_in trace
 
--- A command is idle at a moment, where these were sent before: a pulse of a coil that is held or rests, an enable of one
+-- A command is idle at a moment, if these were sent before: a pulse of a coil that is held or rests, an enable of one
 -- that is held, a disable of one that is off.
 abbrev pub IsIdle : List Sending → ℕ → Command → Type 0
 IsIdle sent moment (Pulse coil ms power) = (is_held sent coil ≡ true) ⊎ (is_resting sent coil moment ≡ true)

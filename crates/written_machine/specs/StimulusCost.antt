@@ -17,7 +17,7 @@ abbrev pub cost_of_alarm : PlanView → Machine → Source → Cost
 cost_of_alarm plan s (switch n) = cost_of_acceptance plan n (reported (accept n s.switches) n).active
 cost_of_alarm plan s (device r) = cost_of_call plan r calls.Fire
 
--- What a stimulus costs: a change costs the acceptance of the switch where it is accepted at once, else nothing.
+-- What a stimulus costs: a change costs the acceptance of the switch if it is accepted at once, else nothing.
 -- A wait costs nothing.
 abbrev pub cost_of_stimulus : PlanView → Machine → Stimulus → Cost
 cost_of_stimulus plan s (SwitchChange at n level) = cost_if_accepted plan (reported_by_change n level at s.switches)

@@ -23,7 +23,7 @@ pub fn accepted_is_good()
 /// The law of the guard of the coils, for every valid plan in which no action asks for more than its
 /// coil may: in every run, what the guard remembers of a coil follows from the commands that were
 /// sent. So the coils that are on by these commands are the ones that the guard says are on. What a
-/// rig puts off when it is shut down rests on this.
+/// rig turns off when it is shut down rests on this.
 ///
 /// It does nothing: its contract is the law, over all runs of the written machine.
 pub fn guards_follow_commands()
@@ -33,7 +33,7 @@ pub fn guards_follow_commands()
 /// The law of alarms, for every valid plan. A stimulus and its event steps arm nothing for its own
 /// moment or an earlier one: what is due after them was due before, or is due later (`arms_later`).
 /// An alarm is that of one part of its source, such as one ball switch of a ball device. If that part
-/// is due again, it is due later than the alarm came, where each device has a state of its kind
+/// is due again, it is due later than the alarm came, if each device has a state of its kind
 /// (`done`), as it has in every run (`shapes`). So each part comes at most once at each moment, and
 /// alarms come to an end: in a run of the plan, after at most as many alarms as `most_alarms` says,
 /// none is due by the moment (`end`).

@@ -27,6 +27,6 @@ pub drop_spaces : (n : ℕ) (text : List ℕ) → drop n (replicate n 32 ++ text
 drop_spaces zero text = refl
 drop_spaces (suc n) text = drop_spaces n text
 
--- behind the spaces is behind the blanks, where no tab follows them
+-- behind the spaces is behind the blanks, if no tab follows them
 pub blanks_are_spaces : (raw text : List ℕ) (n : ℕ) → raw ≡ replicate n 32 ++ text → begins_blank text ≡ false → behind_blanks raw ≡ text
 blanks_are_spaces raw text n parts h = behind_blanks-is raw text (record { blanks = replicate n 32; are_blank = spaces_are_blank n; parts = parts; no_more = h })

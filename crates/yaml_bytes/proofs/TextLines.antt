@@ -63,7 +63,7 @@ module _ (text front rest : List ℕ) (n : ℕ) (first_lf : n ≡ position_or_le
 abbrev pub onto_line : ℕ → List ℕ × Option (List ℕ) → List ℕ × Option (List ℕ)
 onto_line b r = (b ∷ r.0, r.1)
 
--- without the CR at a place, where that is the last
+-- without the CR at a place, if that is the last
 abbrev strip_at : ℕ → List ℕ → List ℕ
 strip_at n line = cond (slice_index line n == 13) (take n line) line
 
@@ -77,6 +77,6 @@ other_step : (b c : ℕ) (cs : List ℕ) (lf : Bool) → is_lf c ≡ lf → is_l
 other_step b c cs true e f g = rw (f, e) (rw (and_true_left (b == 13) g) refl)
 other_step b c cs false e f g = rw (f, e) (simp one-add (with_more b c (take (position_or_len is_lf cs) cs) (drop (position_or_len is_lf cs) cs)))
 
--- a byte where no line ends is in front of the first line of what follows it
+-- a byte at which no line ends is in front of the first line of what follows it
 pub cut_other : (b : ℕ) (bs : List ℕ) → ends_line b bs ≡ false → cut_line (b ∷ bs) ≡ onto_line b (cut_line bs)
 cut_other b x2 e = search (rules, or_parts, other_step)

@@ -45,11 +45,12 @@ is_indicator b =
     (b == 44) || (b == 91) || (b == 93) || (b == 123) || (b == 125) || (b == 35) || (b == 38) || (b == 42)
     || (b == 33) || (b == 124) || (b == 62) || (b == 39) || (b == 34) || (b == 37) || (b == 64) || (b == 96)
 
--- `-`, `?` and `:`, which begin a plain word only where no gap follows, and in flow none of `, [ ] { }` either
+-- `-`, `?` and `:`, which begin a plain word only if no gap follows, and in flow none of `, [ ] { }` either
 abbrev pub is_mark : ℕ → Bool
 is_mark b = (b == 45) || (b == 63) || (b == 58)
 
--- Whether a plain word may begin here: with no blank, no indicator, and no mark that a gap follows, nor in flow one of `, [ ] { }`.
+-- Whether a plain word may begin here: with no blank, no indicator, and no mark that a gap follows, nor in flow one of
+-- `, [ ] { }`.
 abbrev pub begins_word : Bool → List ℕ → Bool
 begins_word flow [] = false
 begins_word flow (b ∷ bs) = not (is_blank b) && (not (is_indicator b) && not (is_mark b && begins_break flow bs))

@@ -19,7 +19,7 @@ abbrev pub line_with : List ℕ → List ℕ → List ℕ × Option (List ℕ)
 line_with front [] = (front, None)
 line_with front (lf ∷ after) = (strip_carriage_return front, Some after)
 
--- the first line of a text, and what comes after its LF, where it has one
+-- the first line of a text, and what comes after its LF, if it has one
 abbrev pub cut_line : List ℕ → List ℕ × Option (List ℕ)
 cut_line text = line_with (take (position_or_len is_lf text) text) (drop (position_or_len is_lf text) text)
 
@@ -38,7 +38,7 @@ lines_between (part ∷ next ∷ more) = strip_carriage_return part ∷ lines_be
 abbrev pub lines_of : List ℕ → List (List ℕ)
 lines_of text = lines_between (slice_split is_lf text)
 
--- the lines of what comes after a line, where something does
+-- the lines of what comes after a line, if something does
 abbrev pub lines_after : Option (List ℕ) → List (List ℕ)
 lines_after None = []
 lines_after (Some text) = lines_of text

@@ -18,13 +18,13 @@ pub record IsBehindBlanks (text rest : List ℕ) : Type 0 where
   pub parts : text ≡ blanks ++ rest
   pub no_more : begins_blank rest ≡ false
 
--- Whether a plain word ends before what follows: nothing, `#` after a blank, `:` before a gap, or in flow one of `, [ ] { }` or a `:` directly
--- before one of these. The byte in front is given.
+-- Whether a plain word ends before what follows: nothing, `#` after a blank, `:` before a gap, or in flow one of
+-- `, [ ] { }` or a `:` directly before one of these. The byte in front is given.
 abbrev pub ends_word : Bool → ℕ → List ℕ → Bool
 ends_word flow before [] = true
 ends_word flow before (b ∷ after) = (flow && is_flow_indicator b) || (((b == 35) && is_blank before) || ((b == 58) && begins_break flow after))
 
--- whether a plain word ends at the place n, where the text counts as one after a blank
+-- whether a plain word ends at the place n, if the text counts as one after a blank
 abbrev pub ends_word_at : Bool → List ℕ → ℕ → Bool
 ends_word_at flow text n = ends_word flow (slice_index (32 ∷ text) n) (drop n text)
 

@@ -8,7 +8,7 @@ abbrev pub word_len : Bool → ℕ → List ℕ → ℕ
 word_len flow before [] = 0
 word_len flow before (b ∷ bs) = if ends_word flow before (b ∷ bs) then 0 else suc (word_len flow b bs)
 
--- a byte in front of a text, where a blank in front of nothing is dropped
+-- a byte in front of a text; a blank in front of nothing is dropped
 abbrev pub onto_trimmed : ℕ → List ℕ → List ℕ
 onto_trimmed b [] = if is_blank b then [] else b ∷ []
 onto_trimmed b (c ∷ cs) = b ∷ c ∷ cs
@@ -44,7 +44,7 @@ abbrev pub behind_dash : List ℕ → Option (List ℕ)
 behind_dash [] = None
 behind_dash (b ∷ after) = if (b == 45) && begins_gap after then Some after else None
 
--- A text without its last bytes, as many as `after` has and one more. Where `after` is what comes after the colon of an entry, this is what comes
--- before the colon.
+-- A text without its last bytes, as many as `after` has and one more. If `after` is what comes after the colon of an
+-- entry, this is what comes before the colon.
 abbrev pub before_colon : List ℕ → List ℕ → List ℕ
 before_colon text after = take (length text - (length after + 1)) text

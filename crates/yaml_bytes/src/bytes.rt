@@ -93,7 +93,7 @@ fn is_indicator(b: u8) -> bool
         || b == b'`'
 }
 
-/// Whether a byte is `-`, `?` or `:`. These begin a plain word only where no gap follows, and in flow
+/// Whether a byte is `-`, `?` or `:`. These begin a plain word only if no gap follows, and in flow
 /// none of `, [ ] { }` either.
 pub fn is_mark(b: u8) -> bool
     ensures { result ≡ is_mark b }

@@ -27,7 +27,7 @@ fn without_cr(line: &[u8]) -> &[u8]
 }
 
 /// The first line of a text, and what comes after it. LF ends a line, and a CR directly before that
-/// LF is no part of the line. Where no LF comes, the line is the whole text, also with a CR at its
+/// LF is no part of the line. If no LF comes, the line is the whole text, also with a CR at its
 /// end, and nothing comes after it.
 pub fn split_line(text: &[u8]) -> (&[u8], Option<&[u8]>)
     ensures first { result.0.now ≡ (cut_line text.now).0 }

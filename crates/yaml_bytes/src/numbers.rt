@@ -5,7 +5,7 @@ ghost use Rattle.std.specs.List.{list_all};
 ghost use Rattle.std.specs.Char.{is_ascii_digit};
 ghost use Rattle.yaml_bytes.specs.Numbers.{number_at};
 
-/// The number that a text writes in decimal digits alone, where it is below 2^64. Any other text has
+/// The number that a text writes in decimal digits alone, if it is below 2^64. Any other text has
 /// none, nor has the empty one. Zeros in front are read, a `+` is not.
 pub fn number(text: &[u8]) -> Option<u64>
     ensures { result ≡ number_at text.now }

@@ -126,7 +126,7 @@ pub fn behind_spaces(text: &[u8]) -> &[u8]
     rest
 }
 
-/// What comes after the `-` of an item, where the text is an item.
+/// What comes after the `-` of an item, if the text is an item.
 pub fn behind_dash(text: &[u8]) -> Option<&[u8]>
     ensures { option_slice (λ after. after) result ≡ behind_dash text.now }
 {
@@ -142,7 +142,7 @@ pub fn behind_dash(text: &[u8]) -> Option<&[u8]>
     }
 }
 
-/// A text without its last bytes, as many as `after` has and one more. Where `after` is what comes
+/// A text without its last bytes, as many as `after` has and one more. If `after` is what comes
 /// after the colon of an entry, this is what comes before the colon.
 pub fn before_colon<'a>(text: &'a [u8], after: &[u8]) -> &'a [u8]
     ensures { result.now ≡ before_colon text.now after.now }

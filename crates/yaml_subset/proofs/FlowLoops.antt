@@ -5,7 +5,8 @@ use Rattle.yaml_subset.specs.declared.place.Halt.TheVariants as halts
 use Rattle.yaml_subset.proofs.Groups.{fails_then}
 use Rattle.yaml_subset.specs.Flow.{begins_with, start_at, behind_close_at, parted_at, parts_at, between_at}
 
--- The parts so far, after which the others are still read: with so many parts left to read, this gives what the whole does.
+-- The parts so far, after which the others are still read: with so many parts left to read, this gives what the whole
+-- does.
 pub record IsSoFar {A : Type 0} (n close : ℕ) (part : List A → List ℕ → Result (A × List ℕ) PlacedFault) (total : Result (List A × List ℕ) PlacedFault) (before : List A) (text : List ℕ) : Type 0 where
   pub left : ℕ
   pub room : length text < left

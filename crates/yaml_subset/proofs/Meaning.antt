@@ -15,7 +15,7 @@ use Rattle.yaml_bytes.proofs.Spaces.{spaces_parts, spaces_len-is, drop_spaces, b
 use Rattle.yaml_subset.proofs.Heads.{dash_sound, dash_complete, item_head, alone_sound, alone_complete, key_sound, key_complete, key_begins, key_no_item, key_at_sound, key_at_complete, entry_sound, entry_short, inline_sound, inline_complete}
 use Rattle.yaml_subset.proofs.Runs.{AllStand, groups_are_run, run_stands, run_is_groups}
 
--- f gives the tree that lines have, and gives none where they have none
+-- f gives the tree that lines have, and gives none if they have none
 pub record Computes (f : List Line → Result Node PlacedFault) (R : List Line → Node → Type 0) : Type 0 where
   pub sound : (ls : List Line) (t : Node) → f ls ≡ Ok t → R ls t
   pub complete : (ls : List Line) (t : Node) → R ls t → f ls ≡ Ok t

@@ -55,7 +55,8 @@ pub record IsBetween {A : Type 0} (opening close : ℕ) (IsPart : List A → Lis
   pub behind : IsBehindBlanks after body
   pub each : ArePartsTo close IsPart [] body parts rest
 
--- A key that is none of those before it, `:` before a gap and at most 1,024 characters after the key's begin, and a value.
+-- A key that is none of those before it, `:` before a gap and at most 1,024 characters after the key's begin, and a
+-- value.
 pub record IsFlowPair (n : ℕ) (IsValue : List ℕ → Node → List ℕ → Type 0) (before : List Pair) (text : List ℕ) (p : Pair) (rest : List ℕ) : Type 0 where
   pub line : p.line ≡ n
   pub after : List ℕ
@@ -79,15 +80,15 @@ IsBracketed n IsValue text t rest =
 abbrev pub IsFlowValue : ℕ → (List ℕ → Node → List ℕ → Type 0) → List ℕ → Node → List ℕ → Type 0
 IsFlowValue n IsInner text t rest = ((value : List ℕ) × IsWordAt true text value rest × (t ≡ scalar n value)) ⊎ IsInner text t rest
 
--- A text begins with a list or a mapping, at most so many of them one inside the other, all on the line n; this rest comes after it and the
--- blanks after it.
+-- A text begins with a list or a mapping, at most so many of them one inside the other, all on the line n; this rest
+-- comes after it and the blanks after it.
 abbrev pub IsFlow : ℕ → ℕ → List ℕ → Node → List ℕ → Type 0
 IsFlow zero n text t rest = ⊥
 IsFlow (suc levels) n text t rest = IsBracketed n (IsFlowValue n (IsFlow levels n)) text t rest
 
 -- ---- reading them from the first byte to the last
 
--- whether the line's text ends here: by its end, or by a comment where a blank is in front
+-- whether the line's text ends here: by its end, or by a comment if a blank is in front
 abbrev pub is_ended : Bool → List ℕ → Bool
 is_ended blank [] = true
 is_ended blank (b ∷ bs) = blank && (b == 35)

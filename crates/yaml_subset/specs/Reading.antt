@@ -16,7 +16,8 @@ fault_of kind l = fault_at kind l.number (length l.text)
 
 -- ---- one line
 
--- what a line begins: an item, with what comes after its `-`; an entry, with its key and what comes after its colon; or a value
+-- what a line begins: an item, with what comes after its `-`; an entry, with its key and what comes after its colon; or
+-- a value
 pub data Head : Type 0 where
   item : List ℕ → Head
   entry : List ℕ → List ℕ → Head
@@ -103,7 +104,7 @@ abbrev pub misplaced : Option ℕ → Line → FaultKind
 misplaced None l = Indent
 misplaced (Some around) l = if l.indent == around then NotInSubset else Indent
 
--- a value that is on a line, where these lines are below it
+-- a value that is on a line, below which these lines are
 unfoldable pub closed_at : Option ℕ → Node → List Line → Result Node PlacedFault
 closed_at around t [] = Ok t
 closed_at around t (l ∷ ls) = fault_of (misplaced around l) l
@@ -114,7 +115,7 @@ entry_value_at block n i (Some t) below = closed_at (Some i) t below
 entry_value_at block n i None [] = Ok (scalar n [])
 entry_value_at block n i None (l ∷ ls) = block (Some i) (l ∷ ls)
 
--- The pair of a line, with the fault that comes first on it: where the line is no entry, that is at its first character.
+-- The pair of a line, with the fault that comes first on it: if the line is no entry, that is at its first character.
 unfoldable pub pair_from : ℕ → BlockReader → ℕ → List (List ℕ) → Group → Option (List ℕ × List ℕ) → Result Pair PlacedFault
 pair_from depth block i before g None = fault_of NotInSubset g.head
 pair_from depth block i before g (Some k) =
@@ -146,7 +147,7 @@ mapping_at depth block around first others =
 abbrev pub inner : Line → List ℕ → Line
 inner l after = record { number = l.number; indent = l.indent + (1 + spaces_len after); text = behind_spaces after }
 
--- after the `-` of an item, where this begins there
+-- after the `-` of an item, if this begins there
 unfoldable pub item_with : ℕ → BlockReader → ℕ → Group → List ℕ → Head → Result Node PlacedFault
 item_with depth block i g after (item behind) = fault_at NotInSubset g.head.number (length (behind_blanks after))
 item_with depth block i g after (alone t) = entry_value_at block g.head.number i (Some t) g.below
@@ -184,7 +185,7 @@ block_from depth block around first others (item after) = sequence_at depth bloc
 block_from depth block around first others (entry key after) = mapping_at depth block around first others
 block_from depth block around first others (alone t) = closed_at around t others
 
--- the same where no level is left
+-- the same if no level is left
 unfoldable pub deep_from : Option ℕ → Line → List Line → Head → Result Node PlacedFault
 deep_from around first others (item after) = fault_of TooDeep first
 deep_from around first others (entry key after) = fault_of TooDeep first
@@ -194,14 +195,15 @@ unfoldable pub block_at : ℕ → (Option ℕ → Line → List Line → Head �
 block_at depth from around [] = Ok (mapping 1 no_pairs)
 block_at depth from around (first ∷ others) = head_at depth first.number first.text >>= λ h. from around first others h
 
--- the tree of lines with at most so many sequences and mappings one inside the other, and of those on one line at most so many
+-- the tree of lines with at most so many sequences and mappings one inside the other, and of those on one line at most
+-- so many
 unfoldable pub tree_at : ℕ → ℕ → BlockReader
 tree_at zero depth = block_at depth deep_from
 tree_at (suc levels) depth = block_at depth (block_from depth (tree_at levels depth))
 
 -- ---- texts
 
--- one line: its content, or nothing where it is blank or a comment
+-- one line: its content, or nothing if it is blank or a comment
 unfoldable pub content_at : ℕ → List ℕ → Result (Option Line) PlacedFault
 content_at n raw =
     if is_over (behind_blanks raw)

@@ -28,7 +28,8 @@ AreGroups hangs i lines [] = lines ≡ []
 AreGroups hangs i lines (g ∷ gs) =
     (rest : List Line) × (lines ≡ g.head ∷ (g.below ++ rest)) × Stands hangs i g.head × AllByRecursion (λ l. hangs l ≡ true) g.below × AreGroups hangs i rest gs
 
--- The value of an entry or item on the line n: what is on its line, with nothing below; or else the block below; or else the empty text.
+-- The value of an entry or item on the line n: what is on its line, with nothing below; or else the block below; or
+-- else the empty text.
 abbrev pub IsEntryValue : (List Line → Node → Type 0) → ℕ → Option Node → List Line → Node → Type 0
 IsEntryValue IsBelow n (Some u) below t = (below ≡ []) × (t ≡ u)
 IsEntryValue IsBelow n None [] t = t ≡ scalar n []
@@ -109,12 +110,14 @@ ByLines IsBlock (first ∷ others) t = IsBlock first others t
 abbrev pub IsBlock : ℕ → (List Line → Node → Type 0) → Line → List Line → Node → Type 0
 IsBlock depth IsBelow first others t = IsSequence depth IsBelow first others t ⊎ (IsMapping depth IsBelow first others t ⊎ IsAlone depth first others t)
 
--- The tree of lines with at most so many sequences and mappings one inside the other, and of those on one line at most so many.
+-- The tree of lines with at most so many sequences and mappings one inside the other, and of those on one line at most
+-- so many.
 abbrev pub IsTree : ℕ → ℕ → List Line → Node → Type 0
 IsTree zero depth = ByLines (λ first others t. IsAlone depth first others t)
 IsTree (suc levels) depth = ByLines (IsBlock depth (IsTree levels depth))
 
--- The tree of a text with at most so many sequences and mappings one inside the other, and of those on one line at most so many.
+-- The tree of a text with at most so many sequences and mappings one inside the other, and of those on one line at most
+-- so many.
 pub record IsTreeOf (levels depth : ℕ) (text : List ℕ) (tree : Node) : Type 0 where
   pub lines : List Line
   pub content : HaveContent 1 (lines_of text) lines

@@ -13,7 +13,8 @@ use Rattle.yaml_subset.specs.Quoted.{IsSingle, IsDouble, single_at, double_at}
 abbrev pub breaks_flow : Bool → List ℕ → Bool
 breaks_flow flow text = flow && begins_bare_colon text
 
--- Whether a text in quotes may come before this, after a blank or not: nothing, `#` after a blank, `:` before a gap, or in flow `,` `]` `}`.
+-- Whether a text in quotes may come before this, after a blank or not: nothing, `#` after a blank, `:` before a gap, or
+-- in flow `,` `]` `}`.
 abbrev pub may_follow : Bool → Bool → List ℕ → Bool
 may_follow flow blank [] = true
 may_follow flow blank (b ∷ after) = (flow && ((b == 44) || (b == 93) || (b == 125))) || (((b == 35) && blank) || ((b == 58) && begins_gap after))

@@ -92,7 +92,7 @@ fn misplaced(around: Option<usize>, line: &Line) -> Halt
     line.fault(kind)
 }
 
-// A value that is on a line, where no line may be below it.
+// A value that is on a line, below which no line may be.
 #[tactic(auto, unfolding(crate::specs::Reading::closed_at))]
 fn closed<'a>(around: Option<usize>, value: Tree<'a>, below: &[Line]) -> Result<Tree<'a>, Halt>
     ensures { GivesOrHalts node_view result (closed_at around (node_view value.entry) (lines_view below.now)) }

@@ -46,7 +46,7 @@ pub fn begins_bracket(text: &[u8]) -> bool
     }
 }
 
-// Whether the line's text ends here: by its end, or by a comment where a blank is in front.
+// Whether the line's text ends here: by its end, or by a comment if a blank is in front.
 fn is_ended(blank: bool, text: &[u8]) -> bool
     ensures { result ≡ is_ended blank text.now }
 {
@@ -241,8 +241,8 @@ fn mapping(
 ///
 /// The error is the leftmost fault: what is wrong with a word at its place; `DuplicateKey` at the second
 /// of two equal keys; `NotInSubset` at the colon of a key that is too long, and at a `:` before a gap
-/// that is no key's; `TooDeep` at a bracket or brace; `Flow` where something else is in the
-/// place of a comma, a colon, a value or the closing bracket or brace, and at the line's end where
+/// that is no key's; `TooDeep` at a bracket or brace; `Flow` if something else is in the
+/// place of a comma, a colon, a value or the closing bracket or brace, and at the line's end if
 /// this is missing.
 #[cycle(flow)]
 #[tactic(auto, unfolding(crate::specs::Flow::flow_at, crate::specs::Flow::bracketed_at))]

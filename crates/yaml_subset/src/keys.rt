@@ -27,7 +27,7 @@ const FEW_KEYS: usize = 16;
 pub(crate) fn is_too_long(front: &[u8]) -> bool
     ensures { result ≡ nat_lt 1024 (characters front.now) }
 {
-    // Characters are counted only where there are so many bytes.
+    // Characters are counted only if there are so many bytes.
     front.len() > MAX_KEY && characters(front) > MAX_KEY
 }
 
@@ -41,7 +41,7 @@ pub fn no_keys<'t>(alloc: Global, hashing: KeyHashing) -> KeySet<'t>
     IndexSet::with_hasher(alloc, hashing)
 }
 
-/// Takes a key, and says whether it is new. Where memory runs out it may be taken or not.
+/// Takes a key, and says whether it is new. If memory runs out, it may be taken or not.
 pub fn take_key<'t>(keys: &mut KeySet<'t>, key: CowSlice<'t, u8>) -> Result<bool, AllocError>
     ensures fresh { IfOk result (λ fresh. fresh ≡ not (is_among (copies_view keys.old) (cow_slice_items key.entry))) }
     ensures known { IfOk result (λ fresh. (q : List ℕ) → is_among (copies_view keys.new) q ≡ (bytes_eq (cow_slice_items key.entry) q || is_among (copies_view keys.old) q)) }
@@ -50,7 +50,7 @@ pub fn take_key<'t>(keys: &mut KeySet<'t>, key: CowSlice<'t, u8>) -> Result<bool
     Ok(fresh)
 }
 
-// Takes a copy of a key, and says whether it is new. Where memory runs out it may be taken or not.
+// Takes a copy of a key, and says whether it is new. If memory runs out, it may be taken or not.
 fn take_copy<'t>(keys: &mut KeySet<'t>, key: &CowSlice<'t, u8>) -> Result<bool, AllocError>
     ensures fresh { IfOk result (λ fresh. fresh ≡ not (is_among (copies_view keys.old) (cow_slice_items key.now))) }
     ensures known { IfOk result (λ fresh. (q : List ℕ) → is_among (copies_view keys.new) q ≡ (bytes_eq (cow_slice_items key.now) q || is_among (copies_view keys.old) q)) }
@@ -81,8 +81,8 @@ fn has_key(pairs: &[(Key, Tree)], key: &[u8]) -> bool
 }
 
 /// Takes a key that comes after pairs, and says whether it is none of their keys. The set has copies
-/// of their keys, or still none, as where they are few: then keys are compared one by one. Where
-/// memory runs out it may have any of them.
+/// of their keys, or still none, as when they are few: then keys are compared one by one. If
+/// memory runs out, it may have any of them.
 pub(crate) fn take_next<'t>(
     keys: &mut KeySet<'t>,
     pairs: &[(Key<'t>, Tree<'t>)],

@@ -86,7 +86,7 @@ fn blemish(number: u32, raw: &[u8]) -> Option<PlacedFault>
     None
 }
 
-// The content of a line, or nothing where it is blank or a comment.
+// The content of a line, or nothing if it is blank or a comment.
 #[tactic(auto, unfolding(crate::specs::Reading::content_at))]
 fn content(number: u32, raw: &[u8]) -> Result<Option<Line<'_>>, PlacedFault>
     ensures { GivesOrFaults line_option_view result (content_at number raw.now) }
@@ -108,7 +108,7 @@ fn content(number: u32, raw: &[u8]) -> Result<Option<Line<'_>>, PlacedFault>
     }))
 }
 
-/// The lines with content up to the first line that has a fault by itself, and that fault. Where
+/// The lines with content up to the first line that has a fault by itself, and that fault. If
 /// only the line's characters are at fault, it is the last of the lines.
 #[derive(Drop)]
 pub struct Contents<'a> {
@@ -116,7 +116,7 @@ pub struct Contents<'a> {
     pub fault: Option<PlacedFault>,
 }
 
-// Puts a line after others, where there is one.
+// Puts a line after others, if there is one.
 fn push_line<'a>(lines: &mut Vec<Line<'a>>, found: Option<Line<'a>>) -> Result<(), AllocError>
     ensures { IfOk result (λ _. lines_view lines.new.items ≡ lines_view lines.old.items ++ option_to_list (line_option_view found.entry)) }
 {

@@ -49,7 +49,7 @@ fn each_single(alloc: Global, number: u32, text: &[u8]) -> Result<(Vec<u8>, &[u8
 }
 
 /// The value of a text in single quotes, read from after the first quote on, and what follows the last.
-/// It has bytes of its own only where a quote is written in it.
+/// It has bytes of its own only if a quote is written in it.
 pub fn single(alloc: Global, number: u32, text: &[u8]) -> Result<(CowSlice<'_, u8>, &[u8]), Halt>
     ensures { GivesOrHalts word_view result (single_at number text.now) }
 {
@@ -125,7 +125,7 @@ fn each_double(alloc: Global, number: u32, text: &[u8]) -> Result<(Vec<u8>, &[u8
 }
 
 /// The value of a text in double quotes, read from after the first quote on, and what follows the last.
-/// It has bytes of its own only where a backslash is in it.
+/// It has bytes of its own only if a backslash is in it.
 pub fn double(alloc: Global, number: u32, text: &[u8]) -> Result<(CowSlice<'_, u8>, &[u8]), Halt>
     ensures { GivesOrHalts word_view result (double_at number text.now) }
 {

@@ -71,7 +71,7 @@ pub fn read(alloc: Global, text: &[u8]) -> Result<Tree<'_>, YamlFault>
     read_hashed(alloc, KeyHashing::of(text), text)
 }
 
-/// The same, with keys hashed as the caller says: where many texts are read, one SipHash of all of
+/// The same, with keys hashed as the caller says: if many texts are read, one SipHash of all of
 /// them is enough.
 ///
 /// # Errors

@@ -6,18 +6,18 @@ ghost use Rattle.yaml_subset.specs.View.{node_view, pair_view, line_of, text_in,
 use std::borrow::CowSlice;
 
 /// A key, with the line where it begins. Its text is a part of what was read, and has bytes of its own
-/// only where an escape is written in it.
+/// only if an escape is written in it.
 #[derive(Drop)]
 pub struct Key<'t> {
     pub line: u32,
     pub text: CowSlice<'t, u8>,
 }
 
-/// A node of a text, with the line where it begins, counted from 1. Where no value
+/// A node of a text, with the line where it begins, counted from 1. If no value
 /// is written, that is the line of the key or `-` in front of it. Its texts are as the text of a key.
 #[derive(Drop)]
 pub enum Tree<'t> {
-    /// A text; the empty text where there is no value.
+    /// A text; the empty text if there is no value.
     Scalar(u32, CowSlice<'t, u8>),
     /// Nodes in order.
     List(u32, Vec<Tree<'t>>),

@@ -1,4 +1,4 @@
-//! What each error of the program says of itself, each variant of it.
+//! What each variant of each error of the program says.
 
 use crate::asserts::assert_text;
 use command_line::AskFault;

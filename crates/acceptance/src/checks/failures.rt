@@ -215,7 +215,7 @@ fn add_said(pen: &mut Pen, failure: &Failure) {
     pen.put(std::str::from_utf8(&writer).unwrap_or("no UTF-8"));
 }
 
-// A second line names the file, where one is at fault.
+// A second line names the file, if one is at fault.
 const SAID: &str = "\
 fault: Read
 file: a b

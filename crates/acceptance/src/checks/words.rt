@@ -43,7 +43,7 @@ check -h => usage
 check --version => usage
 -- check => usage";
 
-/// Adds a word to words. Where memory is out it is missing, and what is written is lost.
+/// Adds a word to words. If memory runs out, it is missing, and what is written is lost.
 fn add_word(pen: &mut Pen, words: &mut Vec<String>, word: &str) {
     let is_added = match String::from_str(pen.alloc, word) {
         Ok(word) => words.push(word).is_ok(),
@@ -96,7 +96,7 @@ fn words_ask(rt: HostRuntime) {
     assert_text(&rt, &wrong, "");
 }
 
-/// The usage that is told; empty where none is.
+/// The usage that is told; empty if none is.
 fn usage(alloc: Global, words: Vec<String>) -> String {
     match command(alloc, words) {
         Err(AskFault::Usage(text)) => text,

@@ -36,7 +36,7 @@ pub(crate) fn play_log(
     }
 }
 
-/// A device for each row. Where memory is out some are missing, and what is written is lost.
+/// A device for each row. If memory runs out, some are missing, and what is written is lost.
 fn devices_of(pen: &mut Pen, rows: &[DeviceRow]) -> Devices {
     let mut devices = Vec::new(pen.alloc);
     for row in rows {

@@ -1,5 +1,5 @@
-//! What devices are to do, by plain rules: what is remembered for each player, the coils, ball saves and multiballs. A player who
-//! has a slot of their own has a first one again as soon as a game begins.
+//! What devices are to do, by plain rules: what is remembered for each player, the coils, ball saves and multiballs. A
+//! player who has a slot of their own has a first one again as soon as a game begins.
 
 use crate::devices::banks::call_bank;
 use crate::devices::blocks::call_block;

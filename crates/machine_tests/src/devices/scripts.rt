@@ -131,7 +131,7 @@ struct Script<'a> {
     text: &'a [u8],
     /// The place of the reader.
     place: usize,
-    /// The number of the device that comes next; 0 where none does.
+    /// The number of the device that comes next; 0 if none does.
     next: i64,
     holds: bool,
     window: u32,

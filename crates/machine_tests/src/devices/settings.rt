@@ -26,7 +26,7 @@ fn block_of(bits: u32) -> BlockSettings {
     }
 }
 
-/// A counter, up, or down where the interval is below 0.
+/// A counter, up, or down if the interval is below 0.
 pub(crate) fn counter_of(
     bits: u32,
     start: i64,

@@ -108,12 +108,12 @@ struct Walk<'s> {
     state: &'s mut u64,
     /// Whether it is the walk of one player who most often hits.
     orderly: bool,
-    /// How many calls answered more than usual; none where something was not as in the model.
+    /// How many calls answered more than usual; none if something was not as in the model.
     completed: Option<u32>,
 }
 
 impl Walk<'_> {
-    /// A call at a moment a little later. Where the device fires, this is most often the one at which it is due.
+    /// A call at a moment a little later. If the device fires, this is most often the one at which it is due.
     fn step<D: Device>(&mut self, device: &mut D, world: World, now: &mut u32, shot: i64) {
         let (letter, number) = draw_call(self.state, self.kind.list, self.orderly, shot);
         let due = u32::try_from(device.due().unwrap_or(0)).unwrap_or(0);
@@ -173,8 +173,8 @@ fn walked(kind: u32) -> (u32, Option<u32>) {
     (completed, wrong)
 }
 
-/// 500 devices of each kind, with 40 calls of each. And 8 walks of banks of each kind, and 8 orderly ones, with 80 calls
-/// in each. The number that is told has the kind, and in its last four digits the device.
+/// 500 devices of each kind, with 40 calls of each. And 8 walks of banks of each kind, and 8 orderly ones, with 80
+/// calls in each. The number that is told has the kind, and in its last four digits the device.
 #[test]
 fn random_devices(rt: HostRuntime) {
     for kind in 0..9u32 {

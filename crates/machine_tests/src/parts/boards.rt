@@ -19,7 +19,7 @@ fn number_of(command: Option<&Command>) -> u16 {
     }
 }
 
-/// The numbers of the commands that were taken, as digits; 0 where somebody has borrowed the list to change it.
+/// The numbers of the commands that were taken, as digits; 0 if somebody has borrowed the list to change it.
 fn digits_of(taken: &Taken) -> u32 {
     let mut digits = 0u32;
     if let Ok(taken) = taken.try_borrow() {

@@ -199,7 +199,7 @@ const HELD: CoilLimits = CoilLimits {
 };
 
 /// Each of 256 coils is called at the same moment: it is disabled, while it is the lowest one that is on; or pulsed
-/// where its number is even, and else enabled. Gives how many sent the command.
+/// if its number is even, and else enabled. Gives how many sent the command.
 fn call_all(guard: &mut Guarded, disables: bool, moment: u32) -> u32 {
     let mut sent = 0u32;
     for coil in 0..256u16 {
@@ -222,7 +222,7 @@ fn call_all(guard: &mut Guarded, disables: bool, moment: u32) -> u32 {
     sent
 }
 
-/// Whether 256 coils are on at once, some held and some by pulses, and are put off in order.
+/// Whether 256 coils are on at once, some held and some by pulses, and are turned off in order.
 fn turns_all(guard: &mut Guarded) -> bool {
     let on = call_all(guard, false, 3);
     let off = call_all(guard, true, 12);

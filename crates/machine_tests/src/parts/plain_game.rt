@@ -10,7 +10,7 @@ pub(crate) struct Plain {
     pub(crate) rules: Rules,
     pub(crate) book: Book,
     pub(crate) going: bool,
-    /// How many balls are in play; none where no ball is on.
+    /// How many balls are in play; none if no ball is on.
     pub(crate) balls: Option<u32>,
     pub(crate) begun: u64,
 }

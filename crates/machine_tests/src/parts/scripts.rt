@@ -129,7 +129,7 @@ fn short(number: u32) -> u16 {
     u16::try_from(number).unwrap_or(9_999)
 }
 
-/// One more than the number of a coil; 0 where there is none.
+/// One more than the number of a coil; 0 if there is none.
 fn one_more(coil: Option<CoilId>) -> u32 {
     match coil {
         None => 0,

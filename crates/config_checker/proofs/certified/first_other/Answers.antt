@@ -7,7 +7,7 @@ use Rattle.config_checker.proofs.CertificateMeaning.{cost_at, length-costs, firs
 use Rattle.config_checker.proofs.Names.{name_at, number_at, length-numbers_of}
 use Rattle.config_checker.proofs.certified.first_other.Goals as goal
 
--- in place of a line where there is none
+-- in place of a line if there is none
 abbrev none_line : Line
 none_line = record { name = record { ref_ptr = (0, 0); now = [] }; number = 0 }
 

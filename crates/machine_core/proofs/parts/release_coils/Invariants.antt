@@ -2,7 +2,7 @@ use Rattle.std.proofs.Common.{◌-◌, length}
 use Rattle.machine_core.proofs.Releasing.{IsReleasing}
 use Rattle.machine_core.proofs.parts.release_coils.Given as goal
 
--- what is left to put off, put off now, is all, put off at the start
+-- what is left to turn off, turned off now, is all, turned off at the start
 abbrev pub invariant-loop-command : goal.invariant-loop-command
 invariant-loop-command g l = IsReleasing l.fn.core.plan l.owner l.fn.core l.core
 

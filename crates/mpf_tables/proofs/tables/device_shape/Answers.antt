@@ -2,7 +2,7 @@ use Rattle.std.{proofs.Common.{◌≡◌, Bool, true, false, if◌then◌else◌
 use Rattle.mpf_tables.specs.SectionTables.{flippers_name, autofire_coils_name, ball_devices_name}
 use Rattle.mpf_tables.proofs.tables.device_shape.Goals as goal
 
--- the third of three, where neither of the others is meant
+-- the third of three, if neither of the others is meant
 third : {A : Type 0} (x y z : A) (rest : Option A) (a b d : Bool) → a ≡ false → b ≡ false → d ≡ true
     → Some z ≡ (if a then Some x else (if b then Some y else (if d then Some z else rest)))
 third x y z rest false false true e f g = refl
