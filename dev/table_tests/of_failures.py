@@ -11,6 +11,7 @@ from .harness import SLOW, SOON, TOP, Table, equal, folder_of, played, programs,
 FLIPPERS = TOP / "examples/flippers"
 HELD = "c_left_hold"
 HANGS = 8.0  # s: far above what a program takes that does not hang
+LATE = 1.0  # s: how much later a test may hear of something
 OFF = f"the table puts {HELD} off"
 
 
@@ -49,13 +50,15 @@ def a_program_that_ends_by_itself() -> None:
 
 @test
 def a_program_that_hangs() -> None:
-    """Also if nothing happens meanwhile: it is asked again and again while a coil is held."""
+    """The coil is off within the patience. The program is asked again while a coil is held, even if nothing happens."""
     with Table(FLIPPERS, live=True, patience=HANGS) as table:
         hold_a_coil(table)
         program = table.child()
+        begun = time.monotonic()
         os.kill(program, signal.SIGSTOP)
         try:
-            is_off(table, "did not answer within 8 s")
+            is_off(table, "did not answer within 6 s")
+            assert time.monotonic() - begun < HANGS + LATE, "it took longer than the patience"
         finally:
             with suppress(ProcessLookupError):
                 os.kill(program, signal.SIGKILL)

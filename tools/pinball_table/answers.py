@@ -178,11 +178,13 @@ def is_off(line: str) -> bool:
 class Live(Answers):
     """Talks to the program `pinball_live`: one line goes in, its answer comes out and ends with `due`.
 
-    Nothing is sent before the last answer has come, so neither side ever waits for the other."""
+    Nothing is sent before the last answer has come, so neither side ever waits for the other. While a coil is held, the
+    program is asked at each beat. It has the rest of the patience to answer, so a coil is never held for longer than
+    the patience by a program that hangs."""
 
     def __init__(self, program: str, folder: Path, patience: float = 0.5):
         super().__init__(program, folder, patience)
-        self.beat = patience / 2
+        self.beat = patience / 4
         self.start()
 
     def start(self) -> None:
@@ -206,7 +208,7 @@ class Live(Answers):
             os.write(self.inlet, line.encode() + b"\n")
         except BrokenPipeError:
             raise self.gone("the program takes no line") from None
-        said = self.answer(self.patience)
+        said = self.answer(self.patience - self.beat)
         if said and said[-1].startswith("refused"):
             raise Refused(f"{said[-1]}: {line}")
         return said

@@ -38,7 +38,7 @@ def parser() -> argparse.ArgumentParser:
     one.add_argument("--log", metavar="FILE", type=Path, help="keeps the log here, line by line")
     one.add_argument("--program", metavar="PATH", help="the program `pinball`, if not the proved one")
     one.add_argument("--live", metavar="PATH", help=f"the program `{LIVE}`, if not the one beside `pinball`")
-    one.add_argument("--patience", type=float, metavar="S", help="how many seconds the program may take to answer")
+    one.add_argument("--patience", type=float, metavar="S", help="how many seconds the program may be silent")
     one.add_argument("--board", metavar="DEVICE", help="a board at this serial port, in place of the simulated table")
     one.add_argument("--baud", type=int, default=115_200, help="the speed of that port (115200)")
     one.add_argument(

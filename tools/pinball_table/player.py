@@ -3,6 +3,7 @@
 One thread, the loop, talks to the program and to the platform, and nothing else does. It sleeps until the next step is
 due, a board sends something, or somebody calls. Whatever goes wrong, it ends with all coils off.
 """
+import math
 import os
 import queue
 import select
@@ -111,7 +112,7 @@ class Player:
         session = self.session
         seconds, files = session.platform.interval, [self.wakes]
         if not session.ended:
-            seconds = min(seconds, session.answers.beat or seconds, self.clock.until(session.next()))
+            seconds = min(seconds, self.until_beat(), self.clock.until(session.next()))
             files += [it for it in (session.platform.watched(), session.answers.watched()) if it is not None]
         if self.is_new:
             seconds = min(seconds, max(0.0, self.shown + FRAME - time.monotonic()))
@@ -131,13 +132,18 @@ class Player:
             if not self.calls.empty():
                 break
 
+    def until_beat(self) -> float:
+        """How many seconds it is until the program is to be asked, so that it is seen whether it hangs."""
+        session = self.session
+        if session.ended or session.answers.beat is None or not session.platform.held or session.future:
+            return math.inf
+        return max(0.0, self.asked + session.answers.beat - time.monotonic())
+
     def look_whether_it_hangs(self) -> None:
         """Lets a program that holds a coil answer a line in which nothing happens, if it was asked nothing for long."""
         session, now = self.session, max(self.clock.now(), self.session.moment)
-        if session.ended or session.answers.beat is None or not session.platform.held or session.future:
-            return
-        coming, since = session.next(), time.monotonic() - self.asked
-        if since > session.answers.beat and (coming is None or coming > now):
+        coming = session.next()
+        if not self.until_beat() and (coming is None or coming > now):
             session.ask(str(now), now, None)
             self.clock.go_on_from(now)
             self.asked = time.monotonic()
