@@ -89,7 +89,7 @@ def a_board_that_does_not_answer() -> None:
         hold_a_coil(board, table)
         board.is_silent = True
         state = table.until(lambda it: it["ended"] != "", SOON)
-        assert "did not answer within 6 s" in state["ended"], state["ended"]
+        assert "did not answer within 8 s" in state["ended"], state["ended"]
         equal(state["coils"]["c_left_hold"]["holder"], "")
         board.patience = SHORT
         board.until(lambda: not board.on)  # (by its own patience)
