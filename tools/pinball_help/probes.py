@@ -13,6 +13,7 @@ from .scenery import Scenery
 from .texts import MACHINE, VERSION, Edit, Texts, edited, plain
 
 WORKERS = 4
+MOST_LEFT_OUT = 8  # errors beside the one that is mended
 BATCHES = 32  # of the sections of a text: it may have thousands
 
 
@@ -22,11 +23,21 @@ def is_error(complaint: Complaint) -> bool:
 
 @dataclass(frozen=True)
 class Verdict:
-    """What is the first error of an edited entry; and whether that, or the first error of what is above a fault of YAML
-    further down, is at a line that the edit has changed, or at the head of the section."""
+    """What is the first error of an edited entry, and whether it has one at a line that the edit has changed, or at the
+    head of the section."""
 
     error: Complaint | None
     at_edit: bool
+
+
+@dataclass(frozen=True)
+class Trial:
+    """The entries that edits change, as they are after these. Other lines are empty."""
+
+    lines: list[str]
+    is_changed: list[bool]
+    above: int  # lines of the text before these
+    more: int  # lines in the text than before the edits
 
 
 class OutOfTime(Exception):
@@ -112,28 +123,42 @@ class Probes:
         return found if is_own else self.first_error(owner, text, blocks.part(section, kept))
 
     def verdict(self, scene: Scenery, complaint: Complaint, edits: tuple[Edit, ...]) -> Verdict:
-        """What is wrong after edits that are to mend a complaint, in the entries that they change.
+        """What is wrong after edits that are to mend a complaint, in the entries that they change."""
+        owner, trial = scene.owner(complaint.text), trial_of(scene, complaint, edits)
+        error = self.first_error(owner, complaint.text, Part(tuple(trial.lines), trial.above))
+        moved_back = replace(error, line=error.line - trial.more) if error else None
+        is_in_vain = moved_back and moved_back.name == "Yaml" and moved_back.line <= complaint.line
+        return Verdict(moved_back, not is_in_vain and self.is_at_edit(owner, complaint.text, trial, error))
 
-        If there is a fault of YAML further down, what is above it is judged by itself."""
-        text, owner = complaint.text, scene.owner(complaint.text)
-        before = scene.texts[text]
-        kept = around(scene.blocks(text), complaint.line - 1, [it for it in edits if it.text == text])
-        first, last = max(1, min(kept)), max(kept) + 1
-        after = edited(scene.texts, edits)[text]
-        more = len(after) - len(before)
-        here = after[first : last + more]
-        old = {id(line) for line in before[first:last]}
-        left_out = {id(before[at]) for at in range(first, last) if at not in kept}
-        lines = tuple("" if id(line) in left_out else line.text for line in here)
-        error = self.first_error(owner, text, Part(lines, first))
-        judged = error
-        if error and error.name == "Yaml" and error.line - more > complaint.line:
-            judged = self.first_error(owner, text, Part(lines[: error.line - 1 - first], first))
-        at_edit = False
-        if judged and 0 <= judged.line - 1 - first < len(here):
-            line = here[judged.line - 1 - first]
-            at_edit = id(line) not in old or begins_section(line.text)
-        return Verdict(replace(error, line=error.line - more) if error else None, at_edit)
+    def is_at_edit(self, owner: str, text: str, trial: Trial, error: Complaint | None) -> bool:
+        """Whether there is an error at a line that edits have changed, or at the head of a section.
+
+        Of an error at another line, that line is left out for this, with what is deeper; of a fault of YAML, all that
+        follows it too."""
+        lines = list(trial.lines)
+        for _ in range(MOST_LEFT_OUT):
+            at = error.line - 1 - trial.above if error else -1
+            if not error or not 0 <= at < len(lines):
+                return False
+            if trial.is_changed[at] or begins_section(lines[at]):
+                return True
+            last = len(lines) if error.name == "Yaml" else Blocks(lines).end_of(at)
+            lines[at:last] = [""] * (last - at)
+            error = self.first_error(owner, text, Part(tuple(lines), trial.above))
+        return False
+
+
+def trial_of(scene: Scenery, complaint: Complaint, edits: tuple[Edit, ...]) -> Trial:
+    before = scene.texts[complaint.text]
+    own = [it for it in edits if it.text == complaint.text]
+    kept = around(scene.blocks(complaint.text), complaint.line - 1, own)
+    first, last = max(1, min(kept)), max(kept) + 1
+    after = edited(scene.texts, edits)[complaint.text]
+    more = len(after) - len(before)
+    old = {id(before[at]): at for at in range(first, last)}
+    here = [(line.text, old.get(id(line))) for line in after[first : last + more]]
+    lines = ["" if at is not None and at not in kept else line for line, at in here]
+    return Trial(lines, [at is None for _, at in here], first, more)
 
 
 def around(blocks: Blocks, at: int, edits: list[Edit]) -> set[int]:
