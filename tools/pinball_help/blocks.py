@@ -77,7 +77,7 @@ class Blocks:
     def entry_at(self, section: Block, at: int) -> Block:
         """The block of the entry of a section that a line belongs to; the whole section where it has one entry only."""
         head = self.head_of(section)
-        if at <= head or content(self.lines[head]).partition(":")[0] in WHOLE:
+        if at <= head or self.bodies[head].partition(":")[0] in WHOLE:
             return section
         depth = self.depth_of(section)
         first, last = at, at + 1

@@ -126,15 +126,15 @@ class Probes:
         """What is wrong after edits that are to mend a complaint, in the entries that they change."""
         owner, trial = scene.owner(complaint.text), trial_of(scene, complaint, edits)
         error = self.first_error(owner, complaint.text, Part(tuple(trial.lines), trial.above))
-        moved_back = replace(error, line=error.line - trial.more) if error else None
-        is_in_vain = moved_back and moved_back.name == "Yaml" and moved_back.line <= complaint.line
-        return Verdict(moved_back, not is_in_vain and self.is_at_edit(owner, complaint.text, trial, error))
+        first = replace(error, line=error.line - trial.more) if error else None  # its line is that before the edits
+        is_in_vain = first and first.name == "Yaml" and first.line <= complaint.line
+        return Verdict(first, not is_in_vain and self.is_at_edit(owner, complaint.text, trial, error))
 
     def is_at_edit(self, owner: str, text: str, trial: Trial, error: Complaint | None) -> bool:
         """Whether there is an error at a line that edits have changed, or at the head of a section.
 
-        Of an error at another line, that line is left out for this, with what is deeper; of a fault of YAML, all that
-        follows it too."""
+        What is wrong at another line is left out for this: that line with all that is deeper, or, if it is a fault of
+        YAML, all that follows."""
         lines = list(trial.lines)
         for _ in range(MOST_LEFT_OUT):
             at = error.line - 1 - trial.above if error else -1
