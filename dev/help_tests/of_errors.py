@@ -28,6 +28,8 @@ from pinball_help.texts import MACHINE, Line, Texts, folder_of, mode_text, plain
 MACHINES = TOP / "tools/pinball_help/machines"
 NAMES = ("tutorial", "modern", "em", "slips")
 DRAWN = 60  # pairs of slips
+# pairs, by their places in SLIPS, of which one has a tab or a wrong column that makes the other one hard to tell
+COLUMNS = ((0, 4), (0, 5), (0, 29), (3, 4), (4, 5), (5, 4), (5, 29), (22, 4))
 Pair = tuple[Slip, Slip | None, bool]
 
 
@@ -89,6 +91,7 @@ def all_pairs() -> list[Pair]:
 def two_slips_in_one_section_are_both_found() -> None:
     assert len(SLIPS) == len({*SLIPS}) == 40
     pairs: list[Pair] = [(slip, None, False) for slip in SLIPS]
+    pairs += [(SLIPS[one], SLIPS[other], False) for one, other in COLUMNS]
     for pair in [*pairs, *random.Random(80).sample(all_pairs(), DRAWN)]:
         assert not (said := fails(pair)), said
 
@@ -115,6 +118,31 @@ def a_line_without_a_colon_is_found_at_its_line() -> None:
         report = search(texts_of(text))
         assert [it.line for it in report.findings if not it.follows] == wanted, (text, report.findings)
         assert report.answer and report.answer.accepted, text
+
+
+@test
+def a_line_in_a_wrong_column_is_found_and_no_other() -> None:
+    """Also if the line above it is in a wrong column too, or is left out meanwhile."""
+    entry = "  s_a:\n    number: 1\n"
+    texts = {
+        f"{entry} s_b:\n    number: 1\n s_c:\n    number: 1\n  s_d:": ([5, 7], ["  s_b:", "  s_c:"]),
+        f"{entry}   s_b:\n    number: 1\n s_c:\n  s_d:": ([5, 7], ["  s_b:", "  s_c:"]),
+        f"{entry}\ttype: NC\n s_c:\n  s_d:": ([5, 6], ["    type: NC", "  s_c:"]),
+        f"{entry} s_b:\n    tpye: NC\n   label: B\n  s_d:": ([5, 6, 7], ["  s_b:", "    type: NC", "    label: B"]),
+    }
+    for text, (lines, mended) in texts.items():
+        report = search(texts_of(f"switches:\n{text}"))
+        assert [it.line for it in report.findings] == lines, (text, report.findings)
+        assert {*mended} <= {*plain(report.texts[MACHINE])}, (text, plain(report.texts[MACHINE]))
+        assert report.answer and report.answer.accepted, text
+
+
+@test
+def an_item_goes_on_in_the_column_of_its_first_key() -> None:
+    text = "shot_profiles:\n  p:\n    states:\n      - name: unlit\n       label: Out\n      - name: lit"
+    report = search(texts_of(text))
+    assert [it.line for it in report.findings] == [6], report.findings
+    assert plain(report.texts[MACHINE])[5] == "        label: Out", plain(report.texts[MACHINE])
 
 
 @test
@@ -296,6 +324,7 @@ def each_of_these_gets_an_answer_that_says_what_to_write() -> None:
         "shots:\n  s: {hit_events: a{current_player.x==1}}": "s: {hit_events: 'a{current_player.x==1}'}",
         "accruals:\n  a:\n    events:\n    - a, b{value==1}\n    - c": "- a",
         "event_player:\n  a:\n  - b\n  - c{value==1}": "",
+        "switches:\n  s_one:\n   s_two:\n    number: 1": "s_two:",
     }
     for text, new in answers.items():
         found = findings(text)

@@ -1,6 +1,5 @@
 """The machines of examples/recipes: each does what it is to do, and has the text that docs/from_mpf.md shows."""
 import re
-from pathlib import Path
 
 from pinball_help import errors
 from pinball_help.texts import MACHINE, Line, folder_of

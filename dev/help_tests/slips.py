@@ -3,12 +3,22 @@
 Each is an entry `NAME` of `switches`, with the line of it that is refused (0 is the first) and the error."""
 from dataclasses import dataclass
 
+UNKNOWN, BAD = "error 5 UnknownSetting", "error 6 BadValue"
+
 
 @dataclass(frozen=True)
 class Slip:
     line: int
     error: str
     lines: tuple[str, ...]
+
+    def below(self, other: "Slip") -> str:
+        """The error of this slip right below another one.
+
+        What is deeper than an entry without a value is that value. So by YAML nothing is wrong with its column: the
+        name is read as a setting of the entry above, and no switch has such a setting."""
+        is_value = self.lines[0].startswith("   ") and other.lines[-1].removesuffix(" &NAME") == "  NAME:"
+        return UNKNOWN if is_value else self.error
 
 
 def yaml(line: int, *lines: str) -> Slip:
@@ -19,7 +29,6 @@ def setting(line: int, error: str, *lines: str) -> Slip:
     return Slip(line, error, lines)
 
 
-UNKNOWN, BAD = "error 5 UnknownSetting", "error 6 BadValue"
 SLIPS = (
     yaml(1, "  NAME:", "\tnumber: 1"),
     yaml(1, "  NAME:", "  \tnumber: 1"),
@@ -72,7 +81,8 @@ def planted(first: Slip, other: Slip | None, apart: bool) -> tuple[list[str], li
     lines, wanted = ["#config_version=6", *BEFORE], []
     for name, slip in ("s_one", first), ("s_two", other):
         if slip:
-            wanted.append((slip.error, len(lines) + slip.line + 1))
+            error = slip.below(first) if slip is other and not apart else slip.error
+            wanted.append((error, len(lines) + slip.line + 1))
             lines += [line.replace("NAME", name) for line in slip.lines]
             lines += BETWEEN if apart and name == "s_one" else ()
     return [*lines, *AFTER], wanted

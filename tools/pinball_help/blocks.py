@@ -1,4 +1,5 @@
 """The sections and entries of a text as blocks of lines, by indentation alone: so also those of a text with faults."""
+from bisect import bisect_left, bisect_right
 from dataclasses import dataclass
 
 from .outline import KEY, indentation, is_item, without_comment
@@ -31,72 +32,103 @@ def content(line: str) -> str:
 def begins_section(line: str) -> bool:
     """Whether a line begins a section: it has content at the left edge, and is no item of a list and no closing
     bracket."""
-    return bool(content(line)) and line[0] not in " \t]}\r" and not is_item(line)
-
-
-def sections_of(lines: list[str]) -> list[Block]:
-    """The sections of a text. What comes before the first one belongs to it. The first line, the version, is in
-    none."""
-    starts = [at for at, line in enumerate(lines) if at and begins_section(line)][1:]
-    ends = [*starts, len(lines)]
-    return [Block(first, last) for first, last in zip([1, *starts], ends) if first < last]
-
-
-def section_at(lines: list[str], at: int) -> Block:
-    return next((it for it in sections_of(lines) if it.first <= at < it.last), Block(0, len(lines)))
-
-
-def head_of(lines: list[str], section: Block) -> int:
-    """The line of the section's name."""
-    return next((at for at in range(section.first, section.last) if begins_section(lines[at])), section.first)
-
-
-def entry_at(lines: list[str], section: Block, at: int) -> Block:
-    """The block of the entry of a section that a line belongs to; the whole section where it has one entry only."""
-    head = head_of(lines, section)
-    if at <= head or content(lines[head]).partition(":")[0] in WHOLE:
-        return section
-    depth = depth_of(lines, Block(head + 1, section.last))
-    first, last = at, at + 1
-    while first > head + 1 and not begins_entry(lines[first], depth):
-        first -= 1
-    while last < section.last and not begins_entry(lines[last], depth):
-        last += 1
-    return Block(first, last)
-
-
-def begins_entry(line: str, depth: int) -> bool:
-    """Whether an entry begins here. A line with a tab before its content is taken as deeper."""
-    return bool(content(line).strip()) and indentation(line) <= depth and "\t" not in line[: indentation(line)]
-
-
-def depth_of(lines: list[str], inside: Block) -> int:
-    """The indentation of the entries of a section: that of its first line."""
-    found = (indentation(lines[at]) for at in range(inside.first, inside.last) if content(lines[at]).strip())
-    return next(found, 0)
-
-
-def part(lines: list[str], section: Block, kept: set[int]) -> Part:
-    """The lines of a section that are kept, and empty ones in place of the others."""
-    found = [lines[at] if at in kept else "" for at in range(section.first, section.last)]
-    return Part(tuple(found), section.first)
-
-
-def framed(lines: list[str], section: Block, kept: set[int]) -> Part:
-    """The same, with a stand-in before a line that is no entry. Such a line is an error in a mapping, and a value if
-    there is nothing before it."""
-    found = list(part(lines, section, kept).lines)
-    head = head_of(lines, section)
-    first = next((at for at in range(head + 1, section.last) if content(found[at - section.first]).strip()), head)
-    out = [at for at in range(head + 1, first) if at not in kept]
-    if out and not has_key(lines[first]):
-        depth = depth_of(lines, Block(head + 1, section.last))
-        found[out[-1] - section.first] = " " * depth + STAND_IN
-    if section.first > 1 and not has_key(lines[head]):
-        return Part((STAND_IN, *found), section.first - 1)
-    return Part(tuple(found), section.first)
+    return line[:1] not in ("", " ", "\t", "]", "}", "\r") and bool(content(line)) and not is_item(line)
 
 
 def has_key(line: str) -> bool:
     """Whether a line is an entry, or an item of a list."""
     return is_item(line) or KEY.match(line.lstrip(" \t")) is not None
+
+
+class Blocks:
+    """The lines of a text, with its sections. What comes before the first section belongs to it. The first line, the
+    version, is in none.
+
+    The lines are read once, as they may be long and are asked about often."""
+
+    def __init__(self, lines: list[str]):
+        self.lines = lines
+        self.bodies = [content(line) for line in lines]
+        self.depths = [indentation(it) if it.strip() else -1 for it in self.bodies]  # -1: the line has no content
+        self.heads = [at for at, line in enumerate(lines) if at and begins_section(line)]
+        starts = [1, *self.heads[1:]]
+        ends = [*self.heads[1:], len(lines)]
+        self.sections = [Block(first, last) for first, last in zip(starts, ends) if first < last]
+        self.starts = [it.first for it in self.sections]
+
+    def section_at(self, at: int) -> Block:
+        place = bisect_right(self.starts, at) - 1
+        return self.sections[place] if place >= 0 and at < len(self.lines) else Block(0, len(self.lines))
+
+    def head_of(self, section: Block) -> int:
+        """The line of the section's name."""
+        place = bisect_left(self.heads, section.first)
+        return self.heads[place] if place < len(self.heads) and self.heads[place] < section.last else section.first
+
+    def depth_of(self, section: Block) -> int:
+        """The indentation of the entries of a section: that of its first line."""
+        first = self.first_below(section)
+        return 0 if first is None else self.depths[first]
+
+    def first_below(self, section: Block) -> int | None:
+        """The first line below a section's name that has content."""
+        return next((at for at in range(self.head_of(section) + 1, section.last) if self.depths[at] >= 0), None)
+
+    def entry_at(self, section: Block, at: int) -> Block:
+        """The block of the entry of a section that a line belongs to; the whole section where it has one entry only."""
+        head = self.head_of(section)
+        if at <= head or self.bodies[head].partition(":")[0] in WHOLE:
+            return section
+        depth = self.depth_of(section)
+        first, last = at, at + 1
+        while first > head + 1 and not self.begins_entry(first, depth):
+            first -= 1
+        while last < section.last and not self.begins_entry(last, depth):
+            last += 1
+        return Block(first, last)
+
+    def begins_entry(self, at: int, depth: int) -> bool:
+        """Whether an entry begins here. A line with a tab before its content is taken as deeper."""
+        own = self.depths[at]
+        return 0 <= own <= depth and "\t" not in self.lines[at][:own]
+
+    def end_of(self, at: int) -> int:
+        """The line after the block of a line: all that is deeper, and a list at the indentation of its key."""
+        head, last = self.lines[at], at + 1
+        depth = indentation(head)
+        for number in range(at + 1, len(self.lines)):
+            own = self.depths[number]
+            is_list = own == depth and is_item(self.bodies[number]) and not is_item(head)
+            if 0 <= own <= depth and not is_list:
+                break
+            last = number + 1 if own >= 0 else last
+        return last
+
+    def part(self, section: Block, kept: set[int]) -> Part:
+        """The lines of a section that are kept, and empty ones in place of the others."""
+        found = [self.lines[at] if at in kept else "" for at in range(section.first, section.last)]
+        return Part(tuple(found), section.first)
+
+    def framed(self, section: Block, kept: set[int]) -> Part:
+        """The same, with a stand-in for what is left out before a line that would be read otherwise without it."""
+        found = list(self.part(section, kept).lines)
+        head = self.head_of(section)
+        model = self.first_below(section)
+        if model is not None and model not in kept:
+            add_stand_in(found, head - section.first, self.lines[model])
+        if section.first > 1 and not has_key(self.lines[head]):
+            return Part((STAND_IN, *found), section.first - 1)
+        return Part(tuple(found), section.first)
+
+
+def add_stand_in(lines: list[str], head: int, model: str) -> None:
+    """Puts a stand-in for the first entry of a section, `model`, before the line that is the first one without it.
+
+    It does so only where it matters. A line that is no entry is an error after one, and the section's value without
+    one. A line in another column is an error after one, and without one those that follow are."""
+    first = next((at for at in range(head + 1, len(lines)) if content(lines[at]).strip()), 0)
+    column, line = indentation(model), lines[first]
+    if first < head + 2 or begins_section(line) or "\t" in model[:column]:
+        return
+    if not has_key(line) or indentation(line) != column:
+        lines[first - 1] = " " * column + ("- " if is_item(model) else "") + STAND_IN

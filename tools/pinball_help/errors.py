@@ -18,7 +18,8 @@ WITHIN = 10.0  # seconds of its own work: a text may be written to take for ever
 MOST_MENDS = 8  # of one complaint, each after a change of its line
 MOST_TRIES = 3  # to mend one place before something is taken out
 ALONE = ("Bundle", "Limit", "Cycle", "Bound")  # what has to be mended before others are said
-BEST = (0, 0)
+BEST = (0, 0, 0)
+Rank = tuple[int, int, int]
 SECTIONS_WITH_NAMES = ("switches", "coils", "ball_devices", "shots", "shot_profiles", "shot_groups")
 
 
@@ -148,9 +149,9 @@ class Search:
 
     def best(self, complaint: Complaint, ways: list[Way]) -> Way | None:
         """The way after which the entry has no error, or the one that is furthest on."""
-        found: list[tuple[tuple[int, int], Way]] = []
+        found: list[tuple[Rank, Way]] = []
         for way in ways:
-            rank = rank_of(complaint, self.probes.verdict(self.scene, complaint.text, complaint.line - 1, way.edits))
+            rank = rank_of(complaint, self.probes.verdict(self.scene, complaint, way.edits))
             if rank == BEST:
                 return way
             found += [(rank, way)] if rank else []
@@ -244,14 +245,14 @@ def is_removal(way: Way) -> bool:
     return not any(line.strip() for edit in way.edits for line in edit.lines)
 
 
-def rank_of(complaint: Complaint, verdict: Verdict) -> tuple[int, int] | None:
+def rank_of(complaint: Complaint, verdict: Verdict) -> Rank | None:
     """How good a change is that mends a fault of YAML, by what is wrong after it; none where it does not help."""
     error = verdict.error
     if error is None or error.name != "Yaml":
-        return (1, 0) if verdict.at_edit else BEST
+        return (1, 0, 0) if verdict.at_edit else BEST
     if error.line > complaint.line:
-        return 2, -error.line
-    return (3, 0) if error.line == complaint.line and error.key != complaint.key else None
+        return 2, verdict.at_edit, -error.line
+    return (3, 0, 0) if error.line == complaint.line and error.key != complaint.key else None
 
 
 def overlap(one: Edit, other: Edit) -> bool:

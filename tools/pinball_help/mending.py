@@ -16,22 +16,6 @@ def blanks(name: str, first: int, last: int) -> Edit:
     return Edit(name, first, last, ("",) * (last - first))
 
 
-def block_end(texts: Texts, name: str, at: int) -> int:
-    """The line after the block of a line: all that is deeper, and a list at the indentation of its key."""
-    lines = texts[name]
-    head = lines[at].text
-    depth, end, last = indentation(head), at + 1, at + 1
-    while end < len(lines):
-        text = without_comment(lines[end].text.rstrip("\r"))
-        if text.strip():
-            deeper = indentation(text) > depth or is_item(text) and not is_item(head) and indentation(text) == depth
-            if not deeper:
-                break
-            last = end + 1
-        end += 1
-    return last
-
-
 def cut(line: str, start: int, end: int) -> str:
     """A line without a part of it, and without the comma or the blanks between this part and another one."""
     before, after = line[:start], line[end:].lstrip()

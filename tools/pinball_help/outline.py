@@ -12,6 +12,7 @@ from typing import Iterator
 PLAIN_KEY = r"""(?:[^\s"'#\[{&*!|>%@`,\]}:]|:(?!\s|$))(?:[^\s:]|:(?!\s|$)|\s+(?=[^\s:]|:(?!\s|$)))*"""
 KEY = re.compile(rf"""("(?:[^"\\]|\\.)*"|'(?:[^']|'')*'|{PLAIN_KEY}|)\s*:(?=\s|$)""")
 ITEM = re.compile(r"\s*-(\s|$)")
+MARK = re.compile("[\"'#]")  # what may begin a comment, or a quote in which none begins
 ESCAPES = {"n": "\n", "t": "\t"}
 DEEPEST = 64  # blocks, and brackets: more than the program reads
 LONGEST = 20_000  # characters of a line whose brackets are read
@@ -69,13 +70,14 @@ def without_comment(text: str) -> str:
     if "#" not in text:
         return text.rstrip()
     quote = ""
-    for at, sign in enumerate(text):
+    for found in MARK.finditer(text):
+        sign, before = found[0], text[max(0, found.start() - 1) : found.start()]
         if quote:
-            quote = "" if sign == quote and not (quote == '"' and text[at - 1] == "\\") else quote
-        elif sign in "\"'" and (at == 0 or text[at - 1] in " \t[{,:-"):
-            quote = sign
-        elif sign == "#" and (at == 0 or text[at - 1] in " \t"):
-            return text[:at].rstrip()
+            quote = "" if sign == quote and not (quote == '"' and before == "\\") else quote
+        elif sign != "#":
+            quote = sign if before in " \t[{,:-" else ""
+        elif before in " \t":
+            return text[: found.start()].rstrip()
     return text.rstrip()
 
 

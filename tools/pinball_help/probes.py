@@ -6,14 +6,14 @@ import time
 from concurrent.futures import ThreadPoolExecutor
 from dataclasses import dataclass, replace
 
-from . import blocks
 from .answers import Answer, Complaint, moved
-from .blocks import Block, Part
+from .blocks import Block, Blocks, Part, begins_section
 from .program import Program
 from .scenery import Scenery
-from .texts import MACHINE, VERSION, Edit, Line, Texts, edited, plain
+from .texts import MACHINE, VERSION, Edit, Texts, edited, plain
 
 WORKERS = 4
+MOST_LEFT_OUT = 8  # errors beside the one that is mended
 BATCHES = 32  # of the sections of a text: it may have thousands
 
 
@@ -23,11 +23,21 @@ def is_error(complaint: Complaint) -> bool:
 
 @dataclass(frozen=True)
 class Verdict:
-    """What is the first error of an edited entry, and whether it is at a line that the edit has changed, or at the head
-    of the section."""
+    """What is the first error of an edited entry, and whether it has one at a line that the edit has changed, or at the
+    head of the section."""
 
     error: Complaint | None
     at_edit: bool
+
+
+@dataclass(frozen=True)
+class Trial:
+    """The entries that edits change, as they are after these. Other lines are empty."""
+
+    lines: list[str]
+    is_changed: list[bool]
+    above: int  # lines of the text before these
+    more: int  # lines in the text than before the edits
 
 
 class OutOfTime(Exception):
@@ -77,58 +87,85 @@ class Probes:
 
     def first_errors(self, scene: Scenery, text: str) -> list[Complaint]:
         """The first error of each entry of a text."""
-        lines = plain(scene.texts[text])
-        if self.first_error(scene.owner(text), text, Part(tuple(lines[1:]), 1)) is None:
+        owner, blocks = scene.owner(text), scene.blocks(text)
+        if self.first_error(owner, text, Part(tuple(blocks.lines[1:]), 1)) is None:
             return []
-        sections = blocks.sections_of(lines)
-        batches = [sections[at::BATCHES] for at in range(BATCHES)]
-        found = self.workers.map(lambda it: self.errors_of_sections(scene.owner(text), text, lines, it), batches)
+        batches = [blocks.sections[at::BATCHES] for at in range(BATCHES)]
+        found = self.workers.map(lambda it: self.errors_of_sections(owner, text, blocks, it), batches)
         return sorted((it for complaints in found for it in complaints), key=lambda it: it.line)
 
-    def errors_of_sections(self, owner: str, text: str, lines: list[str], sections: list[Block]) -> list[Complaint]:
-        return [found for it in sections for found in self.errors_of_section(owner, text, lines, it)]
+    def errors_of_sections(self, owner: str, text: str, blocks: Blocks, sections: list[Block]) -> list[Complaint]:
+        return [found for it in sections for found in self.errors_of_section(owner, text, blocks, it)]
 
-    def errors_of_section(self, owner: str, text: str, lines: list[str], section: Block) -> list[Complaint]:
-        """The first error of each entry: each that is found is left out, and the rest is asked about again."""
+    def errors_of_section(self, owner: str, text: str, blocks: Blocks, section: Block) -> list[Complaint]:
+        """The first error of each entry: each that is found is left out, and the rest is asked about again.
+
+        The program reports faults of YAML first. If there are any, the other errors wait until these are mended: how to
+        mend an error is found in the outline of the text, which may be wrong until then."""
         kept = {*range(section.first, section.last)}
-        found = []
-        while kept and (complaint := self.error_of_part(owner, text, lines, section, kept)):
+        found: list[Complaint] = []
+        while kept and (complaint := self.error_of_part(owner, text, blocks, section, kept)):
             at = complaint.line - 1
-            entry = blocks.entry_at(lines, section, at) if section.first <= at < section.last else section
+            entry = blocks.entry_at(section, at) if section.first <= at < section.last else section
             out = kept & {*range(entry.first, entry.last)}
-            if not out:
+            if not out or found and found[0].name == "Yaml" and complaint.name != "Yaml":
                 break
             kept -= out
             found.append(complaint)
         return found
 
     def error_of_part(
-        self, owner: str, text: str, lines: list[str], section: Block, kept: set[int]
+        self, owner: str, text: str, blocks: Blocks, section: Block, kept: set[int]
     ) -> Complaint | None:
         """The first error of the lines of a section that are kept."""
-        found = self.first_error(owner, text, blocks.framed(lines, section, kept))
+        found = self.first_error(owner, text, blocks.framed(section, kept))
         is_own = found is None or found.line - 1 in kept
-        return found if is_own else self.first_error(owner, text, blocks.part(lines, section, kept))
+        return found if is_own else self.first_error(owner, text, blocks.part(section, kept))
 
-    def verdict(self, scene: Scenery, text: str, at: int, edits: tuple[Edit, ...]) -> Verdict:
-        before = scene.texts[text]
-        kept = {id(before[it]) for it in around(plain(before), at, [it for it in edits if it.text == text])}
-        after = edited(scene.texts, edits)[text]
-        old = {id(line) for line in before}
-        lines = [line.text if id(line) in kept or id(line) not in old else "" for line in after]
-        error = self.first_error(scene.owner(text), text, Part(tuple(lines[1:]), 1))
-        if error is None:
-            return Verdict(None, False)
-        line = after[error.line - 1] if 0 < error.line <= len(after) else Line(0, "")
-        at_edit = id(line) not in old or blocks.begins_section(line.text)
-        return Verdict(replace(error, line=error.line - len(after) + len(before)), at_edit)
+    def verdict(self, scene: Scenery, complaint: Complaint, edits: tuple[Edit, ...]) -> Verdict:
+        """What is wrong after edits that are to mend a complaint, in the entries that they change."""
+        owner, trial = scene.owner(complaint.text), trial_of(scene, complaint, edits)
+        error = self.first_error(owner, complaint.text, Part(tuple(trial.lines), trial.above))
+        first = replace(error, line=error.line - trial.more) if error else None  # its line is that before the edits
+        is_in_vain = first and first.name == "Yaml" and first.line <= complaint.line
+        return Verdict(first, not is_in_vain and self.is_at_edit(owner, complaint.text, trial, error))
+
+    def is_at_edit(self, owner: str, text: str, trial: Trial, error: Complaint | None) -> bool:
+        """Whether there is an error at a line that edits have changed, or at the head of a section.
+
+        What is wrong at another line is left out for this: that line with all that is deeper, or, if it is a fault of
+        YAML, all that follows."""
+        lines = list(trial.lines)
+        for _ in range(MOST_LEFT_OUT):
+            at = error.line - 1 - trial.above if error else -1
+            if not error or not 0 <= at < len(lines):
+                return False
+            if trial.is_changed[at] or begins_section(lines[at]):
+                return True
+            last = len(lines) if error.name == "Yaml" else Blocks(lines).end_of(at)
+            lines[at:last] = [""] * (last - at)
+            error = self.first_error(owner, text, Part(tuple(lines), trial.above))
+        return False
 
 
-def around(lines: list[str], at: int, edits: list[Edit]) -> set[int]:
+def trial_of(scene: Scenery, complaint: Complaint, edits: tuple[Edit, ...]) -> Trial:
+    before = scene.texts[complaint.text]
+    own = [it for it in edits if it.text == complaint.text]
+    kept = around(scene.blocks(complaint.text), complaint.line - 1, own)
+    first, last = max(1, min(kept)), max(kept) + 1
+    after = edited(scene.texts, edits)[complaint.text]
+    more = len(after) - len(before)
+    old = {id(before[at]): at for at in range(first, last)}
+    here = [(line.text, old.get(id(line))) for line in after[first : last + more]]
+    lines = ["" if at is not None and at not in kept else line for line, at in here]
+    return Trial(lines, [at is None for _, at in here], first, more)
+
+
+def around(blocks: Blocks, at: int, edits: list[Edit]) -> set[int]:
     """The lines of the entries that are at a line, or that edits change, with the heads of their sections."""
     kept: set[int] = set()
     for place in (at, *(it.first for it in edits), *(max(it.first, it.last - 1) for it in edits)):
-        section = blocks.section_at(lines, place)
-        entry = blocks.entry_at(lines, section, min(place, len(lines) - 1))
-        kept |= {blocks.head_of(lines, section), *range(entry.first, entry.last)}
+        section = blocks.section_at(place)
+        entry = blocks.entry_at(section, min(place, len(blocks.lines) - 1))
+        kept |= {blocks.head_of(section), *range(entry.first, entry.last)}
     return kept

@@ -6,6 +6,7 @@ from itertools import accumulate
 from typing import Iterator
 
 from . import outline
+from .blocks import Blocks
 from .outline import Entry, Node
 from .texts import MACHINE, Texts, mode_text, plain
 
@@ -34,6 +35,7 @@ class Scenery:
         self.by_line: dict[str, dict[int, list[Entry]]] = {}
         self.greatest: dict[str, list[int]] = {}
         self.outlines: dict[str, Node] = {name: others.get(name) or known[name] for name in texts}
+        self.known_blocks = {name: it for name, it in (before.known_blocks if before else {}).items() if name in same}
 
     @cached_property
     def modes(self) -> list[str]:
@@ -45,6 +47,12 @@ class Scenery:
     def read(self) -> list[str]:
         """The texts that the program reads, in its order."""
         return [name for name in (MACHINE, *map(mode_text, self.modes)) if name in self.texts]
+
+    def blocks(self, text: str) -> Blocks:
+        """The lines of a text as blocks."""
+        if text not in self.known_blocks:
+            self.known_blocks[text] = Blocks(plain(self.texts[text]))
+        return self.known_blocks[text]
 
     def owner(self, text: str) -> str:
         found = re.match(r"modes/([^/]+)/", text)

@@ -4,7 +4,7 @@ from dataclasses import dataclass
 from functools import cached_property
 from typing import Iterator
 
-from . import outline, profile
+from . import outline
 from .answers import Answer
 from .graph import Graph, names_of, says_yes, setting, text_of
 from .machine_graph import GAME, graph_of

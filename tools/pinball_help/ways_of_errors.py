@@ -12,7 +12,7 @@ from .scenery import Scenery, raw, section_of, setting_table, siblings_of
 from .texts import MACHINE, VERSION, Edit
 from .ways import EXAMPLE, Cure, Way
 from .ways_of_values import of_value
-from .ways_of_yaml import joined_blocks
+from .ways_of_yaml import joined_blocks, reindented
 
 # what a copy gets for a setting that is required, so that what comes after it is checked too
 STAND_INS = {
@@ -108,6 +108,11 @@ def of_setting(scene: Scenery, complaint: Complaint) -> Cure:
     instead, word = SETTINGS.get(table, {}).get(key, ("", ""))
     if word:
         return of_setting_of_mpf(scene, text, entry, Cure(says, True, (), out, mark), instead, word)
+    if is_too_deep(entry, table):
+        column = entry.path[-1].start
+        edit = reindented(scene, text, entry.line, column)
+        write = f"Indent it by {column} spaces, as `{entry.path[-1].key}`."
+        return Cure(says, True, (Way((edit,), write, "It has settings of its own."), Way(out)), out, mark)
     near = nearest(key, [*profile.settings(table), *profile.of_other_tools()])
     if near and near not in siblings:
         edit, named, reason = as_setting(scene, text, entry, near)
@@ -119,6 +124,13 @@ def of_setting(scene: Scenery, complaint: Complaint) -> Cure:
         )
     others = ", ".join(f"`{name}`" for name in profile.settings(table))
     return Cure(says, True, (Way(out, f"Take it out. The settings are {others}."),), out, mark)
+
+
+def is_too_deep(entry: Entry, table: str) -> bool:
+    """Whether what is read as a setting has such settings itself: so it is an entry like the one above it."""
+    own = {it.key for it in entry.value.entries or []}
+    is_block = len(entry.path) == 2 and not entry.in_braces
+    return is_block and bool(own) and own <= {*profile.settings(table), *profile.of_other_tools()}
 
 
 def of_setting_of_mpf(scene: Scenery, text: str, entry: Entry, cure: Cure, instead: str, word: str) -> Cure:

@@ -7,7 +7,7 @@ from .answers import Complaint
 from .conditions import NO_CURE, ONLY_VARIABLES, meaning_of
 from .graph import says_yes, setting
 from .idioms_of_values import ACTS_LATER, ANY, DELAY, ENTRY, EVENT, IDIOMS, Idiom
-from .mending import add, blanks, block_end, give, line_of, rename, substitute, take_item_out, take_out
+from .mending import add, blanks, give, line_of, rename, substitute, take_item_out, take_out
 from .near import nearest
 from .outline import Entry, Node, unquoted
 from .scenery import Scenery, raw, section_of, setting_table, siblings_of
@@ -239,7 +239,7 @@ def of_held_end(scene: Scenery, text: str, line: int) -> Cure | None:
 
 
 def of_no_mapping(scene: Scenery, text: str, line: int) -> Cure:
-    out = (blanks(text, line, block_end(scene.texts, text, line)),) if line < len(scene.texts[text]) else ()
+    out = (blanks(text, line, scene.blocks(text).end_of(line)),) if line < len(scene.texts[text]) else ()
     says = ("A text is a mapping of sections, as `switches:`.",)
     return Cure(says, False, (Way(out, "Write sections with entries below them."),), out)
 

@@ -2,8 +2,9 @@
 import re
 from dataclasses import dataclass
 
-from .mending import block_end, blanks, give, line_of, take_out
-from .outline import Entry, entries, indentation, without_comment
+from .blocks import Blocks
+from .mending import blanks, give, line_of, take_out
+from .outline import KEY, Entry, entries, indentation, is_item, without_comment
 from .scenery import Scenery
 from .texts import Edit, Texts, plain
 from .ways import Cure, Way
@@ -83,13 +84,15 @@ def slips(scene: Scenery, text: str, at: int, fault: str) -> list[Way]:
     found = []
     for slip in SLIPS:
         if fault in slip.faults.split() and (new := re.sub(slip.found, slip.new, line)) != line:
-            found.append(Way((Edit(text, at, at + 1, (new,)),), slip.write, slip.why))
+            found.append(Way((Edit(text, at, at + 1, (new.rstrip(),)),), slip.write, slip.why))
     return found
 
 
 def of_tabs(scene: Scenery, text: str) -> list[Way]:
     """All tabs at the front of lines, and after dashes, become spaces."""
-    tabs = [number for number, line in enumerate(plain(scene.texts[text])) if re.match(r"\s*-?\s*\t", line)]
+    # (the blanks before a tab are matched in one way only, so that a line of many takes no longer than it is long)
+    before = re.compile(r"[^\S\t]*(?:-[^\S\t]*)?\t")
+    tabs = [number for number, line in enumerate(plain(scene.texts[text])) if before.match(line)]
     found = []
     for width in (2, 4, 8):
         edits = []
@@ -103,10 +106,11 @@ def of_tabs(scene: Scenery, text: str) -> list[Way]:
     return found
 
 
-def reindented(texts: Texts, text: str, at: int, column: int) -> Edit:
-    end = block_end(texts, text, at)
-    change = column - indentation(line_of(texts, text, at))
-    lines = [line_of(texts, text, number) for number in range(at, end)]
+def reindented(scene: Scenery, text: str, at: int, column: int) -> Edit:
+    """Moves the block of a line to a column."""
+    end = scene.blocks(text).end_of(at)
+    change = column - indentation(line_of(scene.texts, text, at))
+    lines = [line_of(scene.texts, text, number) for number in range(at, end)]
     new = [" " * max(0, indentation(line) + change) + line.lstrip() if line.strip() else line for line in lines]
     return Edit(text, at, end, tuple(new))
 
@@ -126,27 +130,32 @@ def of_indents(scene: Scenery, text: str, at: int) -> list[Way]:
         joined = Edit(text, before, at + 1, (f"{earlier} {line.strip()}", *[""] * (at - before)))
         found.append(Way((joined,), "Put the whole value on one line; or write a line `- ITEM` for each item.",
                          "The value of the line before it seems to continue here."))
-    for column in columns_above(texts, text, at):
+    for column in columns_above(scene.blocks(text), at):
         way = f"Indent the line by {column} spaces, as the lines around it."
         alone = Edit(text, at, at + 1, (" " * column + line.lstrip(),))
-        for edit in (alone, reindented(texts, text, at, column)):
+        for edit in (alone, reindented(scene, text, at, column)):
             found.append(Way((edit,), way, "It is in no column of the blocks around it."))
     return found
 
 
-def columns_above(texts: Texts, text: str, at: int) -> list[int]:
-    """The columns of the blocks that are open above a line, the nearest first."""
+def columns_above(blocks: Blocks, at: int) -> list[int]:
+    """The columns of the blocks that are open above a line, the nearest first.
+
+    A line with a tab in front, or in the column of no open block, is passed over: it is wrong itself."""
     columns: list[int] = []
-    for number in range(at - 1, 0, -1):
-        line = without_comment(line_of(texts, text, number))
-        depth = indentation(line)
-        if line.strip() and (not columns or depth < columns[-1]):
-            columns.append(depth)
-            if len(columns) == 1 and line.endswith(":"):
-                columns.insert(0, depth + 2)
-                columns.pop()
-                columns.append(depth)
-    here = indentation(line_of(texts, text, at))
+    opens = True
+    for number in range(blocks.section_at(at).first, at):
+        depth, body = blocks.depths[number], blocks.bodies[number]
+        is_in_place = depth in columns or opens and depth > max(columns, default=-1)
+        if not is_in_place or "\t" in body[:depth]:
+            continue
+        columns = [it for it in columns if it < depth] + [depth]
+        if body[depth] == "-" and is_item(body):  # (its first entry goes on in a column of its own)
+            body = " " * (depth + 1) + body[depth + 1 :]
+            columns += [indentation(body)] if KEY.match(body, indentation(body)) else []
+        opens = body.endswith(":") or not body.strip()
+    columns += [columns[-1] + 2] if columns and opens else []
+    here = blocks.depths[at]
     return sorted({*columns} - {here}, key=lambda it: (abs(it - here), it))
 
 
@@ -262,7 +271,7 @@ def of_block_scalars(scene: Scenery, text: str, at: int) -> list[Way]:
     found = re.match(r"(.*:\s+)[|>][+-]?\d?\s*$", line)
     if not found:
         return []
-    end = block_end(scene.texts, text, at)
+    end = scene.blocks(text).end_of(at)
     rest = [line_of(scene.texts, text, number).strip() for number in range(at + 1, end)]
     value = "\\n".join(it.replace("\\", "\\\\").replace('"', '\\"') for it in rest if it)
     edit = Edit(text, at, end, (f'{found[1]}"{value}"', *[""] * (end - at - 1)))
@@ -288,7 +297,7 @@ def cure_of(scene: Scenery, text: str, at: int, fault: str) -> Cure:
         ways.append(
             Way((Edit(text, at, at + 1, (readable,)),), f"Save the file as UTF-8. The line may say: {readable.strip()}")
         )
-    end = block_end(scene.texts, text, at) if at < len(scene.texts[text]) else at
+    end = scene.blocks(text).end_of(at) if at < len(scene.texts[text]) else at
     out = (blanks(text, at, end),) if end > at else ()
     tabs = re.search(r"\t+", line_of(scene.texts, text, at)) if fault == "Tab" else None
     return Cure(ways=(*ways, Way((blanks(text, at, at + 1),)), Way(out)), out=out, mark=tabs.span() if tabs else None)
