@@ -209,6 +209,8 @@ def fails(play: Play) -> str:
             return f"{play.name}: `{wanted}` does not happen, or not then:\n{trace}\n{made.files}"
     if wrong := [it for it in play.never if it in lines]:
         return f"{play.name}: `{wrong[0]}` happens:\n{trace}\n{made.files}"
+    if dead := [it for text in made.files.values() for it in text.split("\n") if it.endswith(": []")]:
+        return f"{play.name}: `{dead[0].strip()}` does nothing"
     named = {it.feature for it in made.context.done}
     missing = [it for it in play.features if not named & {*FEATURES[it].names}]
     return f"{play.name}: {missing} is not said, but {named}" if missing else ""

@@ -168,8 +168,8 @@ def hold(ctx: Context, mode: str, entry: Given, name: str, coil: str) -> None:
     disables = ctx.relay(mode, disables, f"ball_hold_{entry.key}_disable", entry)
     if enables:
         ctx.put("", "counters", ctx.own(f"ball_hold_{entry.key}_{name}_off", 50), {
-            "count_events": [f"balldevice_{name}_ball_enter"], "disable_events": enables, "restart_events": disables,
-            "events_when_hit": [go],
+            "count_events": [f"balldevice_{name}_ball_enter"], "disable_events": enables,
+            **({"restart_events": disables} if disables else {}), "events_when_hit": [go],
         }, entry, "while the hold is not enabled, a ball goes at once")
     held = f"ball_hold_{entry.key}_held_ball"
     if held in ctx.taken_names:

@@ -157,7 +157,8 @@ class Context:
 
     def mode(self, name: str, starts: list[str], stops: list[str], given: Given, says: str) -> str:
         """A mode of its own for a rewrite, which runs without a game too."""
-        settings: dict[str, Value] = {"start_events": starts, "stop_events": stops, "game_mode": "no"}
+        ends: dict[str, Value] = {"stop_events": stops} if stops else {}
+        settings: dict[str, Value] = {"start_events": starts, **ends, "game_mode": "no"}
         return self.draft.helper(self.own(name, 40, "modes "), settings,
                                  Written("", [given.place], says=[f"{given.place}: {says}"]))
 

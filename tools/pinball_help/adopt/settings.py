@@ -90,7 +90,7 @@ def take(ctx: Context, mode: str, section: str, entry: Given, given: Given, tabl
         own(ctx, mode, entry, given, out)
     elif key in table:
         value = values.convert(ctx, mode, section, table[key], entry, given)
-        if value is not None:
+        if value is not None and not (value == [] and section == "switches" and values.items_of(given)):
             out[key] = value
             ctx.keep(given)
     elif key in tables.of_other_tools():
