@@ -39,6 +39,10 @@ def accept(ctx: Context, program: Program, within: float) -> Answer:
         answer = answer_of(program, texts)
         if answer is not None and answer.accepted:
             return answer
+        if is_too_long(answer) and ctx.draft.has_notes():
+            ctx.draft.forget_notes()
+            ctx.log("comments", Place(ctx.source.files[0].name, 1, 1), "left out: the texts are too long", "unseen")
+            continue
         scene = Scenery({name: [Line(at, it) for at, it in enumerate(lines, 1)] for name, lines in texts.items()})
         complaints = answer.complaints if answer else ()
         dropped = [drop(ctx, scene, it, count > FEW_CYCLES) for it in complaints]
@@ -56,6 +60,10 @@ def answer_of(program: Program, texts: dict[str, list[str]]) -> Answer | None:
         if "TooLong" in str(error) or "NoMemory" in str(error):
             return None
         raise
+
+
+def is_too_long(answer: Answer | None) -> bool:
+    return answer is None or any(it.message == "error 3 Yaml TooLong" for it in answer.complaints)
 
 
 def drop(ctx: Context, scene: Scenery, complaint: Complaint, all_cycles: bool) -> bool:

@@ -86,43 +86,37 @@ class Context:
 
     # what is written
 
-    def put(self, mode: str, section: str, key: str, value: Value, given: Given | None = None, says: str = "",
-            comments: bool = False) -> None:
-        places = [given.place] if given else []
-        written = Written(value, places, given.comments() if given and comments else [], [says] if says else [])
+    def put(self, mode: str, section: str, key: str, value: Value, given: Given | None = None, says: str = "") -> None:
+        written = Written(value, [given.place] if given else [], [says] if says else [])
         if given and not isinstance(value, str):
             written.lines = {it: given.place for it in value if isinstance(it, str)}
             written.lines |= {it.key: it.place for it in given.inside() if it.key in written.lines}
         self.draft.put(mode, section, key, written)
 
-    def post(self, mode: str, event: str, names: list[str], given: Given, says: str = "",
-             comments: bool = False) -> None:
+    def post(self, mode: str, event: str, names: list[str], given: Given, says: str = "") -> None:
         wrong = [it for it in names if not re.fullmatch(NAME, it, re.ASCII)]
         if wrong or not is_event(event):
             self.lose("bad name", given, f"`{(wrong or [event])[0][:80]}` is no name, or too long")
             return
-        self.put(mode, "event_player", event, list(names), given, says, comments)
+        self.put(mode, "event_player", event, list(names), given, says)
 
-    def change(self, mode: str, event: str, changes: dict[str, Value], given: Given, says: str = "",
-               comments: bool = False) -> None:
-        self.player(mode, "variable_player", event, changes, given, says, comments)
+    def change(self, mode: str, event: str, changes: dict[str, Value], given: Given, says: str = "") -> None:
+        self.player(mode, "variable_player", event, changes, given, says)
 
-    def drive(self, mode: str, event: str, coils: dict[str, Value], given: Given, says: str = "",
-              comments: bool = False) -> None:
-        self.player(mode, "coil_player", event, coils, given, says, comments)
+    def drive(self, mode: str, event: str, coils: dict[str, Value], given: Given, says: str = "") -> None:
+        self.player(mode, "coil_player", event, coils, given, says)
 
-    def player(self, mode: str, section: str, event: str, value: dict[str, Value], given: Given, says: str,
-               comments: bool) -> None:
+    def player(self, mode: str, section: str, event: str, value: dict[str, Value], given: Given, says: str) -> None:
         """Adds to a player; what does not go with the entry that is there gets an event of its own."""
         if not is_event(event):
             self.lose("bad name", given, f"`{event[:80]}` is no name, or too long")
             return
         try:
-            self.put(mode, section, event, dict(value), given, says, comments)
+            self.put(mode, section, event, dict(value), given, says)
         except Taken:
             other = self.own(f"{event.partition('{')[0]}_too")
             self.post(mode, event, [other], given, "two entries for one event")
-            self.put(mode, section, other, dict(value), given, says, comments)
+            self.put(mode, section, other, dict(value), given, says)
 
     def own(self, name: str, most: int = 64, kind: str = "") -> str:
         """A name of adopt's own that nothing else of its kind has."""

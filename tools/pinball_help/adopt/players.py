@@ -100,7 +100,7 @@ def of_event(ctx: Context, mode: str, entry: Given) -> None:
     if not posted and not entry.text and not entry.is_list:
         groups[("", "")] = []
     if timer := ticks(ctx, mode, entry):
-        ctx.post(mode, timer, [it for names in groups.values() for it in names], entry, f"{entry.key} in MPF", True)
+        ctx.post(mode, timer, [it for names in groups.values() for it in names], entry, f"{entry.key} in MPF")
         return
     for (condition, wait), names in groups.items():
         write_event(ctx, mode, entry, condition, wait, names)
@@ -123,7 +123,7 @@ def write_event(ctx: Context, mode: str, entry: Given, condition: str, wait: str
             says = f"{entry.key} in MPF"
         else:
             ctx.keep(entry)
-        ctx.post(where, head, names, entry, says, comments=True)
+        ctx.post(where, head, names, entry, says)
 
 
 def ticks(ctx: Context, mode: str, entry: Given) -> str:
@@ -153,7 +153,7 @@ def of_coils(ctx: Context, mode: str, section: Given) -> None:
         written = heads(ctx, mode, entry) if coils or not given else []
         for head, where in written:
             says = f"{entry.key} in MPF" if differs(head, entry.key) else ""
-            ctx.drive(where, head, coils, entry, says, comments=True)
+            ctx.drive(where, head, coils, entry, says)
             ctx.keep(entry)
 
 
@@ -267,7 +267,7 @@ def of_variables(ctx: Context, mode: str, section: Given) -> None:
         found = heads(ctx, mode, entry) if changes or not entry.inside() else []
         for head, where in found:
             says = f"{entry.key} in MPF" if differs(head, entry.key) else ""
-            ctx.change(where, head, changes, entry, says, comments=True)
+            ctx.change(where, head, changes, entry, says)
             ctx.keep(entry)
         for variable, factor, of, it in computed:
             if not any(it is other[3] for other in before):

@@ -52,9 +52,7 @@ def of_entry(ctx: Context, mode: str, section: Given, entry: Given) -> None:
     out = settings_of(ctx, mode, section.key, entry)
     if out is None:
         return
-    comments = [*entry.comments(), *(f"{it.key}: {line.lstrip('# ')}" for it in entry.inside() for line in it.comments()
-                                     if it.line != entry.line)]
-    written = Written(out, [entry.place], comments)
+    written = Written(out, [entry.place])
     written.lines = {it.key: it.place for it in entry.inside()}
     try:
         ctx.draft.put(mode, section.key, entry.key, written)
@@ -103,6 +101,16 @@ def take(ctx: Context, mode: str, section: str, entry: Given, given: Given, tabl
         ctx.lose(f"{section}.{key}", given)
     else:
         ctx.lose("unknown setting", given, f"`{key[:60]}`")
+
+
+# settings that have another name in version 6
+OLD_NAMES = {
+    ("switches", "activation_events"): "events_when_activated",
+    ("switches", "deactivation_events"): "events_when_deactivated",
+    ("coils", "pulse_ms"): "default_pulse_ms",
+    **{("coils", it): "default_pulse_power" for it in ("pulse_power", "pulse_power32", "pulse_pwm_mask")},
+    **{("coils", it): "default_hold_power" for it in ("hold_power", "hold_power32", "hold_pwm_mask")},
+}
 
 
 def renamed(new: str) -> Callable:
@@ -313,8 +321,7 @@ def tag_of_start(ctx: Context, _mode: str, entry: Given, given: Given, out: Out)
 
 
 OWN: dict[tuple[str, str], Callable] = {
-    ("switches", "activation_events"): renamed("events_when_activated"),
-    ("switches", "deactivation_events"): renamed("events_when_deactivated"),
+    **{old: renamed(new) for old, new in OLD_NAMES.items()},
     ("coils", "max_hold_duration"): no_hold,
     ("coils", "default_timed_enable_ms"): no_hold,
     ("flippers", "main_coil_overwrite"): overwrite,
@@ -334,10 +341,6 @@ OWN: dict[tuple[str, str], Callable] = {
     **{("multiballs", it): at_the_end for it in ("shoot_again", "grace_period", "ball_count_type")},
     ("game", "start_game_switch_tag"): tag_of_start,
     ("game", "add_player_switch_tag"): tag_of_start,
-    **{("coils", old): renamed(new) for old, new in (
-        ("pulse_ms", "default_pulse_ms"), ("pulse_power", "default_pulse_power"), ("hold_power", "default_hold_power"),
-        ("pulse_power32", "default_pulse_power"), ("pulse_pwm_mask", "default_pulse_power"),
-        ("hold_power32", "default_hold_power"), ("hold_pwm_mask", "default_hold_power"))},
     **{("coils", f"{it}_events"): coil_events(it) for it in ("pulse", "enable", "disable")},
     **{(it, "start_enabled"): start_enabled for it in ("shots", "counters", "accruals", "sequences")},
     **{("shot_groups", it): group_events(it) for it in ("enable_events", "disable_events", "advance_events",

@@ -3,10 +3,10 @@ from pathlib import Path
 from typing import Callable
 
 from .. import profile, tables
-from . import balls, players, playfield, settings, values
+from . import balls, comments, players, playfield, settings, values
 from .context import Context
 from .draft import NoRoom, Taken, sections
-from .features import FEATURES
+from .features import FEATURES, LEFT_OUT
 from .source import Given, Part, Place, read
 
 OF_MPF = ("attract", "game", "tilt", "bonus", "high_score", "credits", "service", "carousel", "match")
@@ -144,8 +144,6 @@ def listed(ctx: Context) -> None:
 
 
 def of_part(ctx: Context, part: Part) -> None:
-    comments_of_files(ctx, part)
-
     def rank(section: Given) -> tuple[int, int]:
         order = FIRST.index(section.key) - len(FIRST) if section.key in FIRST else section.key in LAST
         return order, 0
@@ -161,15 +159,6 @@ def of_part(ctx: Context, part: Part) -> None:
             ctx.lose("too many" if isinstance(why, NoRoom) else "entry twice", section, str(why), "lost")
     if part.mode and "mode" not in seen:
         settings.of_section(ctx, part.mode, Given("mode", type(part.files[0].root)(0, entries=[]), part.files[0], 0, 1))
-
-
-def comments_of_files(ctx: Context, part: Part) -> None:
-    """Keeps the comment at the front of a text."""
-    for line in part.files[0].lines[:60]:
-        if line.strip() and not line.startswith("#"):
-            break
-        if line.strip("# \t\r") and "config_version" not in line:
-            ctx.draft.heads.setdefault(part.mode, []).append(line.strip("# \t\r"))
 
 
 def of_section(ctx: Context, mode: str, section: Given) -> None:
@@ -194,7 +183,7 @@ def of_section(ctx: Context, mode: str, section: Given) -> None:
             ctx.lose("unknown section", section, "`mode` in the text of the machine")
             return
         settings.of_section(ctx, mode, section)
-    elif key in FEATURES:
+    elif key in LEFT_OUT:
         ctx.lose(key, section)
     else:
         ctx.lose("unknown section", section, f"`{key[:60]}`")
@@ -273,6 +262,7 @@ def finish(ctx: Context) -> None:
     one_coil(ctx)
     players.within_limits(ctx)
     game(ctx)
+    comments.keep(ctx)
 
 
 def dual_wound(ctx: Context) -> None:
