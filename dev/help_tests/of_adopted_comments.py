@@ -200,10 +200,13 @@ coil_player:
     c_a:  # short
       action: pulse
       # in ms
-      pulse_ms: 8ms  # eight
+      pulse_ms: 8  # eight
   # action: holds
   a2:
     c_hold: enable
+  # config/config.yaml:51: raises one
+  ball_starting:
+    c_a: pulse
 # the end
 """
 NEW_BASE = """#config_version=6

@@ -73,6 +73,7 @@ class Draft:
 
     texts: dict[str, Sections] = field(default_factory=lambda: {"": {}})
     modes: list[str] = field(default_factory=list)
+    helpers: set[str] = field(default_factory=set)  # modes of adopt's own
     heads: dict[str, list[str]] = field(default_factory=dict)  # what is said at the front of a text
     notes: dict[tuple[str, str], Notes] = field(default_factory=dict)  # at sections, by mode and section; "": the text
     known: set[tuple[str, str]] = field(default_factory=set)  # the entries of all texts: section and name
@@ -98,17 +99,26 @@ class Draft:
 
     def helper(self, name: str, settings: dict[str, Value], written: Written) -> str:
         """A mode of its own, with the sections of its entries still to come. Raises NoRoom if there are too many."""
-        if len(self.modes) >= MOST_MODES:
-            raise NoRoom(f"a machine has at most {MOST_MODES} modes")
+        self.need(1)
         mode, count = name, 1
         while mode in self.modes or mode == "machine":
             count += 1
             mode = shortened(name, 60) + f"_{count}"
         self.modes.append(mode)
+        self.helpers.add(mode)
         self.heads[mode] = [f"{it}" for it in written.says]
         for key, value in settings.items():
             self.section(mode, "mode")[key] = Written(value)
         return mode
+
+    def need(self, count: int) -> None:
+        """Raises NoRoom if there is no room for so many modes more."""
+        if len(self.modes) + count > MOST_MODES:
+            raise NoRoom(f"a machine has at most {MOST_MODES} modes")
+
+    def holds(self, mode: str) -> bool:
+        """Whether a mode of adopt's own holds a coil: as long as it runs, so nothing that ends it may be left out."""
+        return mode in self.helpers and "coil_player" in self.texts.get(mode, {})
 
     def note(self, mode: str, section: str, *path: str | int) -> Note:
         """The comments at a section or a text, or at an item of `modes`."""

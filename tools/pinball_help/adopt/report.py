@@ -35,7 +35,8 @@ def report(ctx: Context, folder: str, unposted: list[tuple[str, str]], files: di
             lines += ["", f"## {title}", "", about, "", *by_feature(some)]
     if unposted:
         lines += ["", "## Handled, and nothing posts it", "",
-                  "These entries are written, and never run: nothing here posts the event.", ""]
+                  "These entries are written, and never run: nothing here posts the event. Places are lines of this",
+                  "folder.", ""]
         lines += [f"- `{clean(name)}`: {clean(place)}" for name, place in unposted]
     lines += ["", *(SUM.format(sum_of(text), name) for name, text in files.items()), ""]
     return "\n".join(lines)

@@ -10,12 +10,12 @@ from ..machine_graph import graph_of
 from ..printed import clean
 from ..program import Program
 from ..scenery import Scenery
-from ..texts import MIB, Line, read_bytes
+from ..texts import MACHINE, MIB, Line, read_bytes
 from . import report, whole
 from .accept import accept
 from .context import Context
 from .features import LOST, REWRITTEN, UNSEEN, WEAKENED
-from .source import Place
+from .source import Place, read
 
 WITHIN = 3.0  # seconds in which the program is asked for single places; then more goes at once
 MOST_LINES = 400  # of a report of what differs
@@ -31,7 +31,7 @@ class Adopted:
 
 def adopt(program: Program, folder: Path) -> Adopted:
     """Makes the texts of the new folder. Raises OSError or ValueError if the folder cannot be read."""
-    ctx = whole.adopt(folder)
+    ctx = whole.adopt(read(folder))
     before = {it.posts for it in graph_of(scene_of(ctx)).posts}
     answer = accept(ctx, program, WITHIN)
     files = {name: "".join(f"{it}\n" for it in text) for name, text in ctx.draft.files().items()}
@@ -78,7 +78,7 @@ def places_of(ctx: Context, scene: Scenery, it: unused.Unused) -> list[Place]:
     """Where an event that is handled comes from in the MPF folder."""
     entry = scene.around(it.text, it.line - 1)
     path = [*entry.path, entry] if entry else []
-    mode = scene.owner(it.text).replace("machine", "")
+    mode = "" if it.text == MACHINE else scene.owner(it.text)
     if len(path) > 1:
         written = ctx.draft.texts.get(mode, {}).get(path[0].key, {}).get(path[1].key)
         if written:

@@ -67,6 +67,10 @@ class Given:
         """The entries of a mapping."""
         return [Given(it.key, it.value, self.file, it.line, it.last) for it in self.node.entries or []]
 
+    def items(self) -> "list[Given]":
+        """The items of a list, each with all of its lines."""
+        return [Given(self.key, it, self.file, it.line, last_of(it)) for it in self.node.items or []]
+
     def at(self, key: str) -> "Given | None":
         return next((it for it in self.inside() if it.key == key), None)
 
@@ -81,6 +85,11 @@ class Given:
     def names(self, key: str) -> list[str]:
         found = self.at(key)
         return found.words() if found else []
+
+
+def last_of(node: Node) -> int:
+    """The line after those of a value in a list."""
+    return max([node.line + 1, *(it.last for it in node.entries or []), *map(last_of, node.items or [])])
 
 
 @dataclass
