@@ -136,7 +136,8 @@ def each_section_and_setting_is_kept_or_listed() -> None:
 @test
 def each_setting_of_a_rewrite_counts() -> None:
     for folder in (*MACHINES, REWRITES):
-        assert not (said := settings_without_effect(folder)), f"{folder.name}: {said[0]} changes nothing, and is not listed"
+        said = settings_without_effect(folder)
+        assert not said, f"{folder.name}: {said[0]} changes nothing, and is not listed"
 
 
 def settings_without_effect(folder: Path) -> list[str]:
@@ -205,20 +206,75 @@ def a_change_of_a_builder_is_not_overwritten() -> None:
     with tempfile.TemporaryDirectory() as room:
         new = Path(room) / "new"
         assert run.write(made, new, force=False) == [] == run.write(made, new, force=False)
-        text = new / "config/config.yaml"
-        before = text.read_text()
-        text.write_text(f"{before}# mine\n")
-        differs = run.write(made, new, force=False)
-        assert "-# mine" in differs and text.read_text().endswith("# mine\n"), differs
-        assert run.write(made, new, force=True) == [] and text.read_text() == before
-        (Path(room) / "other").mkdir()
-        (Path(room) / "other/mine").write_text("x")
-        try:
-            run.write(made, Path(room) / "other", force=True)
-        except ValueError as error:
-            assert "not by adopt" in str(error)
-        else:
-            raise AssertionError("a folder of somebody else is overwritten")
+        for name in "config/config.yaml", "modes/em_game/config/em_game.yaml", report.NAME:
+            text, before = new / name, (new / name).read_text()
+            text.write_text("# mine\n" + before)
+            differs = run.write(made, new, force=False)
+            assert differs[0] == f"--- {name} as it is" and "-# mine" in differs, differs
+            assert text.read_text().startswith("# mine\n")
+            assert run.write(made, new, force=True) == [] and text.read_text() == before
+        text.write_text(before + "mine\n")
+        (new / "config/config.yaml").unlink()
+        assert run.write(made, new, force=False) == ["--- config/config.yaml is gone, and adopt would write it again"]
+
+
+@test
+def a_folder_is_adopted_again_after_it_changed() -> None:
+    def make(machine: str, **modes: str) -> run.Adopted:
+        texts = {f"modes/{it}/config/{it}.yaml": f"#config_version=6\n{text}" for it, text in modes.items()}
+        text = f"#config_version=6\nmodes: {', '.join(modes)}\n{machine}"
+        return run.adopt(PROGRAM, written({"config/config.yaml": text, **texts}, folder))
+
+    with tempfile.TemporaryDirectory() as room:
+        folder, new = Path(room) / "mpf", Path(room) / "new"
+        assert run.write(make("event_player: {a: b}\n", base="event_player: {c: d}\n", old=""), new, False) == []
+        (new / "notes").write_text("mine")
+        second = make("event_player: {a: b2|1s}\n", base="event_player: {c: d2}\n", young="event_player: {e: f}\n")
+        assert run.write(second, new, False) == []
+        there = {str(it.relative_to(new)) for it in new.glob("**/*") if it.is_file()}
+        assert there == {*second.files, "notes"} and PROGRAM.check(new).accepted, there
+        (new / "modes/base/config/base.yaml").write_text("#config_version=6\nevent_player: {c: mine}\n")
+        third = make("event_player: {a: b3}\n", base="event_player: {c: d3}\n")
+        assert "-event_player: {c: mine}" in run.write(third, new, False)
+        assert "b3" not in (new / "config/config.yaml").read_text() and (new / "modes/young/config/young.yaml").exists()
+        assert run.write(third, new, True) == [] and PROGRAM.check(new).accepted
+        assert not (new / "modes/young/config/young.yaml").exists() and (new / "notes").read_text() == "mine"
+
+
+def refusal(function: Callable[[], object]) -> str:
+    try:
+        function()
+    except ValueError as error:
+        return str(error)
+    return ""
+
+
+@test
+def no_folder_of_somebody_else_is_changed() -> None:
+    made = adopted(MACHINES[2])
+    with tempfile.TemporaryDirectory() as name:
+        room = Path(name)
+        (room / "other").mkdir()
+        (room / "other/mine").write_text("x")
+        assert "not by adopt" in refusal(lambda: run.write(made, room / "other", force=True))
+        folder = written({"config/config.yaml": "#config_version=6\nevent_player: {a: b|1s}\n"}, room / "mpf")
+        mine = run.adopt(PROGRAM, folder)
+        assert run.write(mine, room / "new", force=False) == []
+        (room / "new/config/config.yaml").unlink()
+        (room / "new/config").rmdir()
+        (room / "new/config").symlink_to(room / "mpf/config")
+        assert "in the MPF folder, by a link" in refusal(lambda: run.write(mine, room / "new", force=True))
+        assert (folder / "config/config.yaml").read_text().endswith("{a: b|1s}\n")
+
+
+@test
+def what_is_left_out_is_printed() -> None:
+    made = adopted(MACHINES[0])
+    said = run.shown(made, Path("new"))
+    for it in made.context.done:
+        if it.effect in (LOST, WEAKENED, UNSEEN):
+            assert any(report.shown(it) in line for line in said), it
+    assert said[0] == "Lost. These rules are gone, or never run." and said[-1].startswith("new/ADOPTED.md "), said
 
 
 @test

@@ -159,7 +159,8 @@ def holds(ctx: Context) -> None:
                 hold(ctx, mode, entry, name, coil)
                 found = True
             else:
-                ctx.lose("ball_holds", entry.at("hold_devices") or entry, f"`{name[:60]}` is no device with a coil", "lost")
+                given = entry.at("hold_devices") or entry
+                ctx.lose("ball_holds", given, f"`{name[:60]}` is no device with a coil", "lost")
         if found:
             rest(ctx, "ball_holds", entry, "hold_devices", "balls_to_hold", "enable_events", "disable_events",
                  "release_one_events", "release_all_events", "release_one_if_full_events")

@@ -75,8 +75,8 @@ class Comments:
         self.open.append((depth, at))
 
     def head_ends(self) -> None:
-        """Takes the comments about the whole file: all above its first line but those right above it. If these are right
-        below the version, they are about the file too."""
+        """Takes the comments about the whole file: all above its first line but those right above that line. If these
+        are right below the version, they are about the file too."""
         above, line = len(self.waiting), self.first
         while above and self.waiting[above - 1][0] == line - 1:
             above, line = above - 1, line - 1

@@ -36,7 +36,7 @@ class Taken(Exception):
 
 @dataclass
 class Note:
-    """The comments of a builder at one thing: above it, behind its first line, at the end of what is in it, and below."""
+    """The comments of a builder at one thing: above it, behind its first line, at the end of what is in it, below."""
 
     above: list[str] = field(default_factory=list)
     behind: str = ""
