@@ -62,6 +62,7 @@ MORE = {  # settings of sections that are rewritten
     "mpf": "default_pulse_ms",
 }
 SINGLE = ("mode", "machine", "game", "tilt", "mpf")
+COMMENTS = ("a comment", " a: b", "- a", "", "#", " 'quoted", "é {a: [", "x" * 2_000, "\tb", "@")
 PLAYERS = ("event_player", "coil_player", "variable_player", "scoring", "random_event_player", "queue_event_player")
 SECTIONS = sorted({it for it in FEATURES if it.isidentifier()
                    and it not in ("attract", "tilted")} | {*tables.sections(False)}
@@ -88,13 +89,13 @@ def draw_folder(draw: random.Random, folder: Path) -> Path:
     modes = draw.sample(("base", "m_1", "tilt", "bonus", "attract", "credits", "a b"), draw.randint(0, 4))
     listed = "modes:\n" + "".join(f"  - {it}\n" for it in modes) if modes else ""
     put(folder / "config/config.yaml",
-        damaged(draw, listed + (BASE if draw.random() < 0.7 else "") + text(draw, False)))
+        damaged(draw, commented(draw, listed + (BASE if draw.random() < 0.7 else "") + text(draw, False))))
     if draw.random() < 0.3:
         put(folder / "config/more.yaml", text(draw, False))
     for mode in modes:
         name = mode.upper() if draw.random() < 0.1 else mode
         if draw.random() < 0.9:
-            put(folder / f"modes/{name}/config/{mode}.yaml", damaged(draw, text(draw, True)))
+            put(folder / f"modes/{name}/config/{mode}.yaml", damaged(draw, commented(draw, text(draw, True))))
     return folder
 
 
@@ -110,6 +111,19 @@ def damaged(draw: random.Random, body: str) -> str:
     at = draw.randrange(len(body) + 1)
     return body[:at] + draw.choice((":", " ", "\n", "\t", "[", "}", "'", "# ", "- ", ", ",
                                     "")) + body[at + draw.randrange(3) :]
+
+
+def commented(draw: random.Random, body: str) -> str:
+    """A text with comments in it, once in a while."""
+    if draw.random() < 0.5:
+        return body
+    lines = []
+    for line in body.split("\n"):
+        if draw.random() < 0.1:
+            lines.append(f"{' ' * draw.randrange(6)}#{draw.choice(COMMENTS)}")
+        lines.append(f"{line} # {draw.choice(COMMENTS)}" if line and draw.random() < 0.1 else line)
+        lines += [""] if draw.random() < 0.05 else []
+    return "\n".join(lines)
 
 
 def text(draw: random.Random, is_mode: bool) -> str:

@@ -311,6 +311,13 @@ BALL_PLAYS = (
          ("6500 event balldevice_bd_hole_ball_enter", "9000 coil c_hole pulse 12 1000",
           "12500 coil c_hole pulse 12 1000"),
          ("6500 coil c_hole pulse 12 1000",), features=("ball_holds",)),
+    Play("a ball hold that nothing disables",
+         BALLS + MANUAL + "  bd_hole: {ball_switches: s_hole, eject_coil: c_hole}\n"
+         "ball_holds:\n  h: {hold_devices: bd_hole, enable_events: s_a_active, release_one_events: s_launch_active}\n",
+         logged(IN_PLAY, "6000 s_hole 1\n", press("s_launch", 9000), "9100 s_hole 0\n12000 s_hole 1\n20000"),
+         ("6500 event balldevice_bd_hole_ball_enter", "9000 coil c_hole pulse 12 1000",
+          "12500 event balldevice_bd_hole_ball_enter"),
+         ("6500 coil c_hole pulse 12 1000", "12500 coil c_hole pulse 12 1000")),
     Play("an extra ball", BALLS + MANUAL + "extra_balls:\n  eb: {award_events: s_b_active, max_per_game: 1}\n",
          logged(IN_PLAY, press("s_b", 6000), "7000 s_trough 1\n8000 s_trough 0\n9000 s_plunger 1\n10000 s_plunger 0\n",
                 press("s_b", 11000), "12000 s_trough 1\n", "14000"),

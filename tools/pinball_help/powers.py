@@ -36,6 +36,8 @@ def meant(setting: str, written: str) -> tuple[str, str]:
     found = re.fullmatch(r"(\d+\.?\d*|\.\d+)\s*(%?)", written)
     if not found:
         return "0", NO_POWER.format(written or " ")
+    if re.fullmatch(r"1\.0{1,3}", written) and not setting.startswith(("pulse", "hold")):
+        return written, ""  # (only the names of version 6 begin otherwise)
     number, is_percent = float(found[1]), bool(found[2])
     if is_percent and number <= 100:
         right = f"{part(number, 1)}%"

@@ -7,7 +7,7 @@ from ..machine_graph import graph_of
 from ..outline import Entry
 from ..program import NoAnswer, Program
 from ..scenery import Scenery, section_of
-from ..texts import Line
+from ..texts import MACHINE, Line
 from .context import Context
 from .draft import SINGLE, Written
 from .source import Place
@@ -39,6 +39,10 @@ def accept(ctx: Context, program: Program, within: float) -> Answer:
         answer = answer_of(program, texts)
         if answer is not None and answer.accepted:
             return answer
+        if is_too_long(answer) and ctx.draft.has_notes():
+            ctx.draft.forget_notes()
+            ctx.log("comments", Place(ctx.source.files[0].name, 1, 1), "left out: the texts are too long", "unseen")
+            continue
         scene = Scenery({name: [Line(at, it) for at, it in enumerate(lines, 1)] for name, lines in texts.items()})
         complaints = answer.complaints if answer else ()
         dropped = [drop(ctx, scene, it, count > FEW_CYCLES) for it in complaints]
@@ -58,6 +62,10 @@ def answer_of(program: Program, texts: dict[str, list[str]]) -> Answer | None:
         raise
 
 
+def is_too_long(answer: Answer | None) -> bool:
+    return answer is None or any(it.message == "error 3 Yaml TooLong" for it in answer.complaints)
+
+
 def drop(ctx: Context, scene: Scenery, complaint: Complaint, all_cycles: bool) -> bool:
     """Leaves out what a complaint is about. Says whether it has."""
     if complaint.name == "Cycle":
@@ -75,9 +83,11 @@ def drop(ctx: Context, scene: Scenery, complaint: Complaint, all_cycles: bool) -
 
 
 def leave_out(ctx: Context, scene: Scenery, text: str, entry: Entry, complaint: Complaint) -> bool:
-    mode, section = scene.owner(text).replace("machine", ""), section_of(entry)
+    mode, section = "" if text == MACHINE else scene.owner(text), section_of(entry)
     inside = ctx.draft.texts.get(mode, {}).get(section, {})
     path = [*entry.path, entry][1:]
+    if ctx.draft.holds(mode):
+        return drop_mode(ctx, mode, complaint)
     if section == "modes" or not path:
         return drop_section(ctx, mode, section, complaint)
     written = inside.get(path[0].key)
@@ -88,11 +98,18 @@ def leave_out(ctx: Context, scene: Scenery, text: str, entry: Entry, complaint: 
         return drop_name(ctx, inside, path[0].key, written, complaint)
     if section in INNER and not inner:
         inner = complaint.key
-    if section not in SINGLE and inner and isinstance(written.value, dict) and inner in written.value:
+    value = written.value if section not in SINGLE and isinstance(written.value, dict) else {}
+    if inner in value and not may_drive_more(ctx, section, inner, value):
         return drop_inner(ctx, inside, path[0].key, inner, complaint)
     say(ctx, written, "", complaint)
     del inside[path[0].key]
     return True
+
+
+def may_drive_more(ctx: Context, section: str, setting: str, value: dict) -> bool:
+    """Whether a coil may get more power, or for longer, if one setting alone is left out."""
+    held = section == "flippers" and setting == "hold_coil" and ctx.may_hold(str(value.get("main_coil")))
+    return section == "coils" and setting in DRIVES or held
 
 
 def drop_name(ctx: Context, inside: dict[str, Written], key: str, written: Written, complaint: Complaint) -> bool:
@@ -120,6 +137,8 @@ def drop_inner(ctx: Context, inside: dict[str, Written], key: str, inner: str, c
     return True
 
 
+DRIVES = ("default_pulse_ms", "max_pulse_ms", "default_pulse_power", "max_pulse_power", "default_hold_power",
+          "max_hold_power", "allow_enable")
 REQUIRED = ("main_coil", "activation_switch", "coil", "switch", "ball_switches", "shots", "events", "states",
             "count_events",
             "ball_count")
@@ -132,6 +151,16 @@ def say(ctx: Context, written: Written, inner: str, complaint: Complaint) -> Non
     key = complaint.key or " ".join(complaint.words[:6])
     says = SAID.get(complaint.name, "`{}`: " + complaint.said).format(key[:60])
     ctx.log(FEATURE_OF.get(complaint.name, "refused"), place, says, "lost")
+
+
+def drop_mode(ctx: Context, mode: str, complaint: Complaint) -> bool:
+    """Takes out a mode of adopt's own."""
+    for inside in ctx.draft.texts.pop(mode).values():
+        for written in inside.values():
+            if written.places:
+                say(ctx, written, "", complaint)
+    ctx.draft.modes.remove(mode)
+    return True
 
 
 def drop_section(ctx: Context, mode: str, section: str, complaint: Complaint) -> bool:
@@ -227,6 +256,9 @@ def drop_last(ctx: Context, why: str, share: int) -> None:
         if not texts:
             return
         sections = ctx.draft.texts[texts[0]]
+        if ctx.draft.holds(texts[0]):
+            drop_mode(ctx, texts[0], Complaint(why, "", "refused"))
+            continue
         name = [it for it in sections if sections[it]][-1]
         key = list(sections[name])[-1]
         written = sections[name].pop(key)

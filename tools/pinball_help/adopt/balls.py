@@ -2,12 +2,13 @@
 from . import values
 from .context import Context
 from .delays import written
-from .draft import NoRoom, Taken, Value, Written
-from .playfield import NO_CALL, events_of, rest
+from .draft import NoRoom, Taken, Value, Written, sections
+from .playfield import NO_CALL, events_of, rest, time_of
 from .source import Given
 
 Out = dict[str, Value]
 EXTRA = "adopted_extra_balls"
+MOST_BALLS = 99  # in play
 SHOOT_AGAIN = 10_000  # milliseconds, in MPF, where it is not written
 
 
@@ -37,7 +38,7 @@ def of_save(ctx: Context, mode: str, entry: Given, out: Out) -> None:
 
 def from_then(ctx: Context, mode: str, entry: Given, start: Given, out: Out) -> None:
     """The time of a ball save begins at another event than the one that enables it."""
-    events = values.events(ctx, mode, "ball_saves", NO_CALL, entry, start) or []
+    events = values.events(ctx, mode, "ball_saves", NO_CALL, entry, start)
     enables = [str(it) for it in out.get("enable_events", [])]
     if not events:
         return
@@ -54,12 +55,22 @@ def from_then(ctx: Context, mode: str, entry: Given, start: Given, out: Out) -> 
     out["enable_events"] = [it if "{" in str(it) else f"{it}{{current_player.{ready} == 1}}" for it in events]
 
 
+def ball_count(ctx: Context, mode: str, entry: Given, given: Given, out: Out) -> None:
+    """How many balls are in play. With `ball_count_type: add` one is there already."""
+    count = ctx.number(given.text)
+    if entry.says("ball_count_type").lower() == "add" and count is not None:
+        out["ball_count"] = str(min(max(1, count), MOST_BALLS - 1) + 1)
+        ctx.log("multiballs.ball_count_type", given.place, f"`ball_count: {out['ball_count']}`")
+        return
+    setting = next(it for it in sections(False)["multiballs"].settings if it.key == "ball_count")
+    value = values.convert(ctx, mode, "multiballs", setting, entry, given)
+    if value is not None:
+        out["ball_count"] = value
+        ctx.keep(given)
+
+
 def of_multiball(ctx: Context, mode: str, entry: Given, out: Out) -> None:
-    kind, count = entry.at("ball_count_type"), ctx.number(str(out.get("ball_count", "")))
-    if kind:
-        if kind.text.lower() == "add" and count is not None:
-            given = entry.at("ball_count")
-            out["ball_count"] = str(min(99, (ctx.number(given.text) if given else 1) or 1) + 1)
+    if kind := entry.at("ball_count_type"):
         ctx.log("multiballs.ball_count_type", kind.place, f"`ball_count: {out.get('ball_count', '')}`")
     again, grace = entry.at("shoot_again"), entry.at("grace_period")
     time = ctx.time(again.text) if again else SHOOT_AGAIN
@@ -98,7 +109,7 @@ def launches(ctx: Context) -> None:
             continue
         by_hand(ctx, written_device, "ball_devices.player_controlled_eject_event")
         written_device.says.append(f"the player fires `{coil}`, so the device does not")
-        for event in values.events(ctx, "", "ball_devices", NO_CALL, given, given) or []:
+        for event in values.events(ctx, "", "ball_devices", NO_CALL, given, given):
             ctx.drive("", event, {coil: "pulse"}, given, f"launches a ball from {name}")
         if ctx.auto_launch or ctx.multiballs:
             auto_launch(ctx, name, coil, given)
@@ -147,6 +158,9 @@ def holds(ctx: Context) -> None:
                 written_device.says.append(f"it holds its balls for {entry.key}: {entry.place}")
                 hold(ctx, mode, entry, name, coil)
                 found = True
+            else:
+                given = entry.at("hold_devices") or entry
+                ctx.lose("ball_holds", given, f"`{name[:60]}` is no device with a coil", "lost")
         if found:
             rest(ctx, "ball_holds", entry, "hold_devices", "balls_to_hold", "enable_events", "disable_events",
                  "release_one_events", "release_all_events", "release_one_if_full_events")
@@ -155,6 +169,10 @@ def holds(ctx: Context) -> None:
 
 
 def hold(ctx: Context, mode: str, entry: Given, name: str, coil: str) -> None:
+    most = entry.at("balls_to_hold")
+    device = ctx.draft.section("", "ball_devices")[name].value
+    if most and isinstance(device, dict) and ctx.number(most.text) != len(device.get("ball_switches", [])):
+        ctx.log("part of a rewrite", most.place, f"it holds all balls in {name}")
     go = ctx.own(f"ball_hold_{entry.key}_{name}_lets_go", 50)
     ctx.drive("", go, {coil: "pulse"}, entry, f"lets a ball of {name} go")
     for event in events_of(ctx, mode, entry, "release_one_events", "release_all_events", "release_one_if_full_events"):
@@ -168,8 +186,8 @@ def hold(ctx: Context, mode: str, entry: Given, name: str, coil: str) -> None:
     disables = ctx.relay(mode, disables, f"ball_hold_{entry.key}_disable", entry)
     if enables:
         ctx.put("", "counters", ctx.own(f"ball_hold_{entry.key}_{name}_off", 50), {
-            "count_events": [f"balldevice_{name}_ball_enter"], "disable_events": enables, "restart_events": disables,
-            "events_when_hit": [go],
+            "count_events": [f"balldevice_{name}_ball_enter"], "disable_events": enables,
+            **({"restart_events": disables} if disables else {}), "events_when_hit": [go],
         }, entry, "while the hold is not enabled, a ball goes at once")
     held = f"ball_hold_{entry.key}_held_ball"
     if held in ctx.taken_names:
@@ -187,12 +205,14 @@ def of_extra(ctx: Context, mode: str, section: Given) -> None:
         group = entry.says("group")
         awards = events_of(ctx, mode, entry, "award_events")
         lights = events_of(ctx, mode, entry, "light_events", "lit_events")
-        if awards:
-            award(ctx, mode, entry, entry.key, awards)
+        award(ctx, mode, entry, entry.key, awards)
+        if (given := entry.at("group")) and (awards or not lights):
+            says = "what is awarded at once does not count for the group" if awards else "no event lights one"
+            ctx.log("part of a rewrite", given.place, says, "" if awards else "unseen")
         lit = f"extra_ball_{group or entry.key}_lit"
         for event in lights:
             ctx.change(mode, event, {lit: "1"}, entry, "an extra ball is lit")
-        if lights and not group:
+        if lights and group not in ctx.groups:
             ctx.log("extra_balls", entry.place, "nothing awards what is lit: it has no group", "lost")
         rest(ctx, "extra_balls", entry, "award_events", "light_events", "lit_events", "group", "max_per_game")
     ctx.log("extra_balls", section.place)
@@ -208,11 +228,13 @@ def of_extra_groups(ctx: Context, mode: str, section: Given) -> None:
             ctx.change(mode, event, {lit: "1"}, entry, "an extra ball is lit")
         taken = ctx.own(f"extra_ball_{entry.key}_taken")
         wanted = events_of(ctx, mode, entry, "award_lit_events")
-        for event in [it for it in wanted if "{" not in it]:
-            ctx.post(mode, f"{event}{{current_player.{lit} >= 1}}", [taken], entry, "awards one that is lit")
+        for event in wanted:
+            both = limited(ctx, mode, entry, event, f"current_player.{lit} >= 1")
+            ctx.post(mode, both, [taken], entry, "awards one that is lit")
         if wanted:
             ctx.change(mode, taken, {lit: "-1"}, entry, "one less is lit")
-            award(ctx, mode, entry, entry.key, [taken, *events_of(ctx, mode, entry, "award_events")])
+        awards = [*([taken] if wanted else []), *events_of(ctx, mode, entry, "award_events")]
+        award(ctx, mode, entry, entry.key, awards)
         rest(ctx, "extra_ball_groups", entry, "light_events", "award_lit_events", "award_events", "max_per_game")
     ctx.log("extra_ball_groups", section.place)
 
@@ -220,13 +242,17 @@ def of_extra_groups(ctx: Context, mode: str, section: Given) -> None:
 def award(ctx: Context, mode: str, entry: Given, name: str, awards: list[str]) -> None:
     """A ball save without a time, in a mode after all others: so any other ball save comes first."""
     awarded, count = f"extra_ball_{name}_awarded", f"extra_ball_{name}_count"
-    most = ctx.number(entry.says("max_per_game", "")) if entry.at("max_per_game") else None
+    given = entry.at("max_per_game")
+    if not awards:
+        if given:
+            ctx.log("extra_balls", given.place, "no event awards one", "unseen")
+        return
+    most = ctx.number(given.text) if given else 0
+    if given and most is None:
+        ctx.lose("bad value", given, f"`{given.text[:60]}`: there is no limit", "weakened")
     for event in awards:
-        limited = most and "{" not in event
-        ctx.post(mode, f"{event}{{current_player.{count} < {most}}}" if limited else event, [awarded], entry,
-                 "awards an extra ball")
-        if most and not limited:
-            ctx.log("part of a rewrite", entry.place, "`max_per_game` of an award with a condition")
+        head = limited(ctx, mode, entry, event, f"current_player.{count} < {most}") if most else event
+        ctx.post(mode, head, [awarded], entry, "awards an extra ball")
     ctx.change("", awarded, {count: "1"}, entry, "counts them")
     if EXTRA not in ctx.names:
         ctx.names[EXTRA] = ctx.draft.helper(EXTRA, {"start_events": ["game_starting"], "stop_on_ball_end": "no"},
@@ -240,16 +266,34 @@ def award(ctx: Context, mode: str, entry: Given, name: str, awards: list[str]) -
         ctx.lose("extra_balls", entry, str(why))
 
 
+def limited(ctx: Context, mode: str, entry: Given, event: str, comparison: str) -> str:
+    """An event with a comparison. One that has another already leads to an event of its own first."""
+    if "{" in event:
+        name = ctx.own(f"{event.partition('{')[0]}_and", 60)
+        ctx.post(mode, event, [name], entry, "one comparison at each step")
+        event = name
+    return f"{event}{{{comparison}}}"
+
+
 # a tilt
 
 
 TILTED = "adopted_is_tilted"
+WARNINGS = 3  # with the last one it tilts, in MPF, if it is not written
 
 
 def tagged(ctx: Context, section: Given, key: str) -> list[str]:
     """The events of the switches with the tag of a setting, which is that of its name where it is not written."""
     tags = section.names(key) or [key.removesuffix("_switch_tag")]
     return [f"sw_{tag}" for tag in tags if tag in ctx.tags]
+
+
+def untagged(ctx: Context, section: Given) -> None:
+    """Says which tags of a tilt no switch has."""
+    for key in TILTS:
+        for tag in section.names(key):
+            if tag not in ctx.tags:
+                ctx.log("tilt", (section.at(key) or section).place, f"no switch has the tag `{tag[:60]}`", "unseen")
 
 
 TILTS = {"tilt_warning_switch_tag": "tilt_warning_events", "tilt_switch_tag": "tilt_events",
@@ -267,24 +311,31 @@ def of_tilt(ctx: Context, mode: str, section: Given) -> None:
         return
     warnings, at_once, slams = (
         [*tagged(ctx, section, tag), *events_of(ctx, mode, section, events)] for tag, events in TILTS.items())
-    number = ctx.number(section.says("warnings_to_tilt", "3"))
+    for key in ("warnings_to_tilt", "multiple_hit_window", "reset_warnings_events"):
+        if (given := section.at(key)) and not warnings:
+            ctx.log("tilt", given.place, "nothing warns", "unseen")
     if warnings:
+        number = section.at("warnings_to_tilt")
+        count = ctx.number(number.text) if number else WARNINGS
+        if number and not count:
+            ctx.lose("bad value", number, f"`{number.text[:60]}`: {WARNINGS}", "weakened")
+        anew = [*([] if mode else ["ball_started"]), *events_of(ctx, mode, section, "reset_warnings_events")]
         ctx.put(mode, "counters", ctx.own("tilt_warnings", 50), {
             "count_events": warnings,
-            "multiple_hit_window": written(ctx.time(section.says("multiple_hit_window", "300ms")) or 0),
-            "count_complete_value": str(number or 3), "events_when_hit": ["tilt_warning"],
-            "events_when_complete": ["tilt"],
-            **({} if mode else {"restart_events": ["ball_started"]}),
+            "multiple_hit_window": written(time_of(ctx, section, "multiple_hit_window", 300)),
+            "count_complete_value": str(count or WARNINGS), "events_when_hit": ["tilt_warning"],
+            "events_when_complete": ["tilt"], **({"restart_events": anew} if anew else {}),
         }, section, "counts the warnings of a ball")
     for event in at_once:
         ctx.post(mode, event, ["tilt"], section, "tilts at once")
     for event in slams:
         ctx.post(mode, event, ["slam_tilt", "tilt"], section, "a slam tilt is a tilt: nothing ends a game")
     if not warnings + at_once + slams:
-        ctx.log("tilt", section.place, "no switch has its tags, and no event tilts", "weakened")
+        ctx.log("tilt", section.place, "it never tilts: no switch has its tags, and no event tilts", "unseen")
+        return
+    untagged(ctx, section)
     rest(ctx, "tilt", section, "multiple_hit_window", "warnings_to_tilt", "tilt_warning_switch_tag", "tilt_switch_tag",
-         "tilt_warning_events", "tilt_events", "settle_time", "slam_tilt_switch_tag", "slam_tilt_events",
-         "reset_warnings_events")
+         "tilt_warning_events", "tilt_events", "reset_warnings_events")
 
 
 def tilted(ctx: Context) -> None:

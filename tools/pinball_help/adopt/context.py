@@ -10,6 +10,7 @@ from .features import EFFECTS, FEATURES, REWRITTEN
 from .source import Given, Place, Source
 
 GREATEST_TIME = (1 << 32) - 1
+LONGEST_PULSE = 5_000
 TIMES = re.compile(r"(\d{1,10}(?:\.\d{1,6})?)\s*"
                    r"(ms|msec|millisecs?|s|sec|secs|seconds?|m|min|mins|minutes?|h|hours?|d|days?|)")
 UNITS = {"m": 60_000, "h": 3_600_000, "d": 86_400_000, "s": 1_000, "": 1}
@@ -33,6 +34,28 @@ class Done:
     says: str
 
 
+@dataclass(frozen=True)
+class More:
+    """Events that another entry has for a shot or a group of shots."""
+
+    feature: str
+    given: Given
+    mode: str
+    section: str
+    key: str
+    events: dict[str, list[str]]
+
+
+@dataclass(frozen=True)
+class Target:
+    """A drop target: its shot, its coil, and whether events of its own raise it."""
+
+    shot: str
+    coil: str
+    is_raised: bool
+    given: Given
+
+
 @dataclass
 class Context:
     source: Source
@@ -51,11 +74,12 @@ class Context:
     tilt_events: list[str] = field(default_factory=list)  # that a tilt posts
     pulse_ms: str = ""  # of each coil without one, if the section `mpf` says so
     start_tag: str = "start"
+    groups: set[str] = field(default_factory=set)  # of extra balls
     not_held: set[str] = field(default_factory=set)  # coils whose hold would not end by itself
-    lowered: list[tuple[str, str, str, Given]] = field(default_factory=list)  # overwrites: coil, setting, value
+    lowered: list[tuple[str, str, Given]] = field(default_factory=list)  # overwrites: coil, setting
     launched: dict[str, Given] = field(default_factory=dict)  # ball devices that the player fires
     switches: set[str] = field(default_factory=set)  # that a section `switches` has
-    targets: dict[str, tuple[str, str]] = field(default_factory=dict)  # drop targets: their shots and coils
+    targets: dict[str, "Target"] = field(default_factory=dict)
     banks: list[tuple[str, Given]] = field(default_factory=list)
     holds: list[tuple[str, Given]] = field(default_factory=list)
     auto_launch: list[str] = field(default_factory=list)  # ball saves whose balls are launched
@@ -63,7 +87,8 @@ class Context:
     saves: list[tuple[str, str, Given, int]] = field(default_factory=list)  # ball saves of multiballs
     tilt_given: Given | None = None
     dual: dict[str, tuple[str, str]] = field(default_factory=dict)  # coils of two windings
-    more: list[tuple[str, str, str, dict[str, list[str]]]] = field(default_factory=list)  # for shots and groups
+    main_coils: set[str] = field(default_factory=set)  # of flippers
+    more: list["More"] = field(default_factory=list)  # events for shots and groups
 
     # what is said
 
@@ -86,43 +111,37 @@ class Context:
 
     # what is written
 
-    def put(self, mode: str, section: str, key: str, value: Value, given: Given | None = None, says: str = "",
-            comments: bool = False) -> None:
-        places = [given.place] if given else []
-        written = Written(value, places, given.comments() if given and comments else [], [says] if says else [])
+    def put(self, mode: str, section: str, key: str, value: Value, given: Given | None = None, says: str = "") -> None:
+        written = Written(value, [given.place] if given else [], [says] if says else [])
         if given and not isinstance(value, str):
             written.lines = {it: given.place for it in value if isinstance(it, str)}
             written.lines |= {it.key: it.place for it in given.inside() if it.key in written.lines}
         self.draft.put(mode, section, key, written)
 
-    def post(self, mode: str, event: str, names: list[str], given: Given, says: str = "",
-             comments: bool = False) -> None:
+    def post(self, mode: str, event: str, names: list[str], given: Given, says: str = "") -> None:
         wrong = [it for it in names if not re.fullmatch(NAME, it, re.ASCII)]
         if wrong or not is_event(event):
             self.lose("bad name", given, f"`{(wrong or [event])[0][:80]}` is no name, or too long")
             return
-        self.put(mode, "event_player", event, list(names), given, says, comments)
+        self.put(mode, "event_player", event, list(names), given, says)
 
-    def change(self, mode: str, event: str, changes: dict[str, Value], given: Given, says: str = "",
-               comments: bool = False) -> None:
-        self.player(mode, "variable_player", event, changes, given, says, comments)
+    def change(self, mode: str, event: str, changes: dict[str, Value], given: Given, says: str = "") -> None:
+        self.player(mode, "variable_player", event, changes, given, says)
 
-    def drive(self, mode: str, event: str, coils: dict[str, Value], given: Given, says: str = "",
-              comments: bool = False) -> None:
-        self.player(mode, "coil_player", event, coils, given, says, comments)
+    def drive(self, mode: str, event: str, coils: dict[str, Value], given: Given, says: str = "") -> None:
+        self.player(mode, "coil_player", event, coils, given, says)
 
-    def player(self, mode: str, section: str, event: str, value: dict[str, Value], given: Given, says: str,
-               comments: bool) -> None:
+    def player(self, mode: str, section: str, event: str, value: dict[str, Value], given: Given, says: str) -> None:
         """Adds to a player; what does not go with the entry that is there gets an event of its own."""
         if not is_event(event):
             self.lose("bad name", given, f"`{event[:80]}` is no name, or too long")
             return
         try:
-            self.put(mode, section, event, dict(value), given, says, comments)
+            self.put(mode, section, event, dict(value), given, says)
         except Taken:
             other = self.own(f"{event.partition('{')[0]}_too")
             self.post(mode, event, [other], given, "two entries for one event")
-            self.put(mode, section, other, dict(value), given, says, comments)
+            self.put(mode, section, other, dict(value), given, says)
 
     def own(self, name: str, most: int = 64, kind: str = "") -> str:
         """A name of adopt's own that nothing else of its kind has."""
@@ -157,7 +176,8 @@ class Context:
 
     def mode(self, name: str, starts: list[str], stops: list[str], given: Given, says: str) -> str:
         """A mode of its own for a rewrite, which runs without a game too."""
-        settings: dict[str, Value] = {"start_events": starts, "stop_events": stops, "game_mode": "no"}
+        ends: dict[str, Value] = {"stop_events": stops} if stops else {}
+        settings: dict[str, Value] = {"start_events": starts, **ends, "game_mode": "no"}
         return self.draft.helper(self.own(name, 40, "modes "), settings,
                                  Written("", [given.place], says=[f"{given.place}: {says}"]))
 
@@ -189,18 +209,16 @@ class Context:
     def time(self, text: str) -> int | None:
         """Milliseconds of a time as MPF writes it."""
         if found := TIMES.fullmatch(text.strip().lower()):
-            unit = "" if found[2].startswith("ms") or found[2].startswith("milli") else found[2][:1]
-            value = float(found[1]) * UNITS[unit]
+            value = float(found[1]) * UNITS[unit_of(found[2])]
             return round(value) if abs(value - round(value)) < 1e-6 and value <= GREATEST_TIME else None
         value = self.number(text)
         return value if value is not None and 0 <= value <= GREATEST_TIME else None
 
     def pulse(self, text: str) -> int | None:
-        """Milliseconds of a pulse. One that is shorter than any here is the shortest."""
-        if (found := TIMES.fullmatch(text.strip().lower())) and found[2].startswith("ms") and float(found[1]) < 1:
-            return 1
-        value = self.time(text)
-        return value if value is None else 1 if value == 0 else value if value <= 5_000 else None
+        """Whole milliseconds of a pulse, rounded down. One that is shorter than any here is the shortest."""
+        found = TIMES.fullmatch(text.strip().lower())
+        value = int(float(found[1]) * UNITS[unit_of(found[2])]) if found else self.number(text)
+        return None if value is None or not 0 <= value <= LONGEST_PULSE else max(1, value)
 
     def ways(self, event: str, condition: str) -> list[Way]:
         return ways_of(condition, self.known(event))
@@ -267,6 +285,10 @@ class Context:
         from .delays import after  # (it needs this class)
 
         return after(self, mode, head, delay, given)
+
+
+def unit_of(word: str) -> str:
+    return "" if word.startswith(("ms", "milli")) else word[:1]
 
 
 def with_condition(event: str, atom: Comparison) -> str:

@@ -35,16 +35,35 @@ class Taken(Exception):
 
 
 @dataclass
+class Note:
+    """The comments of a builder at one thing: above it, behind its first line, at the end of what is in it, below."""
+
+    above: list[str] = field(default_factory=list)
+    behind: str = ""
+    inside: list[str] = field(default_factory=list)
+    below: list[str] = field(default_factory=list)
+
+    def add(self, other: "Note", in_front: bool = False) -> None:
+        above = [*other.above, *([other.behind] if self.behind and other.behind else [])]
+        self.above = [*above, *self.above] if in_front else [*self.above, *above]
+        self.behind = self.behind or other.behind
+        self.inside += other.inside
+        self.below += other.below
+
+
+@dataclass
 class Written:
     """An entry of the new machine, where it comes from, and what is said of it."""
 
     value: Value
     places: list[Place] = field(default_factory=list)
-    comments: list[str] = field(default_factory=list)
     says: list[str] = field(default_factory=list)  # what rewrote it
     lines: dict[str, Place] = field(default_factory=dict)  # where each setting, coil or variable of it comes from
+    notes: "Notes" = field(default_factory=dict)
 
 
+Path = tuple[str | int, ...]  # keys, texts of items, and numbers of items that are no texts, from 0
+Notes = dict[Path, Note]  # by the place in a value: the whole value has no steps
 Sections = dict[str, dict[str, Written]]
 
 
@@ -54,7 +73,9 @@ class Draft:
 
     texts: dict[str, Sections] = field(default_factory=lambda: {"": {}})
     modes: list[str] = field(default_factory=list)
-    heads: dict[str, list[str]] = field(default_factory=dict)  # the comment at the front of a text
+    helpers: set[str] = field(default_factory=set)  # modes of adopt's own
+    heads: dict[str, list[str]] = field(default_factory=dict)  # what is said at the front of a text
+    notes: dict[tuple[str, str], Notes] = field(default_factory=dict)  # at sections, by mode and section; "": the text
     known: set[tuple[str, str]] = field(default_factory=set)  # the entries of all texts: section and name
 
     def section(self, mode: str, name: str) -> dict[str, Written]:
@@ -78,17 +99,43 @@ class Draft:
 
     def helper(self, name: str, settings: dict[str, Value], written: Written) -> str:
         """A mode of its own, with the sections of its entries still to come. Raises NoRoom if there are too many."""
-        if len(self.modes) >= MOST_MODES:
-            raise NoRoom(f"a machine has at most {MOST_MODES} modes")
+        self.need(1)
         mode, count = name, 1
         while mode in self.modes or mode == "machine":
             count += 1
             mode = shortened(name, 60) + f"_{count}"
         self.modes.append(mode)
+        self.helpers.add(mode)
         self.heads[mode] = [f"{it}" for it in written.says]
         for key, value in settings.items():
             self.section(mode, "mode")[key] = Written(value)
         return mode
+
+    def need(self, count: int) -> None:
+        """Raises NoRoom if there is no room for so many modes more."""
+        if len(self.modes) + count > MOST_MODES:
+            raise NoRoom(f"a machine has at most {MOST_MODES} modes")
+
+    def holds(self, mode: str) -> bool:
+        """Whether a mode of adopt's own holds a coil: as long as it runs, so nothing that ends it may be left out."""
+        return mode in self.helpers and "coil_player" in self.texts.get(mode, {})
+
+    def note(self, mode: str, section: str, *path: str | int) -> Note:
+        """The comments at a section or a text, or at an item of `modes`."""
+        return self.notes.setdefault((mode, section), {}).setdefault(path, Note())
+
+    def has_notes(self) -> bool:
+        return bool(self.notes) or any(it.notes for it in self.written())
+
+    def forget_notes(self) -> None:
+        self.notes = {}
+        for it in self.written():
+            it.notes = {}
+
+    def written(self) -> Iterator[Written]:
+        for sections in self.texts.values():
+            for inside in sections.values():
+                yield from inside.values()
 
     def files(self) -> dict[str, list[str]]:
         """The lines of each text."""
@@ -99,19 +146,19 @@ class Draft:
 
     def lines(self, mode: str) -> Iterator[str]:
         yield VERSION
-        for line in self.heads.get(mode, []):
-            yield f"# {clean(line)}"
+        yield from (f"# {clean(it)}" for it in self.heads.get(mode, []))
+        yield from map(clean, self.notes.get((mode, ""), {}).get((), Note()).above)
         sections = dict(self.texts[mode])
         if not mode and self.modes:
             yield ""
-            yield "modes:"
-            yield from (f"  - {it}" for it in self.modes)
+            notes = self.notes.get(("", "modes"), {})
+            lines = block_lines(self.modes, 0, notes, ())
+            yield from with_note(["modes:", *lines], notes.get(()), 0, 2)
         for name in sorted(sections, key=lambda it: FIRST.index(it) if it in FIRST else len(FIRST)):
             if sections[name] or name == "game":
                 yield ""
-                yield f"{name}:"
-                for key, written in sections[name].items():
-                    yield from entry_lines(key, written)
+                lines = [line for key, it in sections[name].items() for line in entry_lines(key, it)]
+                yield from with_note([f"{name}:", *lines], self.notes.get((mode, name), {}).get(()), 0, 2)
 
 
 def joined(first: Written, other: Written) -> None:
@@ -129,7 +176,6 @@ def joined(first: Written, other: Written) -> None:
         raise Taken("two entries for one event are of two kinds")
     first.places += other.places
     first.lines.update(other.lines)
-    first.comments += [it for it in other.comments if it not in first.comments]
     first.says += [it for it in other.says if it not in first.says]
 
 
@@ -142,44 +188,65 @@ def added(one: Value, other: Value) -> Value | None:
 
 
 def entry_lines(key: str, written: Written) -> Iterator[str]:
-    for line in written.comments:
-        yield f"  # {clean(line.lstrip('# '))}"
+    notes = dict(written.notes)
     if written.says:
         where = ", ".join(dict.fromkeys(map(str, written.places)))
-        yield f"  # {clean(where)}: {clean('; '.join(written.says))}"
-    yield from value_lines(scalar(key), written.value, 2)
+        note = Note([f"# {where}: {'; '.join(written.says)}"])
+        note.add(notes.get((), Note()), in_front=True)
+        notes[()] = note
+    yield from value_lines(scalar(key), written.value, 2, notes, ())
 
 
-def value_lines(key: str, value: Value, depth: int) -> Iterator[str]:
-    margin = " " * depth
+def with_note(lines: list[str], note: Note | None, depth: int, inside: int) -> list[str]:
+    """Some lines with the comments at them. `depth` is that of the first line, and `inside` that of what is in it."""
+    if note is None:
+        return lines
+    behind = f"  {clean(note.behind)}" if note.behind else ""
+    above, inner, below = (
+        [" " * margin + clean(it) for it in some]
+        for margin, some in ((depth, note.above), (inside, note.inside), (depth, note.below))
+    )
+    return [*above, lines[0] + behind, *lines[1:], *inner, *below]
+
+
+def value_lines(key: str, value: Value, depth: int, notes: Notes, path: Path) -> list[str]:
+    margin, deeper = " " * depth, depth + 2
     if isinstance(value, str):
-        yield f"{margin}{key}: {scalar(value)}"
+        lines, deeper = [f"{margin}{key}: {scalar(value)}"], depth
     elif isinstance(value, dict):
-        yield f"{margin}{key}:"
+        lines = [f"{margin}{key}:"]
         for inner, below in value.items():
-            yield from value_lines(scalar(inner), below, depth + 2)
+            lines += value_lines(scalar(inner), below, depth + 2, notes, (*path, inner))
     else:
-        yield from list_lines(key, value, depth)
+        lines = list_lines(key, value, depth, notes, path)
+    return with_note(lines, notes.get(path), depth, deeper)
 
 
-def list_lines(key: str, items: list, depth: int) -> Iterator[str]:
-    margin = " " * depth
-    if all(isinstance(it, str) and PLAIN.fullmatch(it) for it in items):
-        line = f"{margin}{key}: {', '.join(items) or '[]'}"
+def list_lines(key: str, items: list, depth: int, notes: Notes, path: Path) -> list[str]:
+    """A list, on one line if that can be read, and if no item has a comment."""
+    has_notes = any(it[: len(path)] == path and len(it) > len(path) for it in notes)
+    if not has_notes and all(isinstance(it, str) and PLAIN.fullmatch(it) for it in items):
+        line = f"{' ' * depth}{key}: {', '.join(items) or '[]'}"
         if len(line) <= WIDTH and all(is_word(it) for it in items) and PLAIN.fullmatch(", ".join(items) or "a"):
-            yield line
-            return
-    yield f"{margin}{key}:"
-    for item in items:
+            return [line]
+    return [f"{' ' * depth}{key}:", *block_lines(items, depth, notes, path)]
+
+
+def block_lines(items: list, depth: int, notes: Notes, path: Path) -> list[str]:
+    """The items of a list, a line each, or several for one that is a mapping."""
+    margin, found = " " * depth, list[str]()
+    for at, item in enumerate(items):
+        here = (*path, item if isinstance(item, str) and items.index(item) == at else at)
         if isinstance(item, dict):
-            for at, (inner, below) in enumerate(item.items()):
-                lines = list(value_lines(scalar(inner), below, depth + 4))
-                yield f"{margin}  - {lines[0].lstrip()}" if at == 0 else lines[0]
-                yield from lines[1:]
-        elif isinstance(item, list):
-            yield f"{margin}  - {scalar(', '.join(item))}"
+            lines = [line for inner, below in item.items()
+                     for line in value_lines(scalar(inner), below, depth + 4, notes, (*here, inner))]
+            first = next(it for it, line in enumerate(lines) if not line.lstrip().startswith("#"))
+            lines[: first + 1] = [*(f"{margin}  {it.lstrip()}" for it in lines[:first]),
+                                  f"{margin}  - {lines[first].lstrip()}"]
         else:
-            yield f"{margin}  - {scalar(item)}"
+            lines, first = [f"{margin}  - {scalar(', '.join(item) if isinstance(item, list) else item)}"], 0
+        found += lines[:first] + with_note(lines[first:], notes.get(here), depth + 2, depth + 4)
+    return found
 
 
 def is_word(item: str) -> bool:

@@ -35,6 +35,8 @@ def row(names: str, common: str, effect: str, here: str, what: str = "") -> Feat
 FILES = (
     row("config", NEARLY_ALL, REWRITTEN, "the files are joined", "`config:` with a list of files"),
     row("letter case", SOME, REWRITTEN, "the file is found", "a folder or file with other small or capital letters"),
+    row("comments", NEARLY_ALL, WRITTEN, "they stay with what they belong to; if that is left out, so are they",
+        "comments"),
     row("section twice", SOME, REWRITTEN, "the entries are joined", "a section in several files"),
     row("entry twice", FEW, LOST, "the first one counts", "an entry or a setting twice"),
     row("missing file", FEW, LOST, "left out", "a file or mode that is listed and not there"),
@@ -303,3 +305,4 @@ SETTINGS = (
 )
 TABLE = (*FILES, *SECTIONS_UNSEEN, *SECTIONS_LOST, *REWRITES, *SETTINGS)
 FEATURES: dict[str, Feature] = {name: it for it in TABLE for name in it.names}
+LEFT_OUT = {name for it in (*SECTIONS_UNSEEN, *SECTIONS_LOST) for name in it.names}  # sections

@@ -22,6 +22,7 @@ class Lax:
     anchors: dict[int, str] = field(default_factory=dict)
     unclosed: list[int] = field(default_factory=list)  # lines with a bracket that nothing closes
     changed: list[int] = field(default_factory=list)
+    joined: dict[int, int] = field(default_factory=dict)  # a line that is joined with one above; -1 in a `|` or `>`
 
 
 def laxer(lines: list[str]) -> Lax:
@@ -71,6 +72,7 @@ def join(lax: Lax, at: int) -> None:
         rest = deeper(lax, at, indentation(line), plain=False)
         text = " ".join(it.strip().replace("'", "''") for it in rest)
         put(lax, at, line[:column] + f"'{text}'", len(rest))
+        lax.joined.update(dict.fromkeys(range(at + 1, at + len(rest) + 1), -1))
     elif value and value[0] not in "'\"[{&*" and column > indentation(line) and not is_key(value):
         rest = deeper(lax, at, indentation(line), plain=True)
         if rest:
@@ -113,6 +115,7 @@ def join_flow(lax: Lax, at: int, line: str) -> None:
 
 def put(lax: Lax, at: int, line: str, count: int) -> None:
     lax.lines[at : at + count + 1] = [line, *[""] * count]
+    lax.joined.update(dict.fromkeys(range(at + 1, at + count + 1), at))
 
 
 def balance(text: str) -> int:

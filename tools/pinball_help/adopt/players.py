@@ -1,7 +1,6 @@
 """`event_player`, `coil_player`, `variable_player` and `random_event_player`, in all forms that MPF has."""
 import re
 
-from .. import powers
 from ..outline import Node
 from ..values import milliseconds, thousandths
 from . import values
@@ -11,6 +10,8 @@ from .expressions import InMode, NotSaid, Way, product
 from .source import Given
 
 MOST_FACTOR = 10
+MOST_STATES = 16  # of a profile
+TURNS = ("force_all", "force_different", "disable_random")  # what is so if events come in turn
 ENABLES, DISABLES, PULSES = ("enable", "on", "yes", "true"), ("disable", "off", "no", "false"), ("pulse", "single")
 
 
@@ -25,6 +26,7 @@ def heads(ctx: Context, mode: str, entry: Given, condition: str = "") -> list[tu
             for way in ways:
                 found.append(in_mode(ctx, mode, event, way, entry))
         if wait:
+            ctx.log("a: b|2s", entry.place, f"`{entry.key[:60]}`")
             found = [(ctx.after(where, head, ctx.wait_of(wait), entry), where) for head, where in found]
     except NotSaid as why:
         lost = "(name)_hit" if "(" in name else "other conditions"
@@ -63,28 +65,16 @@ def of_events(ctx: Context, mode: str, section: Given) -> None:
 def posted_by(ctx: Context, entry: Given) -> list[tuple[str, str, str]]:
     """The events that an entry posts, each with its condition and the time after which it comes."""
     found = []
-    if entry.is_mapping:
-        for it in entry.inside():
-            found.append(parts_of(it.key))
-            if it.is_mapping or it.text:
-                ctx.log("a: {b: {priority: 5}}", it.place)
-        return found
-    for item in entry.node.items if entry.node.items is not None else entry.node.texts():
-        if item.entries is not None:
-            found += [parts_of(it.key) for it in item.entries]
-            ctx.log("lists of events", entry.place)
-        else:
-            found += [parts_of(it) for it in words_of(Given(entry.key, item, entry.file, item.line, item.line + 1))]
-    return found
-
-
-def words_of(entry: Given) -> list[str]:
-    """The texts of a list, an item of which may be several."""
-    found: list[str] = []
-    for item in entry.node.texts():
-        one = Given(entry.key, item, entry.file, item.line, item.line + 1)
-        found += [item.text] if "{" in item.text and entry.node.items is not None else one.words()
-    return found
+    for it in entry.inside():
+        found.append(parts_of(it.key))
+        values.more_of(ctx, it)
+        if it.text:
+            ctx.log("a: {b: {priority: 5}}", it.place)
+    for item in entry.items():
+        if item.is_mapping or item.is_list:
+            ctx.log("lists of events", item.place)
+        found += [parts_of(item.text)] if "{" in item.text else posted_by(ctx, item)
+    return found + ([] if entry.is_list else [parts_of(it) for it in entry.words()])
 
 
 def of_event(ctx: Context, mode: str, entry: Given) -> None:
@@ -97,10 +87,10 @@ def of_event(ctx: Context, mode: str, entry: Given) -> None:
             ctx.lose("reserved event", entry, f"`{name}`")
         else:
             groups.setdefault((condition, wait), []).append(name)
-    if not posted and not entry.text and not entry.is_list:
+    if not posted and not entry.text.strip(", ") and not entry.node.items:
         groups[("", "")] = []
     if timer := ticks(ctx, mode, entry):
-        ctx.post(mode, timer, [it for names in groups.values() for it in names], entry, f"{entry.key} in MPF", True)
+        ctx.post(mode, timer, [it for names in groups.values() for it in names], entry, f"{entry.key} in MPF")
         return
     for (condition, wait), names in groups.items():
         write_event(ctx, mode, entry, condition, wait, names)
@@ -123,7 +113,7 @@ def write_event(ctx: Context, mode: str, entry: Given, condition: str, wait: str
             says = f"{entry.key} in MPF"
         else:
             ctx.keep(entry)
-        ctx.post(where, head, names, entry, says, comments=True)
+        ctx.post(where, head, names, entry, says)
 
 
 def ticks(ctx: Context, mode: str, entry: Given) -> str:
@@ -145,6 +135,11 @@ def of_coils(ctx: Context, mode: str, section: Given) -> None:
     for entry in section.inside():
         coils: dict[str, Value] = {}
         given = coils_of(entry)
+        for item in entry.items():
+            if item.is_mapping:
+                ctx.log("coil_player forms", item.place, "an entry of a mapping")
+            elif item.is_list:
+                ctx.lose("bad value", item)
         for it in given:
             if not values.NAME.fullmatch(it.key):
                 ctx.lose("bad name", it, f"`{it.key[:60]}`")
@@ -153,7 +148,7 @@ def of_coils(ctx: Context, mode: str, section: Given) -> None:
         written = heads(ctx, mode, entry) if coils or not given else []
         for head, where in written:
             says = f"{entry.key} in MPF" if differs(head, entry.key) else ""
-            ctx.drive(where, head, coils, entry, says, comments=True)
+            ctx.drive(where, head, coils, entry, says)
             ctx.keep(entry)
 
 
@@ -179,8 +174,8 @@ def of_coil(ctx: Context, given: Given, entry: Given) -> Value | None:
     elif word in (*ENABLES, *DISABLES, *PULSES):
         what = "enable" if word in ENABLES else "disable" if word in DISABLES else "pulse"
     elif re.fullmatch(r"\d+(ms)?", word):
-        what = "pulse"
-        ctx.log("lowest power or time", action.place, f"`{word}`: a pulse as the coil has it")
+        ctx.log("lowest power or time", action.place, f"`{word[:40]}`: a pulse of so many milliseconds, or shorter")
+        return {"action": "pulse", "pulse_ms": values.pulse(ctx, action, word) or "1ms"}
     else:
         lost = "timed_enable" if word.startswith("timed") else "bad value"
         ctx.lose(lost, action, f"`{word[:40]}`")
@@ -193,30 +188,20 @@ def of_coil(ctx: Context, given: Given, entry: Given) -> Value | None:
 
 
 def with_settings(ctx: Context, given: Given, what: str) -> Value:
-    found: dict[str, Value] = {"action": what}
+    found = {"action": what}
     for it in given.inside():
         if it.key == "action":
             ctx.keep(it)
-        elif it.key == "pulse_ms":
-            value = ctx.pulse(it.text)
-            if value is None:
-                ctx.lose("lowest power or time", it, f"`{it.text[:40]}`: the coil's own pulse")
-                continue
-            if value != ctx.time(it.text):
-                ctx.log("lowest power or time", it.place, f"`{it.text[:40]}` is 1ms, the shortest pulse")
-            found[it.key] = f"{value}ms"
-            ctx.keep(it)
-        elif powers.is_power(it.key) and it.key in ("pulse_power", "hold_power"):
-            right, why = powers.meant(it.key, it.text)
-            found[it.key] = right
-            if why:
-                ctx.log("powers in eighths", it.place, f"`{it.text[:40]}` is `{right}`")
-            ctx.keep(it)
+        elif it.key in ("pulse_ms", "pulse_power", "hold_power"):
+            value = values.drive(ctx, "Time" if it.key == "pulse_ms" else "Power", it)
+            if value is not None:
+                found[it.key] = value if it.key not in found else values.lowest(it.key, [found[it.key], value])
+                ctx.keep(it)
         elif it.key == "max_wait_ms":
             ctx.lose("coil_player.max_wait_ms", it)
         else:
             ctx.lose("unknown setting", it, f"`{it.key[:60]}`")
-    return what if len(found) == 1 else found
+    return what if len(found) == 1 else {**found}
 
 
 def within_limits(ctx: Context) -> None:
@@ -267,7 +252,7 @@ def of_variables(ctx: Context, mode: str, section: Given) -> None:
         found = heads(ctx, mode, entry) if changes or not entry.inside() else []
         for head, where in found:
             says = f"{entry.key} in MPF" if differs(head, entry.key) else ""
-            ctx.change(where, head, changes, entry, says, comments=True)
+            ctx.change(where, head, changes, entry, says)
             ctx.keep(entry)
         for variable, factor, of, it in computed:
             if not any(it is other[3] for other in before):
@@ -321,15 +306,45 @@ def multiplied(ctx: Context, mode: str, entry: Given, it: Given, variable: str, 
 
 def of_random(ctx: Context, mode: str, section: Given) -> None:
     for entry in section.inside():
-        events = entry.at("events")
-        names = [it.key for it in events.inside()] or words_of(events) if events else []
-        names = [it for it in names if values.NAME.fullmatch(it) and values.may_be_posted(ctx, it)][:16]
+        events = entry.at("events") or (entry if entry.is_list else None)
+        names = drawn(ctx, events) if events else []
         found = heads(ctx, mode, entry) if names else []
         if not found:
             ctx.lose("random_event_player", entry, "", "lost")
             continue
         in_turn(ctx, mode, entry, [it for it, _ in found], names)
+        for it in entry.inside():
+            if (it.key, it.text.lower()) == ("scope", "player") or it.key in TURNS:
+                ctx.log("random_event_player", it.place, f"`{it.key}`: the events come in turn", "rewritten")
+            elif it.key != "events":
+                ctx.lose("random_event_player", it, f"`{it.key[:60]}`")
     ctx.log("random_event_player", section.place)
+
+
+def drawn(ctx: Context, events: Given) -> list[str]:
+    """The names of events of which one is drawn, without their weights."""
+    found: list[str] = []
+    for text, given in chances(events):
+        name, condition, wait = parts_of(text)
+        if not values.NAME.fullmatch(name) or condition or wait:
+            ctx.lose("bad name", given, f"`{text[:60]}`")
+        elif not values.may_be_posted(ctx, name):
+            ctx.lose("reserved event", given, f"`{name}`")
+        elif len(found) == MOST_STATES:
+            ctx.lose("too many", given, f"`{name}`: at most {MOST_STATES} events")
+        else:
+            found.append(name)
+            if given.key == text and given.text:
+                ctx.lose("random_event_player", given, f"the weight of `{name}`")
+    return found
+
+
+def chances(events: Given) -> list[tuple[str, Given]]:
+    """The texts of some events, each with its place."""
+    found = [(it.key, it) for it in events.inside()]
+    for item in events.items():
+        found += chances(item) if item.is_mapping or item.is_list else [(it, item) for it in item.words()]
+    return found or [(it, events) for it in events.words()]
 
 
 def in_turn(ctx: Context, mode: str, entry: Given, found: list[str], names: list[str]) -> None:

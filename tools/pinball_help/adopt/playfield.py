@@ -1,6 +1,7 @@
 """What MPF has devices for on the playfield and the cabinet, and is said here by shots, modes, timers and coils."""
+from .. import tables
 from . import values
-from .context import Context
+from .context import Context, Target
 from .delays import after, written
 from .draft import Value
 from .expressions import NotSaid
@@ -8,7 +9,10 @@ from .features import FEATURES
 from .source import Given
 
 NO_CALL = values.Call("")
-HOLD_DEFAULT = "1s"
+SPINS = 1_000  # milliseconds that a spinner is active in MPF after a turn, if it is not written
+
+
+SWITCHES = ("switch", "switches", "tag", "switch_tag", "switch_tags")  # settings that name switches
 
 
 def events_of(ctx: Context, mode: str, entry: Given, *keys: str) -> list[str]:
@@ -16,29 +20,55 @@ def events_of(ctx: Context, mode: str, entry: Given, *keys: str) -> list[str]:
     found: list[str] = []
     for given in entry.inside():
         if given.key in keys:
-            found += values.events(ctx, mode, "", NO_CALL, entry, given) or []
+            found += values.events(ctx, mode, "", NO_CALL, entry, given)
     return found
 
 
 def rest(ctx: Context, feature: str, entry: Given, *known: str) -> None:
     """Says what settings of an entry are left out, and that the entry is rewritten."""
     ctx.log(feature, entry.place)
-    other_tools = ("label", "debug", "tags", "console_log", "file_log", "number", "x", "y", "z", "show_tokens")
     for it in entry.inside():
-        if f"{feature}.{it.key}" in FEATURES:
-            ctx.lose(f"{feature}.{it.key}", it)
-        elif it.key not in known and it.key not in other_tools:
-            ctx.lose("part of a rewrite", it, f"`{it.key[:60]}` of `{feature}`")
+        if it.key not in known:
+            left_out(ctx, feature, it)
+
+
+def left_out(ctx: Context, feature: str, given: Given) -> None:
+    """Leaves out a setting of what is rewritten."""
+    if f"{feature}.{given.key}" in FEATURES:
+        ctx.lose(f"{feature}.{given.key}", given)
+    elif given.key in (*tables.of_other_tools(), "label", "tags"):
+        ctx.lose("other tools", given, f"`{given.key}`")
+    elif given.key.startswith("show"):
+        ctx.lose("states.show", given)
+    else:
+        ctx.lose("part of a rewrite", given, f"`{given.key[:60]}` of `{feature}`")
 
 
 def switches_of(ctx: Context, entry: Given, suffix: str = "") -> list[str]:
     """The switches of an entry, by their names and by their tags."""
-    found = [*entry.names(f"switch{suffix}"), *entry.names(f"switches{suffix}")]
-    for key in (f"tag{suffix}", f"switch_tag{suffix}", f"switch_tags{suffix}",
-                f"tags{suffix}" if suffix else "switch_tag"):
+    found = [it for key in SWITCHES[:2] for it in named_switches(ctx, entry, key + suffix)]
+    for key in (it + suffix for it in (*SWITCHES[2:], *(["tags"] if suffix else []))):
         for tag in entry.names(key):
             found += ctx.tags.get(tag, [])
-    return [it for it in dict.fromkeys(found) if it in ctx.switches]
+            if tag not in ctx.tags:
+                ctx.lose("name not there", entry.at(key) or entry, f"no switch has the tag `{tag[:60]}`", "unseen")
+    return list(dict.fromkeys(found))
+
+
+def named_switches(ctx: Context, entry: Given, key: str) -> list[str]:
+    """The switches that a setting names. One that is not there is said."""
+    for name in entry.names(key):
+        if name not in ctx.switches:
+            ctx.lose("name not there", entry.at(key) or entry, f"`{name[:60]}`")
+    return [it for it in entry.names(key) if it in ctx.switches]
+
+
+def one_switch(ctx: Context, feature: str, entry: Given) -> str:
+    """The switch of an entry; the first one if it has several, which is said."""
+    found = switches_of(ctx, entry)
+    if found[1:]:
+        ctx.log("part of a rewrite", entry.place, f"of several switches of `{feature}`, `{found[0]}` alone")
+    return found[0] if found else ""
 
 
 # drop targets
@@ -46,11 +76,13 @@ def switches_of(ctx: Context, entry: Given, suffix: str = "") -> list[str]:
 
 TARGET = "adopted_drop_target"
 RESETS = "ball_starting"
+FIRST_BALL = "ball_will_start{current_player.ball == 1}"
+MOST_TARGETS = 16  # shots of a group
 
 
 def of_drop_targets(ctx: Context, mode: str, section: Given) -> None:
     for entry in section.inside():
-        switch = next(iter(switches_of(ctx, entry)), "")
+        switch = one_switch(ctx, "drop_targets", entry)
         if not switch or not values.NAME.fullmatch(entry.key):
             ctx.lose("drop_targets", entry, "no such switch")
             continue
@@ -61,12 +93,12 @@ def of_drop_targets(ctx: Context, mode: str, section: Given) -> None:
         resets = ctx.relay(mode, events_of(ctx, mode, entry, "reset_events"), f"{shot}_reset", entry)
         ctx.put("", "shots", shot, {"switch": switch, "profile": TARGET, "reset_events": resets or [RESETS]}, entry,
                 "a drop target")
-        ctx.targets[entry.key] = (shot, entry.says("reset_coil"))
         coil = entry.says("reset_coil")
+        ctx.targets[entry.key] = Target(shot, coil, bool(resets), entry)
         for event in resets if coil else []:
             ctx.drive("", event, {coil: "pulse"}, entry, f"raises {entry.key}")
         ctx.post("", f"{shot}_up_hit", [f"{shot}_down"], entry, f"the event that MPF posts for {entry.key}")
-        rest(ctx, "drop_targets", entry, "switch", "reset_coil", "reset_events")
+        rest(ctx, "drop_targets", entry, *SWITCHES, "reset_coil", "reset_events")
     ctx.log("drop_targets", section.place)
 
 
@@ -79,7 +111,10 @@ def banks(ctx: Context) -> None:
     """Writes the banks, once all drop targets are known."""
     in_a_bank: set[str] = set()
     for mode, entry in ctx.banks:
-        names = [it for it in entry.names("drop_targets") if it in ctx.targets and it not in in_a_bank][:16]
+        names = [it for it in entry.names("drop_targets") if it in ctx.targets and it not in in_a_bank][:MOST_TARGETS]
+        for it in entry.names("drop_targets"):
+            if it not in names and (given := entry.at("drop_targets")):
+                ctx.lose("drop_target_banks", given, f"`{it[:60]}` is not there, or in another bank", "lost")
         if not names or not values.NAME.fullmatch(entry.key):
             ctx.lose("drop_target_banks", entry, "no such drop targets")
             continue
@@ -87,16 +122,20 @@ def banks(ctx: Context) -> None:
         bank(ctx, mode, entry, [ctx.targets[it] for it in names])
         rest(ctx, "drop_target_banks", entry, "drop_targets", "reset_coil", "reset_coils", "reset_events",
              "reset_on_complete")
+    for name, target in ctx.targets.items():
+        if name not in in_a_bank and target.coil and not target.is_raised:
+            ctx.drive("", RESETS, {target.coil: "pulse"}, target.given, f"raises {name}")
+            ctx.log("drop_targets", target.given.place, f"without `reset_events` `{RESETS}` raises it")
 
 
-def bank(ctx: Context, mode: str, entry: Given, targets: list[tuple[str, str]]) -> None:
+def bank(ctx: Context, mode: str, entry: Given, targets: list[Target]) -> None:
     group = f"drop_target_bank_{entry.key}"
     raised = ctx.own(f"{group}_raise")
-    coils = [*entry.names("reset_coil"), *entry.names("reset_coils")] or [coil for _, coil in targets if coil]
+    coils = [*entry.names("reset_coil"), *entry.names("reset_coils"), *(it.coil for it in targets if it.coil)]
     resets = ctx.relay(mode, events_of(ctx, mode, entry, "reset_events"), f"{group}_reset", entry)
     for event in resets or [RESETS]:
         ctx.post("", event, [raised], entry, f"raises {entry.key}")
-    ctx.put("", "shot_groups", group, {"shots": [it for it, _ in targets], "reset_events": [raised]}, entry, "a bank")
+    ctx.put("", "shot_groups", group, {"shots": [it.shot for it in targets], "reset_events": [raised]}, entry, "a bank")
     ctx.post("", f"{group}_down_complete", [f"{group}_down"], entry, f"the event that MPF posts for {entry.key}")
     wait = entry.at("reset_on_complete")
     delay = ctx.time(wait.text) if wait and wait.text.lower() not in values.NO + ("yes", "true") else None
@@ -124,25 +163,30 @@ def of_diverters(ctx: Context, mode: str, section: Given) -> None:
 
 def diverter(ctx: Context, mode: str, entry: Given, coil: str) -> None:
     name = f"diverter_{entry.key}"
-    switches = [f"{it}_active" for it in entry.names("activation_switches") if it in ctx.switches]
+    switches = [f"{it}_active" for it in named_switches(ctx, entry, "activation_switches")]
     starts = events_of(ctx, mode, entry, "activate_events")
     stops = events_of(ctx, mode, entry, "deactivate_events")
-    stops += [f"{it}_active" for it in entry.names("deactivation_switches") if it in ctx.switches]
+    stops += [f"{it}_active" for it in named_switches(ctx, entry, "deactivation_switches")]
     enables, disables = events_of(ctx, mode, entry, "enable_events"), events_of(ctx, mode, entry, "disable_events")
     starts = ctx.relay(mode, starts + ([] if switches else enables), f"{name}_activate", entry)
     if switches:
         starts = starts + by_switch(ctx, mode, entry, name, switches, enables, disables)
     stops = ctx.relay(mode, stops + disables, f"{name}_deactivate", entry)
     stops += [f"mode_{mode}_stopping"] if mode else []
-    delay = ctx.time(entry.says("activation_time", "0")) or 0
-    if entry.says("type", "hold").lower() == "pulse" or not ctx.may_hold(coil):
+    kind = entry.says("type", "hold").lower()
+    if kind not in ("hold", "pulse"):
+        ctx.log("lowest power or time", (entry.at("type") or entry).place, f"`{kind[:40]}`: a pulse")
+    if kind != "hold" or not ctx.may_hold(coil):
         pulsed(ctx, entry, name, coil, starts, stops)
         return
+    delay = time_of(ctx, entry, "activation_time", 0)
     timer = ctx.timer(name)
     helper = ctx.mode(name, starts, stops + ([f"timer_{timer}_complete"] if delay else []), entry,
                       "a diverter that is active")
     ctx.put(helper, "coil_player", f"mode_{helper}_started", {coil: "enable"}, entry, "holds the coil")
-    ctx.drive("", f"mode_{helper}_stopped", {coil: "disable"}, entry, "whoever held the coil")
+    off = entry.says("deactivation_coil")
+    ctx.drive("", f"mode_{helper}_stopped", {coil: "disable", **({off: "pulse"} if off else {})}, entry,
+              "whoever held the coil")
     if delay:
         ctx.put(helper, "timers", timer, {"end_value": "1", "tick_interval": written(delay), "start_running": "yes"},
                 entry,
@@ -158,6 +202,7 @@ def by_switch(ctx: Context, mode: str, entry: Given, name: str, switches: list[s
         for event in switches:
             ctx.post(mode, event, [activate], entry, "activates it")
         return [activate]
+    ctx.draft.need(2)
     enabled = ctx.mode(f"{name}_enabled", ctx.relay(mode, enables, f"{name}_enable", entry),
                        ctx.relay(mode, disables, f"{name}_disable", entry), entry, "a diverter that is enabled")
     for event in switches:
@@ -167,7 +212,7 @@ def by_switch(ctx: Context, mode: str, entry: Given, name: str, switches: list[s
 
 def pulsed(ctx: Context, entry: Given, name: str, coil: str, starts: list[str], stops: list[str]) -> None:
     """A diverter whose coils are pulsed; and one that is to be held by a coil that may not be is left out."""
-    if entry.says("type", "hold").lower() != "pulse":
+    if entry.says("type", "hold").lower() == "hold":
         ctx.lose("hold not allowed", entry, f"`{coil}` may not be held: the diverter is left out")
         return
     for event in starts:
@@ -184,7 +229,7 @@ def pulsed(ctx: Context, entry: Given, name: str, coil: str, starts: list[str], 
 
 def of_kickbacks(ctx: Context, mode: str, section: Given) -> None:
     for entry in section.inside():
-        coil, switch = entry.says("coil"), next(iter(switches_of(ctx, entry)), "")
+        coil, switch = entry.says("coil"), one_switch(ctx, "kickbacks", entry)
         if not coil or not switch or not values.NAME.fullmatch(entry.key):
             ctx.lose("kickbacks", entry, "it needs a coil and a switch")
             continue
@@ -200,7 +245,7 @@ def of_kickbacks(ctx: Context, mode: str, section: Given) -> None:
             "count_events": [f"{switch}_active"], "count_complete_value": "1", "enable_events": enables,
             "disable_events": disables, "events_when_complete": [f"{name}_fired"],
         }, entry, "posts the event of a kick")
-        rest(ctx, "kickbacks", entry, "coil", "switch", "enable_events", "disable_events")
+        rest(ctx, "kickbacks", entry, "coil", *SWITCHES, "enable_events", "disable_events")
     ctx.log("kickbacks", section.place)
 
 
@@ -211,7 +256,7 @@ def of_spinners(ctx: Context, mode: str, section: Given) -> None:
             ctx.lose("spinners", entry, "no such switch")
             continue
         name, turns = f"spinner_{entry.key}", [f"{it}_active" for it in switches]
-        delay = ctx.time(entry.says("active_ms", HOLD_DEFAULT)) or 1_000
+        delay = time_of(ctx, entry, "active_ms", SPINS) or SPINS
         turns = ctx.relay(mode, turns, f"{name}_turn", entry)
         timer = ctx.timer(f"{name}_still")
         helper = ctx.mode(name, turns, [f"timer_{timer}_complete"], entry, "a spinner that spins")
@@ -222,9 +267,9 @@ def of_spinners(ctx: Context, mode: str, section: Given) -> None:
         ctx.post(helper, f"timer_{timer}_complete", [f"{name}_inactive"], entry, "it is still")
         for event in turns:
             ctx.post("", event, [f"{name}_hit"], entry, "each turn")
-        if idle := ctx.time(entry.says("idle_ms", "")) if entry.at("idle_ms") else None:
+        if idle := time_of(ctx, entry, "idle_ms", 0):
             ctx.post("", after(ctx, "", f"{name}_inactive", idle, entry), [f"{name}_idle"], entry, "idle_ms")
-        rest(ctx, "spinners", entry, "switch", "active_ms", "idle_ms", "playfield")
+        rest(ctx, "spinners", entry, *SWITCHES, "active_ms", "idle_ms", "playfield")
     ctx.log("spinners", section.place)
 
 
@@ -238,15 +283,16 @@ def of_combos(ctx: Context, mode: str, section: Given) -> None:
             ctx.lose("combo_switches", entry, "it needs two switches")
             continue
         combo(ctx, mode, entry, ones, others)
-        rest(ctx, "combo_switches", entry, "switches_1", "switches_2", "tag_1", "tag_2", "max_offset_time", "hold_time",
-             "events_when_both", "events_when_inactive", "switch_1", "switch_2")
+        rest(ctx, "combo_switches", entry, *(f"{it}_{side}" for it in (*SWITCHES, "tags") for side in (1, 2)),
+             "max_offset_time", "hold_time", "events_when_both", "events_when_inactive")
     ctx.log("combo_switches", section.place)
 
 
 def combo(ctx: Context, mode: str, entry: Given, ones: list[str], others: list[str]) -> None:
+    ctx.draft.need(3)
     name = f"combo_{entry.key}"
     pressed = ctx.own(f"{name}_pressed")
-    offset = ctx.time(entry.says("max_offset_time", "0")) or 0
+    offset = time_of(ctx, entry, "max_offset_time", 0)
     for side, (first, second) in enumerate(((ones, others), (others, ones)), 1):
         stops = [f"{it}_inactive" for it in first]
         timer = ctx.timer(f"{name}_{side}")
@@ -261,8 +307,8 @@ def combo(ctx: Context, mode: str, entry: Given, ones: list[str], others: list[s
     starts = ctx.relay(mode, [pressed], f"{name}_in_mode", entry)
     both = ctx.mode(f"{name}_both", starts, [f"{it}_inactive" for it in (*ones, *others)], entry,
                     "both buttons are held")
-    posts = names_or(ctx, entry, "events_when_both", f"{entry.key}_both")
-    hold = ctx.time(entry.says("hold_time", "0")) or 0
+    posts = names_or(ctx, mode, entry, "events_when_both", f"{entry.key}_both")
+    hold = time_of(ctx, entry, "hold_time", 0)
     event = f"mode_{both}_started"
     if hold:
         timer = ctx.timer(f"{name}_hold")
@@ -271,31 +317,42 @@ def combo(ctx: Context, mode: str, entry: Given, ones: list[str], others: list[s
                 "hold_time")
         event = f"timer_{timer}_complete"
     ctx.post(both, event, posts, entry, "events_when_both")
-    ctx.post(both, f"mode_{both}_stopping", names_or(ctx, entry, "events_when_inactive", f"{entry.key}_inactive"),
-             entry,
-             "events_when_inactive")
+    ends = names_or(ctx, mode, entry, "events_when_inactive", f"{entry.key}_inactive")
+    ctx.post(both, f"mode_{both}_stopping", ends, entry, "events_when_inactive")
 
 
-def names_or(ctx: Context, entry: Given, key: str, default: str) -> list[str]:
+def names_or(ctx: Context, mode: str, entry: Given, key: str, default: str) -> list[str]:
     """The events that an entry posts; the default of MPF if none is written."""
     given = entry.at(key)
-    if given is None:
-        return [default]
-    found = [it.partition("|")[0] for it in given.words()]
-    return [it for it in found if values.NAME.fullmatch(it) and values.may_be_posted(ctx, it)] or [default]
+    return [default] if given is None else posted(ctx, mode, entry, given)
+
+
+def posted(ctx: Context, mode: str, entry: Given, given: Given | None) -> list[str]:
+    """The events of a setting that posts them. One with a time or a condition comes by an event of its own."""
+    return values.posts(ctx, mode, "", NO_CALL, entry, given) if given else []
+
+
+def time_of(ctx: Context, entry: Given, key: str, default: int) -> int:
+    """The milliseconds of a setting; those of MPF if it is not written, or is no time, which is said."""
+    given = entry.at(key)
+    found = ctx.time(given.text) if given else default
+    if found is None and given:
+        ctx.lose("bad value", given, f"`{given.text[:60]}` is no time", "weakened")
+    return default if found is None else found
 
 
 def of_timed(ctx: Context, mode: str, section: Given) -> None:
     for entry in section.inside():
         switches = switches_of(ctx, entry)
         delay = ctx.time(entry.says("time", "0"))
-        inactive = entry.says("state", "active").lower() in ("inactive", "0")
+        inactive = entry.says("state", "active").lower() not in ("active", "1")
         if not switches or not delay or inactive or not values.NAME.fullmatch(entry.key):
             ctx.lose("timed_switches", entry, "it needs a switch and a time")
             continue
         if len(switches) > 1:
             ctx.log("timed_switches", entry.place, "when one of several switches is let go, the time is over",
                     "weakened")
+        ctx.draft.need(2)
         name = f"timed_{entry.key}"
         timer = ctx.timer(name)
         starts = ctx.relay(mode, [f"{it}_active" for it in switches], f"{name}_begins", entry)
@@ -304,29 +361,29 @@ def of_timed(ctx: Context, mode: str, section: Given) -> None:
         ctx.put(helper, "timers", timer, {"end_value": "1", "tick_interval": written(delay), "start_running": "yes"},
                 entry,
                 "the time")
-        posts = names_or(ctx, entry, "events_when_active", f"{entry.key}_active")
+        posts = names_or(ctx, mode, entry, "events_when_active", f"{entry.key}_active")
         held = ctx.mode(f"{name}_held", [f"timer_{timer}_complete"], stops, entry,
                         "a switch that was held for the time")
         ctx.post(held, f"mode_{held}_started", posts, entry, "events_when_active")
-        ctx.post(held, f"mode_{held}_stopping", names_or(ctx, entry, "events_when_released", f"{entry.key}_released"),
-                 entry, "events_when_released")
-        rest(ctx, "timed_switches", entry, "switches", "switch", "switch_tags", "switch_tag", "time", "state",
-             "events_when_active", "events_when_released")
+        ends = names_or(ctx, mode, entry, "events_when_released", f"{entry.key}_released")
+        ctx.post(held, f"mode_{held}_stopping", ends, entry, "events_when_released")
+        rest(ctx, "timed_switches", entry, *SWITCHES, "time", "state", "events_when_active", "events_when_released")
     ctx.log("timed_switches", section.place)
 
 
-# shots of several switches, and states
+# shots of several switches
 
 
 def of_sequence_shots(ctx: Context, mode: str, section: Given) -> None:
     for entry in section.inside():
-        steps = [f"{it}_active" for it in entry.names("switch_sequence") if it in ctx.switches]
+        steps = [f"{it}_active" for it in named_switches(ctx, entry, "switch_sequence")]
+        missing = len(entry.names("switch_sequence")) - len(steps)
         given = entry.at("event_sequence")
         try:
             steps += [one for it in (given.words() if given else []) for one in ctx.handled(mode, it, entry)]
         except NotSaid:
             steps = []
-        if len(steps) < 2 or len(steps) > 16 or not values.NAME.fullmatch(entry.key):
+        if missing or len(steps) < 2 or len(steps) > 16 or not values.NAME.fullmatch(entry.key):
             ctx.lose("sequence_shots", entry, "it needs two switches or events")
             continue
         sequence(ctx, mode, entry, steps)
@@ -336,7 +393,7 @@ def of_sequence_shots(ctx: Context, mode: str, section: Given) -> None:
 
 def sequence(ctx: Context, mode: str, entry: Given, steps: list[str]) -> None:
     name = ctx.own(f"shot_{entry.key}", 40, "sequences ")
-    delay = ctx.time(entry.says("sequence_timeout", "0")) or 0
+    delay = time_of(ctx, entry, "sequence_timeout", 0)
     device: dict[str, Value] = {"disable_on_complete": "no", "events_when_complete": [f"{entry.key}_hit"]}
     if not delay:
         ctx.put(mode, "sequences", name, {"events": [[it] for it in steps], **device}, entry,
@@ -350,46 +407,3 @@ def sequence(ctx: Context, mode: str, entry: Given, steps: list[str]) -> None:
     ctx.put(helper, "timers", timer, {"end_value": "1", "tick_interval": written(delay), "start_running": "yes"}, entry,
             "sequence_timeout")
     ctx.post(helper, f"timer_{timer}_complete", [f"{entry.key}_timeout"], entry, "sequence_timeout")
-
-
-def of_state_machines(ctx: Context, mode: str, section: Given) -> None:
-    for entry in section.inside():
-        given, moves = entry.at("states"), entry.at("transitions")
-        states = given.inside() if given else []
-        if not states or not moves or not values.NAME.fullmatch(f"player_{entry.key}"):
-            ctx.lose("state_machines", entry, "it needs `states` and `transitions`")
-            continue
-        order = sorted(states, key=lambda it: it.key != "start")
-        numbers = {it.key: at for at, it in enumerate(order)}
-        for at, item in enumerate(moves.node.items or [], 1):
-            move = Given("transition", item, moves.file, item.line, item.line + 1)
-            transition(ctx, mode, entry, move, at, numbers, {it.key: it for it in states})
-        rest(ctx, "state_machines", entry, "states", "transitions", "persist_state", "starting_state")
-    ctx.log("state_machines", section.place)
-
-
-def transition(ctx: Context, mode: str, entry: Given, move: Given, at: int, numbers: dict[str, int],
-               states: dict[str, Given]) -> None:
-    sources, target = move.names("source"), move.says("target")
-    if target not in numbers or not all(it in numbers for it in sources):
-        ctx.lose("state_machines", move, "no such state")
-        return
-    name = ctx.own(f"{entry.key}_goes_{at}")
-    for source in sources:
-        for event in events_of(ctx, mode, move, "events"):
-            condition = f"current_player.{entry.key} == {numbers[source]}"
-            try:
-                head, _, own = event.partition("{")
-                both = f"{head}{{{condition} and {own[:-1]}}}" if own else f"{head}{{{condition}}}"
-                for it in ctx.handled(mode, both, move):
-                    ctx.post(mode, it, [name], move, f"from {source} to {target}")
-            except NotSaid as why:
-                ctx.lose("state_machines", move, str(why))
-    ctx.change(mode, name, {entry.key: {"int": str(numbers[target]), "action": "set"}}, move, f"to {target}")
-    posts = [*move.names("events_when_transitioning"), *states[target].names("events_when_started")]
-    if len(sources) == 1:
-        posts = [*states[sources[0]].names("events_when_stopped"), *posts]
-    posts = [it for it in posts if values.NAME.fullmatch(it) and values.may_be_posted(ctx, it)]
-    if posts:
-        ctx.post(mode, name, posts, move, f"to {target}")
-

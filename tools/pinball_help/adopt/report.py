@@ -30,15 +30,21 @@ def report(ctx: Context, folder: str, unposted: list[tuple[str, str]], files: di
         counted(ctx),
     ]
     for effect, title, about in HEADS:
-        some = [it for it in ctx.done if it.effect == effect]
-        if some:
-            lines += ["", f"## {title}", "", about, "", *by_feature(some)]
+        if some := by_feature(ctx, effect):
+            lines += ["", f"## {title}", "", about, "", *some]
     if unposted:
         lines += ["", "## Handled, and nothing posts it", "",
-                  "These entries are written, and never run: nothing here posts the event.", ""]
+                  "These entries are written, and never run: nothing here posts the event. Places are lines of this",
+                  "folder.", ""]
         lines += [f"- `{clean(name)}`: {clean(place)}" for name, place in unposted]
-    lines += ["", *(SUM.format(sum_of(text), name) for name, text in files.items()), ""]
-    return "\n".join(lines)
+    body = "\n".join([*lines, "", ""])
+    sums = {**{name: sum_of(text) for name, text in files.items()}, NAME: sum_of(body)}
+    return body + "".join(f"{SUM.format(check, name)}\n" for name, check in sums.items())
+
+
+def body_of(page: str) -> str:
+    """The page without its checksums."""
+    return page.partition(SUM.partition("{")[0])[0]
 
 
 def sum_of(text: str) -> str:
@@ -51,9 +57,11 @@ def counted(ctx: Context) -> str:
     return kept + ", ".join(f"{effect}: {count} places" for effect, count in counts.items()) + "."
 
 
-def by_feature(some: list[Done]) -> list[str]:
+def by_feature(ctx: Context, effect: str) -> list[str]:
     found: dict[str, list[Done]] = {}
-    for it in some:
+    for it in ctx.done:
+        if it.effect != effect:
+            continue
         found.setdefault(FEATURES[it.feature].title, []).append(it)
     lines = []
     for title, all_of_it in found.items():
@@ -81,6 +89,15 @@ def shown(one: Done) -> str:
     place = one.place
     last = f"-{place.last}" if place.last > place.line else ""
     return clean(f"{place.file}:{place.line}{last}")
+
+
+def left_out(ctx: Context) -> list[str]:
+    """The list of what is left out, and of what does less."""
+    lines: list[str] = []
+    for effect, title, about in HEADS:
+        if effect != REWRITTEN and (some := by_feature(ctx, effect)):
+            lines += [f"{title}. {about}", *some, ""]
+    return lines
 
 
 def table() -> list[str]:

@@ -10,15 +10,15 @@ from ..machine_graph import graph_of
 from ..printed import clean
 from ..program import Program
 from ..scenery import Scenery
-from ..texts import MIB, Line, read_bytes
+from ..texts import MACHINE, MIB, Line, read_bytes
 from . import report, whole
 from .accept import accept
 from .context import Context
 from .features import LOST, REWRITTEN, UNSEEN, WEAKENED
-from .source import Place
+from .source import Place, read
 
 WITHIN = 3.0  # seconds in which the program is asked for single places; then more goes at once
-MOST_LINES = 400  # of a report of what differs
+MOST_LINES = 400  # of what differs, or is left out
 MOST_FILE = 8 * MIB
 
 
@@ -31,7 +31,7 @@ class Adopted:
 
 def adopt(program: Program, folder: Path) -> Adopted:
     """Makes the texts of the new folder. Raises OSError or ValueError if the folder cannot be read."""
-    ctx = whole.adopt(folder)
+    ctx = whole.adopt(read(folder))
     before = {it.posts for it in graph_of(scene_of(ctx)).posts}
     answer = accept(ctx, program, WITHIN)
     files = {name: "".join(f"{it}\n" for it in text) for name, text in ctx.draft.files().items()}
@@ -78,7 +78,7 @@ def places_of(ctx: Context, scene: Scenery, it: unused.Unused) -> list[Place]:
     """Where an event that is handled comes from in the MPF folder."""
     entry = scene.around(it.text, it.line - 1)
     path = [*entry.path, entry] if entry else []
-    mode = scene.owner(it.text).replace("machine", "")
+    mode = "" if it.text == MACHINE else scene.owner(it.text)
     if len(path) > 1:
         written = ctx.draft.texts.get(mode, {}).get(path[0].key, {}).get(path[1].key)
         if written:
@@ -96,6 +96,7 @@ def write(adopted: Adopted, new: Path, force: bool) -> list[str]:
     differs = [] if force else changes(adopted, new, known)
     if differs:
         return differs
+    stay_outside(adopted.context.source.folder, [new / it for it in {**known, **adopted.files}])
     for name, text in adopted.files.items():
         path = new / name
         path.parent.mkdir(parents=True, exist_ok=True)
@@ -104,6 +105,13 @@ def write(adopted: Adopted, new: Path, force: bool) -> list[str]:
         if name not in adopted.files and (file := new / name).is_file() and name_is_own(name):
             file.unlink()
     return []
+
+
+def stay_outside(folder: Path, paths: list[Path]) -> None:
+    """Raises ValueError if a file that would be written is in the MPF folder, by a link."""
+    for path in paths:
+        if folder.resolve() in path.resolve().parents:
+            raise ValueError(f"{path} is in the MPF folder, by a link: nothing there is ever changed")
 
 
 def name_is_own(name: str) -> bool:
@@ -132,15 +140,19 @@ def changes(adopted: Adopted, new: Path, known: dict[str, str]) -> list[str]:
     """What a builder has changed, and would lose."""
     lines: list[str] = []
     for name in dict.fromkeys([*known, *adopted.files]):
-        if name == report.NAME or not (new / name).is_file():
+        wanted = compared(name, adopted.files.get(name, ""))
+        if not (new / name).is_file():
+            lines += [f"--- {name} is gone, and adopt would write it again"] if name in known and wanted else []
             continue
-        here = read_bytes(new / name, MOST_FILE).decode("utf-8", "surrogateescape")
-        wanted = adopted.files.get(name, "")
+        here = compared(name, read_bytes(new / name, MOST_FILE).decode("utf-8", "surrogateescape"))
         if here != wanted and report.sum_of(here) != known.get(name):
-            lines += difflib.unified_diff(here.splitlines(), wanted.splitlines(), f"{name} as it is",
-                                          f"{name} by adopt",
-                                          lineterm="")
+            before, after = f"{name} as it is", f"{name} by adopt"
+            lines += difflib.unified_diff(here.splitlines(), wanted.splitlines(), before, after, lineterm="")
     return lines
+
+
+def compared(name: str, text: str) -> str:
+    return report.body_of(text) if name == report.NAME else text
 
 
 def shown(adopted: Adopted, new: Path) -> list[str]:
@@ -149,9 +161,12 @@ def shown(adopted: Adopted, new: Path) -> list[str]:
     counts = {effect: len({it.place for it in done if it.effect == effect})
               for effect in (REWRITTEN, WEAKENED, LOST, UNSEEN)}
     name = clean(str(new))
+    left_out = report.left_out(adopted.context)
+    more = [f".. {len(left_out) - MOST_LINES} lines more", ""] if len(left_out) > MOST_LINES else []
     return [
+        *left_out[:MOST_LINES], *more,
         f"{name}: pinball check answers yes, about this folder and not about what MPF runs.",
         f"Places of the MPF folder: {counts[REWRITTEN]} rewritten, {counts[WEAKENED]} weakened, {counts[LOST]} lost, "
         f"{counts[UNSEEN]} only unseen.",
-        f"Read {name}/{report.NAME}: it lists all of them, by feature.",
+        f"{name}/{report.NAME} lists all of them, by feature.",
     ]

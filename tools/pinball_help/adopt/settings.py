@@ -4,7 +4,7 @@ from typing import Callable
 from .. import powers, tables
 from ..values import milliseconds, thousandths
 from . import values
-from .context import Context
+from .context import Context, More
 from .draft import SINGLE, Taken, Value, Written, sections
 from .features import FEATURES
 from .source import Given
@@ -52,15 +52,36 @@ def of_entry(ctx: Context, mode: str, section: Given, entry: Given) -> None:
     out = settings_of(ctx, mode, section.key, entry)
     if out is None:
         return
-    comments = [*entry.comments(), *(f"{it.key}: {line.lstrip('# ')}" for it in entry.inside() for line in it.comments()
-                                     if it.line != entry.line)]
-    written = Written(out, [entry.place], comments)
+    written = Written(out, [entry.place])
     written.lines = {it.key: it.place for it in entry.inside()}
     try:
         ctx.draft.put(mode, section.key, entry.key, written)
         ctx.keep(entry)
     except Taken as why:
         ctx.lose("entry twice", entry, str(why))
+        if section.key == "coils":
+            lower_both(ctx, entry, out)
+
+
+def lower_both(ctx: Context, entry: Given, out: Out) -> None:
+    """Of a coil that is there twice each power and time is the lower one."""
+    first = ctx.draft.section("", "coils")[entry.key].value
+    assert isinstance(first, dict)
+    for key, value in out.items():
+        default = first.get(key, without(first, key))
+        if isinstance(value, str) and default and values.lowest(key, [default, value]) != default:
+            first[key] = lower(ctx, entry.at(key) or entry, key, default, value)
+    lowest(ctx, "", entry, first)
+
+
+def without(coil: Out, key: str) -> str:
+    """What holds for a coil's setting that is not written; nothing if it is no power and no time."""
+    may_hold = str(coil.get("allow_enable", "no")).lower() in values.YES
+    hold = str(coil.get("max_hold_power") or ("1.0" if may_hold else coil.get("default_hold_power", "0")))
+    return {
+        "default_pulse_ms": "10ms", "max_pulse_ms": str(coil.get("default_pulse_ms", "10ms")), "allow_enable": "no",
+        "default_pulse_power": "1.0", "max_pulse_power": "1.0", "max_hold_power": hold, "default_hold_power": hold,
+    }.get(key, "")
 
 
 def settings_of(ctx: Context, mode: str, section: str, entry: Given) -> Out | None:
@@ -84,14 +105,14 @@ def settings_of(ctx: Context, mode: str, section: str, entry: Given) -> Out | No
 def take(ctx: Context, mode: str, section: str, entry: Given, given: Given, table: dict[str, tables.Setting],
          out: Out) -> None:
     key = given.key
-    if key in out and (section, key) not in OWN:
+    if key in out and (section, key) not in OWN and not (section == "coils" and key in table):
         ctx.lose("entry twice", given)
     elif own := OWN.get((section, key)):
         own(ctx, mode, entry, given, out)
     elif key in table:
         value = values.convert(ctx, mode, section, table[key], entry, given)
-        if value is not None:
-            out[key] = value
+        if value is not None and not (value == [] and section == "switches" and values.items_of(ctx, given)):
+            out[key] = value if key not in out else lower(ctx, given, key, out[key], value)
             ctx.keep(given)
     elif key in tables.of_other_tools():
         if given.is_mapping or given.is_list and not all(map(values.NAME.fullmatch, given.words())):
@@ -105,22 +126,41 @@ def take(ctx: Context, mode: str, section: str, entry: Given, given: Given, tabl
         ctx.lose("unknown setting", given, f"`{key[:60]}`")
 
 
+# settings that have another name in version 6
+OLD_NAMES = {
+    ("switches", "activation_events"): "events_when_activated",
+    ("switches", "deactivation_events"): "events_when_deactivated",
+    ("coils", "pulse_ms"): "default_pulse_ms",
+    **{("coils", it): "default_pulse_power" for it in ("pulse_power", "pulse_power32", "pulse_pwm_mask")},
+    **{("coils", it): "default_hold_power" for it in ("hold_power", "hold_power32", "hold_pwm_mask")},
+}
+
+
 def renamed(new: str) -> Callable:
     """A setting that has another name in version 6."""
 
     def own(ctx: Context, mode: str, entry: Given, given: Given, out: Out) -> None:
         section = "coils" if new.startswith("default") else "switches"
-        if new in out or entry.at(new):
+        if section == "switches" and (new in out or entry.at(new)):
             ctx.lose("entry twice", given, f"`{new}` is there too")
             return
         other = Given(new if not powers.is_power(new) else given.key, given.node, given.file, given.line, given.last)
         setting = next(it for it in sections(False)[section].settings if it.key == new)
         value = values.convert(ctx, mode, section, setting, entry, other)
         if value is not None:
-            out[new] = value
             ctx.log("old names", given.place, f"`{new}`")
+            out[new] = value if new not in out else lower(ctx, given, new, out[new], value)
 
     return own
+
+
+def lower(ctx: Context, given: Given, setting: str, first: Value, other: Value) -> Value:
+    """The lower of two values of a coil's setting."""
+    if not isinstance(first, str) or not isinstance(other, str):
+        return first
+    found = values.lowest(setting, [first, other])
+    ctx.log("lowest power or time", given.place, f"`{setting}` is there twice: `{found}` is the lower one")
+    return found
 
 
 # coils
@@ -128,7 +168,7 @@ def renamed(new: str) -> Callable:
 
 def coil_events(action: str) -> Callable:
     def own(ctx: Context, mode: str, entry: Given, given: Given, out: Out) -> None:
-        for event in values.events(ctx, mode, "coils", tables.Call(""), entry, given) or []:
+        for event in values.events(ctx, mode, "coils", tables.Call(""), entry, given):
             ctx.drive("", event, {entry.key: action}, given, f"{given.key} of {entry.key}")
         ctx.log(f"coils.{given.key}", given.place)
 
@@ -155,9 +195,7 @@ def lowest(ctx: Context, _mode: str, entry: Given, out: Out) -> None:
         ("max_pulse_ms", "default_pulse_ms", milliseconds), ("max_pulse_power", "default_pulse_power", thousandths),
         ("max_hold_power", "default_hold_power", thousandths),
     ):
-        most, here = read(str(out.get(limit, ""))), read(str(out.get(default, "10" if limit == "max_pulse_ms" else "")))
-        if limit == "max_pulse_power" and most is not None and default not in out:
-            here = 1000
+        most, here = read(str(out.get(limit, ""))), read(str(out.get(default, without(out, default))))
         if most is not None and here is not None and here > most:
             ctx.log("lowest power or time", (entry.at(default) or entry).place, f"`{default}` is `{out[limit]}`")
             out[default] = out[limit]
@@ -173,25 +211,27 @@ def lowest(ctx: Context, _mode: str, entry: Given, out: Out) -> None:
 def overwrite(ctx: Context, _mode: str, entry: Given, given: Given, _out: Out) -> None:
     """The coil itself gets what an overwrite lowers."""
     coil = entry.says({"hold_coil_overwrite": "hold_coil", "coil_overwrite": "coil"}.get(given.key, "main_coil"))
+    coil = coil or entry.says("main_coil")
+    if not given.is_mapping:
+        ctx.lose("bad value", given)
     for it in given.inside():
-        ctx.lowered.append((coil, it.key, it.text, it))
+        if (key := OLD_NAMES.get(("coils", it.key), it.key)) in OLD_NAMES.values():
+            ctx.lowered.append((coil, key, it))
+        else:
+            ctx.lose("unknown setting", it, f"`{it.key[:60]}` of `{given.key}`")
     ctx.log(f"flippers.{given.key}" if f"flippers.{given.key}" in FEATURES else f"autofire_coils.{given.key}",
             given.place)
 
 
 def lower_coils(ctx: Context) -> None:
     coils = ctx.draft.section("", "coils")
-    keys = {"pulse_ms": "default_pulse_ms", "pulse_power": "default_pulse_power", "hold_power": "default_hold_power"}
-    for coil, key, text, given in ctx.lowered:
-        written, key = coils.get(coil), keys.get(key, key)
-        if written is None or not isinstance(written.value, dict) or key not in keys.values():
+    for coil, key, given in ctx.lowered:
+        written = coils.get(ctx.dual.get(coil, (coil, coil))[key == "default_hold_power"])
+        if written is None or not isinstance(written.value, dict):
             continue
-        read = milliseconds if key == "default_pulse_ms" else thousandths
-        right = powers.meant(key, text)[0] if read is thousandths else f"{ctx.time(text) or 0}ms"
-        before = {"default_pulse_ms": "10", "default_pulse_power": "1"}.get(key)
-        here = read(str(written.value.get(key, before or "")))
-        new = read(right)
-        if here is not None and new and new < here:
+        right = values.drive(ctx, "Time" if key == "default_pulse_ms" else "Power", given)
+        here = str(written.value.get(key, without(written.value, key)))
+        if right and values.lowest(key, [here, right]) != here:
             written.value[key] = right
             written.says.append(f"`{key}` is that of {given.place}")
             ctx.log("flippers.main_coil_overwrite", written.lines.get(key, written.places[0]), f"`{key}: {right}`")
@@ -238,51 +278,62 @@ def start_enabled(ctx: Context, mode: str, entry: Given, given: Given, out: Out)
 
 
 def shot_restart(ctx: Context, mode: str, entry: Given, given: Given, out: Out) -> None:
-    found = values.events(ctx, mode, "shots", tables.Call(""), entry, given) or []
-    ctx.more.append((mode, "shots", entry.key, {"reset_events": list(found)} | (
-        {"enable_events": list(found)} if entry.at("enable_events") else {})))
+    found = values.events(ctx, mode, "shots", tables.Call(""), entry, given)
+    enables = {"enable_events": list(found)} if entry.at("enable_events") else {}
+    more = {"reset_events": list(found), **enables}
+    ctx.more.append(More("shots.restart_events", given, mode, "shots", entry.key, more))
     ctx.log("shots.restart_events", given.place)
 
 
 def shot_control(ctx: Context, mode: str, entry: Given, given: Given, out: Out) -> None:
-    for item in given.node.items or []:
-        one = Given(given.key, item, given.file, item.line, item.line + max(1, len(item.entries or [])))
+    if not given.is_list:
+        ctx.lose("bad value", given)
+    for one in given.items():
         events, state = one.at("events") or one.at("event"), one.says("state")
         setting = {"0": "reset_events", "1": "advance_events"}.get(state)
         if events is None or setting is None:
             ctx.lose("shots.control_events", one)
             continue
-        found = values.events(ctx, mode, "shots", tables.Call(""), entry, events) or []
-        ctx.more.append((mode, "shots", entry.key, {setting: list(found)}))
+        for it in one.inside():
+            if it.key not in (events.key, "state"):
+                ctx.lose("unknown setting", it, f"`{it.key[:60]}` of `control_events`")
+        found = values.events(ctx, mode, "shots", tables.Call(""), entry, events)
+        ctx.more.append(More("shots.control_events", one, mode, "shots", entry.key, {setting: list(found)}))
         ctx.log("shots.control_events", one.place, f"`{setting}`", "weakened" if state == "1" else "")
     ctx.log("shots.control_events", given.place)
 
 
 def group_events(setting: str) -> Callable:
     def own(ctx: Context, mode: str, entry: Given, given: Given, out: Out) -> None:
-        found = values.events(ctx, mode, "shot_groups", tables.Call(""), entry, given) or []
+        found = values.events(ctx, mode, "shot_groups", tables.Call(""), entry, given)
         for shot in entry.names("shots"):
-            ctx.more.append((mode, "shots", shot, {setting: list(found)}))
+            more = More(f"shot_groups.{given.key}", given, mode, "shots", shot, {setting: list(found)})
+            ctx.more.append(more)
         ctx.log(f"shot_groups.{given.key}", given.place)
 
     return own
 
 
 def group_restart(ctx: Context, mode: str, entry: Given, given: Given, out: Out) -> None:
-    found = values.events(ctx, mode, "shot_groups", tables.Call(""), entry, given) or []
-    ctx.more.append((mode, "shot_groups", entry.key, {"reset_events": list(found)}))
+    found = values.events(ctx, mode, "shot_groups", tables.Call(""), entry, given)
+    more = {"reset_events": list(found)}
+    ctx.more.append(More("shots.restart_events", given, mode, "shot_groups", entry.key, more))
     ctx.log("shots.restart_events", given.place)
 
 
 def add_more(ctx: Context) -> None:
     """Adds the events that other entries have for a shot or a group."""
-    for mode, section, key, more in ctx.more:
-        written = ctx.draft.texts.get(mode, {}).get(section, {}).get(key)
-        if written and isinstance(written.value, dict):
-            for setting, events in more.items():
-                here = written.value.setdefault(setting, [])
-                if isinstance(here, list):
-                    here += [it for it in events if it not in here]
+    for more in ctx.more:
+        written = ctx.draft.texts.get(more.mode, {}).get(more.section, {}).get(more.key)
+        if written is None or not isinstance(written.value, dict):
+            ctx.lose("name not there", more.given, f"`{more.key[:60]}`")
+            continue
+        for setting, events in more.events.items():
+            here = written.value.setdefault(setting, [])
+            assert isinstance(here, list)
+            here += [it for it in events if it not in here]
+            if place := written.lines.get(setting):
+                ctx.log(more.feature, place, f"`{', '.join(events)}` too")
 
 
 def player_variable(ctx: Context, mode: str, entry: Given, given: Given, out: Out) -> None:
@@ -307,14 +358,17 @@ def mode_events(event: str) -> Callable:
 
 
 def tag_of_start(ctx: Context, _mode: str, entry: Given, given: Given, out: Out) -> None:
-    if given.text and given.text != "start" and given.key == "start_game_switch_tag":
+    if given.text and given.key == "start_game_switch_tag":
         ctx.start_tag = given.text
+    if given.text not in ctx.tags:
+        ctx.log("game.start_game_switch_tag", given.place, f"no switch has the tag `{given.text[:60]}`", "weakened")
+    elif given.text != entry.says("start_game_switch_tag", "start"):
+        ctx.log("game.start_game_switch_tag", given.place, "the start button adds players", "weakened")
     ctx.log("game.start_game_switch_tag", given.place)
 
 
 OWN: dict[tuple[str, str], Callable] = {
-    ("switches", "activation_events"): renamed("events_when_activated"),
-    ("switches", "deactivation_events"): renamed("events_when_deactivated"),
+    **{old: renamed(new) for old, new in OLD_NAMES.items()},
     ("coils", "max_hold_duration"): no_hold,
     ("coils", "default_timed_enable_ms"): no_hold,
     ("flippers", "main_coil_overwrite"): overwrite,
@@ -334,10 +388,6 @@ OWN: dict[tuple[str, str], Callable] = {
     **{("multiballs", it): at_the_end for it in ("shoot_again", "grace_period", "ball_count_type")},
     ("game", "start_game_switch_tag"): tag_of_start,
     ("game", "add_player_switch_tag"): tag_of_start,
-    **{("coils", old): renamed(new) for old, new in (
-        ("pulse_ms", "default_pulse_ms"), ("pulse_power", "default_pulse_power"), ("hold_power", "default_hold_power"),
-        ("pulse_power32", "default_pulse_power"), ("pulse_pwm_mask", "default_pulse_power"),
-        ("hold_power32", "default_hold_power"), ("hold_pwm_mask", "default_hold_power"))},
     **{("coils", f"{it}_events"): coil_events(it) for it in ("pulse", "enable", "disable")},
     **{(it, "start_enabled"): start_enabled for it in ("shots", "counters", "accruals", "sequences")},
     **{("shot_groups", it): group_events(it) for it in ("enable_events", "disable_events", "advance_events",

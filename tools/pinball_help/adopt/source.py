@@ -10,7 +10,6 @@ from ..texts import TEXT_LIMIT, Room, lines_of, read_bytes
 from .laxer import laxer
 
 MOST_FILES = 300
-MOST_COMMENTS = 40  # lines of a comment above an entry
 MOST_OF_ANCHOR, MOST_OF_ALIASES = 200, 20_000  # values in what an alias stands for, and in all that aliases stand for
 
 
@@ -34,16 +33,8 @@ class File:
     unread: list[int] = field(default_factory=list)  # lines, from 0, that are no YAML
     unclosed: list[int] = field(default_factory=list)
     lax: list[int] = field(default_factory=list)  # lines that are written in a form that this package does not read
-
-    def comments(self, line: int) -> list[str]:
-        """The comment above a line, and that behind it."""
-        first = line
-        while first > 0 and line - first < MOST_COMMENTS and self.lines[first - 1].lstrip().startswith("#"):
-            first -= 1
-        above = [it.strip() for it in self.lines[first:line] if "config_version" not in it]
-        written = self.lines[line] if line < len(self.lines) else ""
-        behind = written[len(without_comment(written)) :].strip()
-        return [*above, behind] if behind.startswith("#") else above
+    read: list[str] = field(default_factory=list)  # the lines in the form that it reads
+    joined: dict[int, int] = field(default_factory=dict)  # as in Lax
 
 
 @dataclass(slots=True)
@@ -76,6 +67,10 @@ class Given:
         """The entries of a mapping."""
         return [Given(it.key, it.value, self.file, it.line, it.last) for it in self.node.entries or []]
 
+    def items(self) -> "list[Given]":
+        """The items of a list, each with all of its lines."""
+        return [Given(self.key, it, self.file, it.line, last_of(it)) for it in self.node.items or []]
+
     def at(self, key: str) -> "Given | None":
         return next((it for it in self.inside() if it.key == key), None)
 
@@ -91,8 +86,10 @@ class Given:
         found = self.at(key)
         return found.words() if found else []
 
-    def comments(self) -> list[str]:
-        return self.file.comments(self.line)
+
+def last_of(node: Node) -> int:
+    """The line after those of a value in a list."""
+    return max([node.line + 1, *(it.last for it in node.entries or []), *map(last_of, node.items or [])])
 
 
 @dataclass
@@ -212,7 +209,7 @@ def file_of(name: str, lines: list[str]) -> File:
     take_wrong_out(root, lax.lines, wrong)
     seen = lines_read(root) - {*wrong}
     unread = [at for at, it in enumerate(lax.lines) if without_comment(it).strip() and at not in seen]
-    return File(name, lines, root, unread, lax.unclosed, lax.changed)
+    return File(name, lines, root, unread, lax.unclosed, lax.changed, lax.lines, lax.joined)
 
 
 def take_wrong_out(root: Node, lines: list[str], wrong: list[int]) -> None:

@@ -4,6 +4,7 @@ import re
 from .. import powers, schema
 from ..machine_graph import GAME
 from ..tables import Call, Setting
+from ..values import milliseconds, thousandths
 from .context import Context, parts_of
 from .draft import Value
 from .expressions import NotSaid
@@ -14,6 +15,8 @@ YES, NO = ("yes", "true", "on", "1", "y"), ("no", "false", "off", "0", "n")
 FIVE = re.compile(r"mode_(.+)_(?:will_start|starting|started|stopping|stopped)")
 WORDS = {("debounce", "no"): "quick", ("debounce", "yes"): "normal"}
 MOST_ITEMS = 1_024
+TIME = re.compile(r"\d+(\.\d{1,3})?(ms|s|m|h|d|)")  # as it is read here
+DEFAULT_PULSE = 10  # milliseconds
 
 
 def convert(ctx: Context, mode: str, section: str, setting: Setting, entry: Given, given: Given) -> Value | None:
@@ -22,6 +25,8 @@ def convert(ctx: Context, mode: str, section: str, setting: Setting, entry: Give
     name = kind.name.partition("::")[2]
     if name in ("Names", "Posts", "Events", "Steps", "Maps", "NamedMaps"):
         return LISTS[name](ctx, mode, section, kind, entry, given)
+    if section == "coils" and name in ("Time", "Power"):
+        return drive(ctx, name, given)
     if given.is_list and given.words() and name in ("Name", "Time"):
         ctx.log("lists of one", given.place, f"`{given.words()[0]}` is the one")
         return of_text(ctx, section, kind, given, given.words()[0])
@@ -34,21 +39,53 @@ def convert(ctx: Context, mode: str, section: str, setting: Setting, entry: Give
     return of_text(ctx, section, kind, given, given.text)
 
 
+def drive(ctx: Context, name: str, given: Given) -> str | None:
+    """A power or a time of a coil: the lowest that its text can mean."""
+    texts = given.words() if given.is_list or "," in given.text else ["" if given.is_mapping else given.text]
+    found = [it for text in texts or [""] if (it := (power if name == "Power" else pulse)(ctx, given, text))]
+    if len(texts) > 1 or not given.text:
+        ctx.log("lowest power or time", given.place, "the lowest that it can mean")
+    return lowest(given.key, found) if found else None
+
+
+def lowest(setting: str, values: list[str]) -> str:
+    """The lowest of some values of a coil's setting."""
+    if setting == "allow_enable":
+        return next((it for it in values if it.lower() not in YES), values[0])
+    read = milliseconds if setting.endswith("_ms") else thousandths
+    return min(values, key=lambda it: read(it) or 0)
+
+
+def power(ctx: Context, given: Given, text: str) -> str:
+    right, why = powers.meant(given.key, text)
+    if why:
+        ctx.log("powers in eighths", given.place, f"`{text[:40]}` is `{right}`")
+    return right
+
+
+def pulse(ctx: Context, given: Given, text: str) -> str | None:
+    value = ctx.pulse(text)
+    if value is None:
+        numbers = [float(it) for it in re.findall(r"\d+\.?\d*", text)[:MOST_ITEMS]]
+        value = max(1, int(min(numbers))) if numbers and min(numbers) < DEFAULT_PULSE else None
+        says = f"`{value}ms`" if value else "left out"
+        ctx.lose("lowest power or time", given, f"`{text[:40]}`: {says}, since nobody can know what was meant")
+    elif value != ctx.time(text):
+        ctx.log("lowest power or time", given.place, f"`{text[:40]}` is `{value}ms`")
+    elif "settings." in text:
+        ctx.log("settings.x", given.place, f"`{text[:60]}` is {value} by default")
+    elif not TIME.fullmatch(text):
+        ctx.log("other spelling", given.place, f"`{text[:40]}` is `{value}ms`")
+    if value is None:
+        return None
+    return text if TIME.fullmatch(text) and value == ctx.time(text) else f"{value}ms"
+
+
 def of_text(ctx: Context, section: str, kind: Call, given: Given, text: str) -> str | None:
     """A scalar of a kind. What is written otherwise than here is said."""
     name = kind.name.partition("::")[2]
-    if name == "Power":
-        right, why = powers.meant(given.key, text)
-        if why:
-            ctx.log("powers in eighths", given.place, f"`{text[:40]}` is `{right}`")
-        return right
     value = SCALARS[name](ctx, kind, given, text)
-    if value is None and section == "coils" and name == "Time" and ctx.pulse(text):
-        ctx.log("lowest power or time", given.place, f"`{text[:40]}` is 1ms, the shortest pulse")
-        return "1ms"
-    if value is None and section == "coils":
-        ctx.lose("lowest power or time", given, "left out: nobody can know what was meant")
-    elif value is None and re.search(r"current_player|settings\.|machine\.|[*]", text):
+    if value is None and re.search(r"current_player|settings\.|machine\.|[*]", text):
         ctx.lose("formula", given, f"`{text[:60]}`")
     elif value is None:
         ctx.lose("bad value", given, f"`{text[:60]}`" if text else "it is empty")
@@ -84,7 +121,7 @@ def time(ctx: Context, kind: Call, _given: Given, text: str) -> str | None:
     least, greatest = kind.values
     if value is None or not least <= value <= greatest:
         return None
-    return text if re.fullmatch(r"\d+(\.\d{1,3})?(ms|s|m|h|d|)", text) else f"{value}ms"
+    return text if TIME.fullmatch(text) else f"{value}ms"
 
 
 def word(_ctx: Context, kind: Call, given: Given, text: str) -> str | None:
@@ -116,27 +153,36 @@ def names(ctx: Context, _mode: str, _section: str, kind: Call, _entry: Given, gi
     return found
 
 
-def items_of(given: Given) -> list[str]:
+def items_of(ctx: Context, given: Given) -> list[str]:
     """The events of a list in any of MPF's forms, each with its time: `a|2s`, `{a: 2s}`, `- a: 2s`."""
-    if given.is_mapping:
-        return [f"{it.key}|{it.text}" if it.text else it.key for it in given.inside()]
-    if not given.is_list:
-        return given.words()
-    found = []
-    for item in given.node.items or []:
-        if item.entries is not None:
-            found += [f"{it.key}|{it.value.text}" if it.value.text else it.key for it in item.entries]
-        elif item.text:
-            one = Given(given.key, item, given.file, item.line, item.line + 1)
-            found += [item.text] if "{" in item.text else one.words()
-    return found
+    found: list[str] = []
+    for it in given.inside():
+        found.append(f"{it.key}|{it.text}" if it.text else it.key)
+        more_of(ctx, it)
+    for item in given.items():
+        found += [item.text] if "{" in item.text else items_of(ctx, item)
+    found += given.words() if not given.is_list else []
+    if len(found) > MOST_ITEMS:
+        ctx.lose("too many", given, f"{len(found)} names, and {MOST_ITEMS} are read")
+    return found[:MOST_ITEMS]
 
 
-def events(ctx: Context, mode: str, section: str, _kind: Call, _entry: Given, given: Given) -> Value | None:
+def more_of(ctx: Context, given: Given) -> None:
+    """Says what an event of a list has beside its name."""
+    for it in given.inside():
+        if it.key == "priority":
+            ctx.log("a: {b: {priority: 5}}", it.place)
+        else:
+            ctx.lose("unknown setting", it, f"`{it.key[:60]}` of the event `{given.key[:60]}`")
+    if given.is_list:
+        ctx.lose("bad value", given)
+
+
+def events(ctx: Context, mode: str, section: str, _kind: Call, _entry: Given, given: Given) -> list[str]:
     """A list of events that are handled."""
     owner = "" if section == "mode" else mode
     found: list[str] = []
-    for text in items_of(given)[:MOST_ITEMS]:
+    for text in items_of(ctx, given):
         before = len(found)
         try:
             found += ctx.handled(owner, text, given)
@@ -168,21 +214,23 @@ def said(ctx: Context, given: Given, condition: str, found: list[str]) -> None:
 
 def steps(ctx: Context, mode: str, section: str, kind: Call, entry: Given, given: Given) -> Value | None:
     """The steps of an accrual or a sequence."""
-    items = given.node.items
-    if items is None:
+    items, most = given.items(), kind.values[0].values[1]
+    if given.is_mapping:
+        ctx.lose("bad value", given, "a mapping in place of a list of steps")
+        return None
+    if not given.is_list:
         ctx.log("other spelling", given.place, "each event is a step")
-        items = given.node.texts()
-    found = []
-    for item in items[: kind.values[0].values[1]]:
-        one = Given(given.key, item, given.file, item.line, item.line + 1)
-        here = events(ctx, mode, section, kind, entry, one)
-        if isinstance(here, list) and here:
+        items = [Given(given.key, it, given.file, it.line, it.line + 1) for it in given.node.texts()]
+    found: list[list[str]] = []
+    for item in items:
+        here = events(ctx, mode, section, kind, entry, item) if len(found) < most else []
+        if here:
             found.append(here)
-        elif one.text or one.is_list:
-            ctx.lose("bad value", one, "a step without an event: the steps are left out")
+        elif len(found) == most:
+            ctx.lose("too many", item, f"at most {most} steps")
+        elif item.text or item.is_list or item.is_mapping:
+            ctx.lose("bad value", item, "a step without an event: the steps are left out")
             return None
-    if len(items) > len(found):
-        ctx.lose("too many", given, f"{len(items)} steps, and 16 are read")
     return found
 
 
@@ -191,10 +239,10 @@ def may_be_posted(ctx: Context, name: str) -> bool:
     return not (name in GAME and name != "sw_start" or found and found[1] in ctx.listed)
 
 
-def posts(ctx: Context, mode: str, _section: str, _kind: Call, entry: Given, given: Given) -> Value | None:
+def posts(ctx: Context, mode: str, _section: str, _kind: Call, entry: Given, given: Given) -> list[str]:
     """A list of events that a device or a switch posts."""
-    trigger, found = "", []
-    for text in items_of(given)[:MOST_ITEMS]:
+    trigger, found = "", list[str]()
+    for text in items_of(ctx, given):
         name, condition, wait = parts_of(text)
         if not NAME.fullmatch(name):
             ctx.lose("(name)_hit", given, f"`{name[:60]}`")
@@ -230,15 +278,14 @@ def later(ctx: Context, mode: str, trigger: str, text: str, given: Given) -> Non
         return
     for it in heads:
         ctx.post(mode, it, [name], given, f"`{text}` after `{trigger}`")
+    if not heads:
+        ctx.lose("other conditions", given, f"`{text[:60]}` never holds")
     ctx.log("events_when_activated: a|1s" if wait else "a: b{x}", given.place)
 
 
 def maps(ctx: Context, mode: str, section: str, _kind: Call, _entry: Given, given: Given) -> Value | None:
     """The control events of a timer."""
-    found: list = []
-    for item in given.node.items or []:
-        one = Given(given.key, item, given.file, item.line, item.line + max(1, len(item.entries or [])))
-        found += control(ctx, mode, one)
+    found = [it for item in given.items() for it in control(ctx, mode, item)]
     if given.is_mapping or given.text:
         ctx.lose("bad value", given)
     return found
@@ -255,7 +302,7 @@ def control(ctx: Context, mode: str, item: Given) -> list[dict]:
     value = ctx.number(item.says("value", "0"))
     event = item.at("event") or item.at("events")
     if value is None or event is None:
-        ctx.lose("formula" if value is None else "missing setting", item.at("value") or item)
+        ctx.lose("formula" if value is None else "missing setting", item, f"`{item.says('value')[:60]}`")
         return []
     if action == "pause" and value and (place := item.at("value")):
         ctx.lose("timers.pause", place)
@@ -265,16 +312,16 @@ def control(ctx: Context, mode: str, item: Given) -> list[dict]:
         else:
             ctx.keep(it)
     handled = events(ctx, mode, "timers", Call(""), item, event)
-    extra = {"value": str(value)} if action in ("add", "subtract", "jump") else {}
+    extra = {"value": str(value)} if item.at("value") else {}
     return [{"event": it, "action": action, **extra} for it in handled or []]
 
 
 def named_maps(ctx: Context, _mode: str, _section: str, _kind: Call, _entry: Given, given: Given) -> Value | None:
     """The states of a profile."""
     found: list[dict] = []
-    for item in given.node.items or given.node.texts():
-        one = Given(given.key, item, given.file, item.line, item.line + 1)
-        name = one.says("name") if one.is_mapping else item.text
+    items = [Given(given.key, it, given.file, it.line, it.line + 1) for it in given.node.texts()]
+    for one in given.items() or items:
+        name = one.says("name") if one.is_mapping else one.text
         if not NAME.fullmatch(name) or name in [it["name"] for it in found] or len(found) == 16:
             ctx.lose("bad name" if len(found) < 16 else "too many", one, f"state `{name[:40]}`")
             continue

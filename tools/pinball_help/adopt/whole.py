@@ -1,13 +1,12 @@
 """Adopts a whole folder: what has to be known first, section by section, and what the sections need of each other."""
-from pathlib import Path
 from typing import Callable
 
 from .. import profile, tables
-from . import balls, players, playfield, settings, values
+from . import balls, comments, players, playfield, settings, states, values
 from .context import Context
 from .draft import NoRoom, Taken, sections
-from .features import FEATURES
-from .source import Given, Part, Place, read
+from .features import FEATURES, LEFT_OUT
+from .source import Given, Part, Place, Source
 
 OF_MPF = ("attract", "game", "tilt", "bonus", "high_score", "credits", "service", "carousel", "match")
 # MPF's sections that are rewritten
@@ -25,7 +24,7 @@ REWRITTEN: dict[str, Callable[[Context, str, Given], None]] = {
     "combo_switches": playfield.of_combos,
     "timed_switches": playfield.of_timed,
     "sequence_shots": playfield.of_sequence_shots,
-    "state_machines": playfield.of_state_machines,
+    "state_machines": states.of_state_machines,
     "ball_holds": balls.of_holds,
     "extra_balls": balls.of_extra,
     "extra_ball_groups": balls.of_extra_groups,
@@ -33,12 +32,13 @@ REWRITTEN: dict[str, Callable[[Context, str, Given], None]] = {
 }
 FIRST = ("switches", "coils", "ball_devices", "mode", "game", "machine", "flippers", "autofire_coils", "timers")
 LAST = ("event_player", "random_event_player", "coil_player", "variable_player", "scoring")
+settings.OWN[("multiballs", "ball_count")] = balls.ball_count
 settings.AFTER |= {"ball_saves": (balls.of_save,), "multiballs": (balls.of_multiball,)}
 
 
-def adopt(folder: Path) -> Context:
-    """Makes the new machine of a folder. Raises OSError or ValueError if its text of the machine cannot be read."""
-    ctx = Context(read(folder))
+def adopt(source: Source) -> Context:
+    """Makes the new machine of a folder that was read."""
+    ctx = Context(source)
     prepare(ctx)
     for part in ctx.source.parts:
         if part.mode:
@@ -88,6 +88,10 @@ def learn(ctx: Context, part: Part, section: Given, entry: Given) -> None:
         ctx.variables |= {it.key for it in entry.inside()}
     elif section.key in ("player_vars", "state_machines"):
         ctx.variables.add(entry.key)
+    elif section.key == "flippers":
+        ctx.main_coils.add(entry.says("main_coil"))
+    elif section.key == "extra_ball_groups":
+        ctx.groups.add(entry.key)
     elif section.key == "settings" and (value := entry.at("default")) and not value.is_mapping:
         number = ctx.number(value.text.strip("'\""))
         if number is not None:
@@ -144,8 +148,6 @@ def listed(ctx: Context) -> None:
 
 
 def of_part(ctx: Context, part: Part) -> None:
-    comments_of_files(ctx, part)
-
     def rank(section: Given) -> tuple[int, int]:
         order = FIRST.index(section.key) - len(FIRST) if section.key in FIRST else section.key in LAST
         return order, 0
@@ -161,15 +163,6 @@ def of_part(ctx: Context, part: Part) -> None:
             ctx.lose("too many" if isinstance(why, NoRoom) else "entry twice", section, str(why), "lost")
     if part.mode and "mode" not in seen:
         settings.of_section(ctx, part.mode, Given("mode", type(part.files[0].root)(0, entries=[]), part.files[0], 0, 1))
-
-
-def comments_of_files(ctx: Context, part: Part) -> None:
-    """Keeps the comment at the front of a text."""
-    for line in part.files[0].lines[:60]:
-        if line.strip() and not line.startswith("#"):
-            break
-        if line.strip("# \t\r") and "config_version" not in line:
-            ctx.draft.heads.setdefault(part.mode, []).append(line.strip("# \t\r"))
 
 
 def of_section(ctx: Context, mode: str, section: Given) -> None:
@@ -194,7 +187,7 @@ def of_section(ctx: Context, mode: str, section: Given) -> None:
             ctx.lose("unknown section", section, "`mode` in the text of the machine")
             return
         settings.of_section(ctx, mode, section)
-    elif key in FEATURES:
+    elif key in LEFT_OUT:
         ctx.lose(key, section)
     else:
         ctx.lose("unknown section", section, f"`{key[:60]}`")
@@ -221,24 +214,31 @@ def one_by_one(ctx: Context, mode: str, section: Given) -> None:
 def of_player_vars(ctx: Context, mode: str, section: Given) -> None:
     ctx.log("player_vars", section.place)
     for entry in section.inside():
-        value = entry.at("initial_value") or entry
-        number = ctx.number(value.text)
+        number = ctx.number((entry.at("initial_value") or entry).text)
         if entry.says("value_type", "int") not in ("int", "float") or number is None:
-            ctx.lose("player_vars of a text", value if value.text else entry, f"`{entry.key[:60]}`")
-        elif not values.NAME.fullmatch(f"player_{entry.key}"):
+            ctx.lose("player_vars of a text", entry, f"`{entry.key[:60]}`")
+            continue
+        if not values.NAME.fullmatch(f"player_{entry.key}"):
             ctx.lose("bad name", entry)
-        elif number:
-            ctx.change("", "ball_will_start{current_player.ball == 1}",
-                       {entry.key: {"int": str(number), "action": "set"}},
-                       entry, "the first value of a player's variable")
+            continue
+        for it in entry.inside():
+            if it.key not in ("initial_value", "value_type"):
+                playfield.left_out(ctx, "player_vars", it)
+        if number:
+            ctx.change("", playfield.FIRST_BALL, {entry.key: {"int": str(number), "action": "set"}}, entry,
+                       "the first value of a player's variable")
 
 
 def of_dual_wound(ctx: Context, _mode: str, section: Given) -> None:
     for entry in section.inside():
         main, held = entry.says("main_coil"), entry.says("hold_coil")
-        ctx.dual[entry.key] = (main, held)
         if not main or not held:
-            ctx.lose("dual_wound_coils", entry)
+            ctx.lose("dual_wound_coils", entry, "it needs two coils")
+            continue
+        ctx.dual[entry.key] = (main, held)
+        playfield.rest(ctx, "dual_wound_coils", entry, "main_coil", "hold_coil")
+        if entry.key not in ctx.main_coils:
+            ctx.log("dual_wound_coils", entry.place, "no flipper names it", "unseen")
     ctx.log("dual_wound_coils", section.place)
 
 
@@ -273,6 +273,7 @@ def finish(ctx: Context) -> None:
     one_coil(ctx)
     players.within_limits(ctx)
     game(ctx)
+    comments.keep(ctx)
 
 
 def dual_wound(ctx: Context) -> None:
@@ -303,6 +304,7 @@ def game(ctx: Context) -> None:
                 assert isinstance(tags, list)
                 tags += ["start"] if "start" not in tags else []
                 written.says.append("the start button")
+                ctx.log("game.start_game_switch_tag", written.lines.get("tags", written.places[0]), "`start` too")
     if "game" not in sections and (ctx.tags.get("start") or ctx.tags.get(ctx.start_tag)):
         sections["game"] = {}
         file = ctx.source.parts[0].files[0]

@@ -1,0 +1,276 @@
+"""`pinball-help adopt`: the comments of a builder stay with what they belong to."""
+import tempfile
+from pathlib import Path
+
+from help_tests.common import PROGRAM, test
+from pinball_help.adopt import run
+
+MACHINE = """#config_version=6
+# A machine of mine,
+# in two lines.
+
+# about nothing
+config:
+  - more.yaml  # the rest
+
+# the modes
+modes:   # in this order
+  - base     # the first
+  # above what is left out
+  - nothing  # it has no text
+
+#--- the cabinet ---
+switches: # all of them
+  # the start button
+  s_start: {number: 1, tags: "start"}   # red
+  s_a:
+    # where it is
+    number: 2     # board 0
+    tags: # two of them
+      - lane # the lane
+      # on the playfield
+      - playfield_active
+    # type: NC
+  # s_gone:
+  #   number: 9
+
+  s_b:   # in the middle
+    number: 3
+    # above what is left out
+    ignore_window_ms: 200ms  # it bounces
+    label: "a # in quotes"  # a label
+# in the first column
+coils:
+    c_a:
+        # measured
+        pulse_ms: 20  # not more
+        allow_enable: maybe # is left out
+    # holds the gate
+    c_hold: {number: 2, default_hold_power: 0.25}
+lights: # are left out
+  # a light
+  l_1: {number: 2} # blue
+  # the end of the lights
+
+# the bank
+drop_targets:
+  # the upper one
+  one:
+    switch: s_a  # behind it
+    reset_coil: c_a  # strong
+event_player:
+  s_a_active: # some
+    - a1 # one
+    # two comes next
+    - a2
+    - a3|2s  # late
+  s_b_active: [b1,
+     b2, # the second
+     b3]
+coil_player:
+  # kicks
+  a1:
+    c_a: # short
+      # in ms
+      pulse_ms: 8 # eight
+  a2:
+    c_hold:
+      action: enable # holds
+# the end
+"""
+MORE = """#config_version=6
+# all further switches
+
+# of the upper playfield
+switches:
+  # another
+  s_more:
+    number: 4
+    label: |
+      # in a text
+"""
+BASE = """#config_version=6
+# the base mode
+mode:
+  # when a ball starts
+  start_events: ball_started # yes
+  # code: x
+
+timers:
+  t: # ten seconds
+    end_value: 10
+    control_events:
+      # a hit
+      - event: s_a_active # a
+        action: add   # more
+        # seconds
+        value: 5
+        # inside
+      # below
+      - event: s_b_active
+        action: restart
+shot_profiles:
+  p:
+    states:
+      # the first
+      - name: unlit  # dark
+        show: off # is left out
+      - name: lit
+"""
+NEW_MACHINE = """#config_version=6
+# A machine of mine,
+# in two lines.
+
+# the modes
+modes:  # in this order
+  - base  # the first
+  - s_a_active_after_2000ms
+
+game:
+
+#--- the cabinet ---
+switches:  # all of them
+  # the start button
+  s_start:  # red
+    number: 1
+    tags: start
+  s_a:
+    # where it is
+    number: 2  # board 0
+    tags:  # two of them
+      - lane  # the lane
+      # on the playfield
+      - playfield_active
+    # type: NC
+  # s_gone:
+  #   number: 9
+  s_b:  # in the middle
+    number: 3
+    label: 'a # in quotes'  # a label
+  # all further switches
+  # of the upper playfield
+  # another
+  s_more:
+    number: 4
+    label: '# in a text'
+
+# in the first column
+coils:
+  c_a:
+    # measured
+    default_pulse_ms: 20  # not more
+  # holds the gate
+  c_hold:
+    number: 2
+    default_hold_power: 0.25
+
+shot_profiles:
+  # the bank
+  # config/config.yaml:51: drop targets
+  adopted_drop_target:
+    states:
+      - name: up
+      - name: down
+
+shots:
+  # the upper one
+  # reset_coil: strong
+  # config/config.yaml:51: a drop target
+  drop_target_one:
+    switch: s_a  # behind it
+    profile: adopted_drop_target
+    reset_events: ball_starting
+
+event_player:
+  # config/config.yaml:51: the event that MPF posts for one
+  drop_target_one_up_hit: drop_target_one_down
+  # a3|2s: late
+  s_a_active:  # some
+    - a1  # one
+    # two comes next
+    - a2
+  # config/config.yaml:55: a3 2s after s_a_active
+  timer_s_a_active_after_2000ms_complete: a3
+  # the second
+  s_b_active: b1, b2, b3
+
+coil_player:
+  # kicks
+  a1:
+    c_a:  # short
+      action: pulse
+      # in ms
+      pulse_ms: 8  # eight
+  # action: holds
+  a2:
+    c_hold: enable
+  # config/config.yaml:51: raises one
+  ball_starting:
+    c_a: pulse
+# the end
+"""
+NEW_BASE = """#config_version=6
+# the base mode
+
+mode:
+  # when a ball starts
+  start_events: ball_started  # yes
+  # code: x
+
+timers:
+  t:  # ten seconds
+    end_value: 10
+    control_events:
+      # a hit
+      - event: s_a_active  # a
+        action: add  # more
+        # seconds
+        value: 5
+        # inside
+      # below
+      - event: s_b_active
+        action: restart
+
+shot_profiles:
+  p:
+    states:
+      # the first
+      - name: unlit  # dark
+      - name: lit
+"""
+
+
+def adopted(machine: str, **others: str) -> run.Adopted:
+    """What comes of a folder with a text of the machine, and others: `more` is included, and `base` is a mode."""
+    with tempfile.TemporaryDirectory() as room:
+        folder = Path(room)
+        names = {"more": "config/more.yaml", "base": "modes/base/config/base.yaml"}
+        for name, text in {"config/config.yaml": machine, **{names[it]: text for it, text in others.items()}}.items():
+            (folder / name).parent.mkdir(parents=True, exist_ok=True)
+            (folder / name).write_bytes(text.encode())
+        return run.adopt(PROGRAM, folder)
+
+
+@test
+def comments_stay_with_what_they_belong_to() -> None:
+    for end in "\n", "\r\n":
+        files = adopted(MACHINE.replace("\n", end), more=MORE, base=BASE).files
+        assert files["config/config.yaml"] == NEW_MACHINE, files["config/config.yaml"]
+        assert files["modes/base/config/base.yaml"] == NEW_BASE, files["modes/base/config/base.yaml"]
+
+
+@test
+def a_comment_right_above_a_section_is_no_head() -> None:
+    text = adopted("#config_version=6\n\n# the coils\ncoils:\n  c_a: {number: 1}\n").files["config/config.yaml"]
+    assert text.endswith("\n\n# the coils\ncoils:\n  c_a:\n    number: 1\n"), text
+    text = adopted("#config_version=6\n\n# the lights\nlights:\n  l_1: {number: 1}\n").files["config/config.yaml"]
+    assert text == "#config_version=6\n", text
+
+
+@test
+def comments_that_are_too_long_take_no_rule_with_them() -> None:
+    comments = ("# " + "x" * 998 + "\n") * 1_030
+    made = adopted(f"#config_version=6\nconfig: more.yaml\nevent_player:\n{comments}  a: b\n",
+                   more=f"#config_version=6\nevent_player:\n{comments[: 20 * 1_001]}  c: d\n")
+    assert "  a: b\n  c: d\n" in made.files["config/config.yaml"]
+    assert [it.says for it in made.context.done if it.feature == "comments"] == ["left out: the texts are too long"]
