@@ -2,6 +2,7 @@
 import tempfile
 from pathlib import Path
 
+from help_tests.adopted import written
 from help_tests.common import PROGRAM, test
 from pinball_help.adopt import run
 
@@ -242,13 +243,10 @@ shot_profiles:
 
 def adopted(machine: str, **others: str) -> run.Adopted:
     """What comes of a folder with a text of the machine, and others: `more` is included, and `base` is a mode."""
+    names = {"more": "config/more.yaml", "base": "modes/base/config/base.yaml"}
     with tempfile.TemporaryDirectory() as room:
-        folder = Path(room)
-        names = {"more": "config/more.yaml", "base": "modes/base/config/base.yaml"}
-        for name, text in {"config/config.yaml": machine, **{names[it]: text for it, text in others.items()}}.items():
-            (folder / name).parent.mkdir(parents=True, exist_ok=True)
-            (folder / name).write_bytes(text.encode())
-        return run.adopt(PROGRAM, folder)
+        files = {"config/config.yaml": machine, **{names[it]: text for it, text in others.items()}}
+        return run.adopt(PROGRAM, written(files, Path(room)))
 
 
 @test

@@ -37,10 +37,9 @@ def single(ctx: Context, mode: str, section: Given) -> None:
     """`mode`, `machine` and `game`: the section is one entry."""
     out = settings_of(ctx, mode, section.key, section)
     for key, value in (out or {}).items():
-        try:
-            ctx.draft.put(mode, section.key, key, Written(value, [(section.at(key) or section).place]))
-        except Taken as why:
-            ctx.lose("entry twice", section.at(key) or section, str(why))
+        given = section.at(key) or section
+        with ctx.attempt(given):
+            ctx.draft.put(mode, section.key, key, Written(value, [given.place]))
     ctx.draft.section(mode, section.key)
 
 

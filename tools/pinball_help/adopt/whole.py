@@ -4,7 +4,7 @@ from typing import Callable
 from .. import profile, tables
 from . import balls, comments, players, playfield, settings, states, values
 from .context import Context
-from .draft import NoRoom, Taken, sections
+from .draft import sections
 from .features import FEATURES, LEFT_OUT
 from .source import Given, Part, Place, Source
 
@@ -55,9 +55,11 @@ def adopt(source: Source) -> Context:
 
 def prepare(ctx: Context) -> None:
     of_files(ctx)
+    ctx.draft.spare = int(any("|" in line for file in ctx.source.files for line in file.read))  # for delays
     for part in list(ctx.source.parts):
         if part.mode and (len(ctx.listed) == tables.MOST_MODES or part.mode == "machine"):
             ctx.source.parts.remove(part)
+            ctx.left_out.add(part.mode)
             for section in part.sections():
                 ctx.lose("too many" if part.mode != "machine" else "bad name", section, f"the mode `{part.mode}`")
         elif part.mode:
@@ -131,6 +133,8 @@ def listed(ctx: Context) -> None:
         given = Given(name, section.node, section.file, item.line, item.line + 1) if item else section
         if name in seen:
             ctx.lose("entry twice", given, f"the mode `{name[:60]}`")
+        elif name in ctx.left_out:
+            ctx.lose("too many", given, f"the mode `{name[:60]}`")
         elif name not in ctx.listed and name in OF_MPF:
             ctx.lose("modes of MPF", given, f"`{name}`", "unseen" if name in ("attract", "game", "service") else "lost")
         elif name not in ctx.listed:
@@ -157,10 +161,8 @@ def of_part(ctx: Context, part: Part) -> None:
         if section.key in seen and section.key in profile.sections():
             ctx.log("section twice", section.place, f"`{section.key}`")
         seen[section.key] = section.file.name
-        try:
+        with ctx.attempt(section):
             of_section(ctx, part.mode, section)
-        except (NoRoom, Taken) as why:
-            ctx.lose("too many" if isinstance(why, NoRoom) else "entry twice", section, str(why), "lost")
     if part.mode and "mode" not in seen:
         settings.of_section(ctx, part.mode, Given("mode", type(part.files[0].root)(0, entries=[]), part.files[0], 0, 1))
 
@@ -202,11 +204,8 @@ def one_by_one(ctx: Context, mode: str, section: Given) -> None:
     for entry in section.node.entries or []:
         alone = type(section.node)(section.node.line, section.node.start, section.node.end, "", [entry])
         given = Given(section.key, alone, section.file, section.line, section.last)
-        try:
+        with ctx.attempt(Given(entry.key, entry.value, section.file, entry.line, entry.last)):
             REWRITTEN[section.key](ctx, mode, given)
-        except (NoRoom, Taken) as why:
-            one = Given(entry.key, entry.value, section.file, entry.line, entry.last)
-            ctx.lose("too many" if isinstance(why, NoRoom) else "entry twice", one, str(why), "lost")
     if before == len(ctx.done) and not section.node.entries and section.key in FEATURES:
         ctx.log(section.key, section.place)
 
@@ -263,11 +262,7 @@ def finish(ctx: Context) -> None:
     settings.add_more(ctx)
     settings.lower_coils(ctx)
     for step in (playfield.banks, balls.launches, balls.holds, balls.shoot_again):
-        try:
-            step(ctx)
-        except (NoRoom, Taken) as why:
-            ctx.log("too many", ctx.source.parts[0].files and Given(
-                "", ctx.source.parts[0].files[0].root, ctx.source.parts[0].files[0], 0, 1).place, str(why))
+        step(ctx)
     balls.tilted(ctx)
     dual_wound(ctx)
     one_coil(ctx)
