@@ -130,10 +130,12 @@ def long_names_are_met_or_said() -> None:
             made = run.adopt(PROGRAM, written({"config/config.yaml": text}, Path(room)))
         assert made.answer.accepted and not driven_more(made), length
         said = {it.feature for it in made.context.done if it.effect == LOST}
-        assert said <= {"bad name", "sequence_shots", "ball_holds", "refused", "other conditions"}, (length, said)
+        assert said <= SAID_OF_NAMES, (length, said)
         assert length > 34 or not said, said
 
 
+SAID_OF_NAMES = {"bad name", "sequence_shots", "ball_holds", "refused", "other conditions",
+                 "events of what is left out"}
 LONG = """#config_version=6
 switches:
   s_start: {number: 1, tags: start}
