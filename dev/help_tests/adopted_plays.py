@@ -354,6 +354,10 @@ BALL_PLAYS = (
          {"tilt": "tilt: {warnings_to_tilt: 3}\n",
           "bonus": "mode: {start_events: ball_ending, stop_events: timer_b_complete, use_wait_queue: yes}\n"
                    "timers:\n  b: {end_value: 1, start_running: yes}\n"}),
+    Play("MPF's own tilt", "modes: [tilt]\n" + BALLS + MANUAL,
+         logged(IN_PLAY, press("s_bob", 6000, 7000, 8000), press("s_b", 8500)),
+         ("6000 event tilt_warning", "7000 event tilt_warning", "8000 event tilt"),
+         ("8500 coil c_flipper pulse 30 1000",), features=("tilt", "own mode of MPF")),
     Play("a slam tilt", BALLS + MANUAL, logged(IN_PLAY, press("s_slam", 6000), press("s_b", 7000)),
          ("6000 event slam_tilt", "6000 event tilt"), ("7000 coil c_flipper pulse 30 1000",),
          {"tilt": "tilt:\n  warnings_to_tilt: 3\n"}),

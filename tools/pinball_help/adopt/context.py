@@ -90,6 +90,7 @@ class Context:
     multiballs: list[tuple[str, int]] = field(default_factory=list)  # with the balls that each adds
     saves: list[tuple[str, str, Given, int]] = field(default_factory=list)  # ball saves of multiballs
     tilt_given: Given | None = None
+    own_tilt: Given | None = None  # MPF's own mode `tilt`, without a text
     dual: dict[str, tuple[str, str]] = field(default_factory=dict)  # coils of two windings
     main_coils: set[str] = field(default_factory=set)  # of flippers
     more: list["More"] = field(default_factory=list)  # events for shots and groups

@@ -418,6 +418,7 @@ def own_modes(ctx: Context, mode: str, entry: Given, out: Out) -> None:
         ctx.log("attract", entry.place)
     elif mode == "tilt" and "start_events" not in out:
         out["start_events"] = ["ball_started"]
+        ctx.log("own mode of MPF", entry.place, "`start_events: ball_started`", "rewritten")
     elif mode == "bonus" and "start_events" not in out:
         out["start_events"] = ["ball_ending"]
         ctx.log("own mode of MPF", entry.place)

@@ -2,6 +2,7 @@
 from typing import Callable
 
 from .. import profile, tables
+from ..outline import Node
 from . import balls, comments, players, playfield, settings, states, values
 from .context import Context
 from .draft import sections
@@ -72,12 +73,23 @@ def prepare(ctx: Context) -> None:
             modes = [it for it in part.sections() if it.key == "mode"]
             if not any(it.says("game_mode").lower() in values.NO for it in modes):
                 ctx.game_modes.add(part.mode)
-        for section in part.sections():
-            if section.key == "tilt" and section.is_mapping and balls.tilts(ctx, section):
-                ctx.tilt_events, ctx.tilt_given = ["tilt"], section
+    of_tilts(ctx)
     listed(ctx)
     for section in ctx.source.parts[0].sections():
         heads(ctx, section)
+
+
+def of_tilts(ctx: Context) -> None:
+    """Whether there is a tilt: by a section `tilt`, or by MPF's own mode without a text in the folder."""
+    tilts = [it for part in ctx.source.parts for it in part.sections() if it.key == "tilt"]
+    section = next((it for name, it in ctx.source.modes if name == "tilt" and it), None)
+    if section and not tilts and "tilt" not in ctx.listed:
+        line = next((it.line for it in section.node.texts() if it.text == "tilt"), section.line)
+        ctx.own_tilt = Given("tilt", Node(line, entries=[]), section.file, line, line + 1)
+        tilts = [ctx.own_tilt]
+    for it in tilts:
+        if it.is_mapping and balls.tilts(ctx, it):
+            ctx.tilt_events, ctx.tilt_given = ["tilt"], it
 
 
 def learn(ctx: Context, part: Part, section: Given, entry: Given) -> None:
@@ -134,7 +146,9 @@ def listed(ctx: Context) -> None:
         if name in seen:
             ctx.lose("entry twice", given, f"the mode `{name[:60]}`")
         elif name in ctx.left_out:
-            ctx.lose("too many", given, f"the mode `{name[:60]}`")
+            ctx.lose("too many" if name != "machine" else "bad name", given, f"the mode `{name[:60]}`")
+        elif name == "tilt" and ctx.own_tilt:
+            ctx.log("own mode of MPF", given.place, "it has no text, and does what MPF's own does", "rewritten")
         elif name not in ctx.listed and name in OF_MPF:
             ctx.lose("modes of MPF", given, f"`{name}`", "unseen" if name in ("attract", "game", "service") else "lost")
         elif name not in ctx.listed:
@@ -163,6 +177,9 @@ def of_part(ctx: Context, part: Part) -> None:
         seen[section.key] = section.file.name
         with ctx.attempt(section):
             of_section(ctx, part.mode, section)
+    if ctx.own_tilt and not part.mode:
+        with ctx.attempt(ctx.own_tilt):
+            balls.of_tilt(ctx, "", ctx.own_tilt)
     if part.mode and "mode" not in seen:
         settings.of_section(ctx, part.mode, Given("mode", type(part.files[0].root)(0, entries=[]), part.files[0], 0, 1))
 
