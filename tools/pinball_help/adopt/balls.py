@@ -18,17 +18,22 @@ SHOOT_AGAIN = 10_000  # milliseconds, in MPF, where it is not written
 def of_save(ctx: Context, mode: str, entry: Given, out: Out) -> None:
     grace = entry.at("grace_period")
     if grace:
-        active, more = ctx.time(str(out.get("active_time", "0"))), ctx.time(grace.text)
+        active, more = ctx.time(str(out.get("active_time", "0"))), time_of(ctx, entry, "grace_period", 0)
         if active and more:
             out["active_time"] = written(active + more)
-        for it in (grace, entry.at("active_time") or grace):
-            ctx.log("ball_saves.grace_period", it.place, f"`active_time: {out.get('active_time', 0)}`")
+            for it in (grace, entry.at("active_time") or grace):
+                ctx.log("ball_saves.grace_period", it.place, f"`active_time: {out['active_time']}`")
+        else:
+            ctx.log("ball_saves.grace_period", grace.place, "it changes nothing", "unseen")
     if start := entry.at("timer_start_events"):
         from_then(ctx, mode, entry, start, out)
     if launch := entry.at("auto_launch"):
         if launch.text.lower() in values.YES:
             ctx.auto_launch.append(entry.key)
-        ctx.log("ball_saves.auto_launch", launch.place)
+        if launch.text.lower() in values.YES + values.NO:
+            ctx.log("ball_saves.auto_launch", launch.place)
+        else:
+            ctx.lose("bad value", launch, f"`{launch.text[:60]}`")
     if ctx.tilt_events and out.get("enable_events"):
         here = out.setdefault("disable_events", [])
         assert isinstance(here, list)
@@ -70,17 +75,18 @@ def ball_count(ctx: Context, mode: str, entry: Given, given: Given, out: Out) ->
 
 
 def of_multiball(ctx: Context, mode: str, entry: Given, out: Out) -> None:
-    if kind := entry.at("ball_count_type"):
+    kind = entry.at("ball_count_type")
+    if kind and kind.text.lower() not in ("add", "total"):
+        ctx.lose("bad value", kind, f"`{kind.text[:60]}`")
+    elif kind:
         ctx.log("multiballs.ball_count_type", kind.place, f"`ball_count: {out.get('ball_count', '')}`")
-    again, grace = entry.at("shoot_again"), entry.at("grace_period")
-    time = ctx.time(again.text) if again else SHOOT_AGAIN
-    for it in (again, grace):
+    time, grace = time_of(ctx, entry, "shoot_again", SHOOT_AGAIN), time_of(ctx, entry, "grace_period", 0)
+    for it in (entry.at("shoot_again"), entry.at("grace_period")):
         if it:
             ctx.log("multiballs.shoot_again", it.place)
     if time:
         name = ctx.own(f"{entry.key}_shoot_again", 42)  # (so that its events are short enough)
-        time += (ctx.time(grace.text) or 0) if grace else 0
-        ctx.saves.append((mode, name, entry, time))
+        ctx.saves.append((mode, name, entry, time + grace))
     ctx.multiballs.append((entry.key, (ctx.number(str(out.get("ball_count", "2"))) or 2) - 1))
 
 

@@ -336,6 +336,7 @@ def drawn(ctx: Context, events: Given) -> list[str]:
             found.append(name)
             if given.key == text and given.text:
                 ctx.lose("random_event_player", given, f"the weight of `{name}`")
+            values.more_of(ctx, given)
     return found
 
 

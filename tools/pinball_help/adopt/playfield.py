@@ -220,9 +220,11 @@ def pulsed(ctx: Context, entry: Given, name: str, coil: str, starts: list[str], 
         return
     for event in starts:
         ctx.drive("", event, {coil: "pulse"}, entry, "activates it")
-    off = entry.says("deactivation_coil")
-    for event in stops if off else []:
-        ctx.drive("", event, {off: "pulse"}, entry, "deactivates it")
+    off = entry.at("deactivation_coil")
+    for event in stops if off and off.text else []:
+        ctx.drive("", event, {off.text: "pulse"}, entry, "deactivates it")
+    if off and not stops:
+        ctx.log("diverters", off.place, "nothing deactivates it", "unseen")
     if entry.at("activation_time"):
         ctx.lose("part of a rewrite", entry.at("activation_time") or entry, "`activation_time` of a pulsed diverter")
 

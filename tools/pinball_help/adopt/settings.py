@@ -247,6 +247,9 @@ def launch(ctx: Context, _mode: str, entry: Given, given: Given, out: Out) -> No
 
 def shot_switches(ctx: Context, mode: str, entry: Given, given: Given, out: Out) -> None:
     words = [it for it in given.words() if values.NAME.fullmatch(it)]
+    for it in given.words():
+        if it not in words:
+            ctx.lose("bad name", given, f"`{it[:60]}`")
     if given.key == "switch" and len(words) == 1:
         out["switch"] = words[0]
         ctx.keep(given)
@@ -266,6 +269,9 @@ def hit_events(ctx: Context, mode: str, entry: Given, given: Given, out: Out) ->
 
 
 def start_enabled(ctx: Context, mode: str, entry: Given, given: Given, out: Out) -> None:
+    if given.text.lower() not in values.YES + values.NO:
+        ctx.lose("bad value", given, f"`{given.text[:60]}`")
+        return
     starts = given.text.lower() in values.YES
     enables = entry.at("enable_events")
     if starts and enables:

@@ -75,8 +75,6 @@ def prepare(ctx: Context) -> None:
                 ctx.game_modes.add(part.mode)
     of_tilts(ctx)
     listed(ctx)
-    for section in ctx.source.parts[0].sections():
-        heads(ctx, section)
 
 
 def of_tilts(ctx: Context) -> None:
@@ -113,11 +111,6 @@ def learn(ctx: Context, part: Part, section: Given, entry: Given) -> None:
     elif section.key == "mpf" and entry.key == "default_pulse_ms":
         value = ctx.time(entry.text)
         ctx.pulse_ms = str(value) if value and value <= 5_000 else ""
-
-
-def heads(ctx: Context, section: Given) -> None:
-    if section.key == "config":
-        ctx.log("config", section.place, ", ".join(section.words()[:20]))
 
 
 def of_files(ctx: Context) -> None:
@@ -186,9 +179,13 @@ def of_part(ctx: Context, part: Part) -> None:
 
 def of_section(ctx: Context, mode: str, section: Given) -> None:
     key = section.key
-    if key in ("modes", "config"):
-        if mode or key == "modes" and section.is_mapping:
-            ctx.log("lists of events" if not mode else "bad value", section.place)
+    if key == "config" and not section.is_mapping:
+        ctx.log("config", section.place, ", ".join(section.words()[:20]))
+    elif key == "config" or key == "modes" and mode:
+        ctx.lose("bad value", section)
+    elif key == "modes":
+        if section.is_mapping:
+            ctx.log("other spelling", section.place, "a list of names")
         ctx.keep(section)
     elif key in OTHER:
         OTHER[key](ctx, mode, section)
@@ -221,7 +218,11 @@ def one_by_one(ctx: Context, mode: str, section: Given) -> None:
     for entry in section.node.entries or []:
         alone = type(section.node)(section.node.line, section.node.start, section.node.end, "", [entry])
         given = Given(section.key, alone, section.file, section.line, section.last)
-        with ctx.attempt(Given(entry.key, entry.value, section.file, entry.line, entry.last)):
+        one = given.inside()[0]
+        if section.key not in LAST and (one.text or one.is_list):
+            ctx.lose("bad value", one, f"`{one.text[:60]}` in place of settings")
+            continue
+        with ctx.attempt(one):
             REWRITTEN[section.key](ctx, mode, given)
     if before == len(ctx.done) and not section.node.entries and section.key in FEATURES:
         ctx.log(section.key, section.place)
