@@ -4,8 +4,9 @@ from dataclasses import dataclass, field
 
 @dataclass(frozen=True)
 class Play:
-    """`machine` and `modes` are sections as in MPF. `happens` are lines of the trace without OWNER, in this order;
-    `never` are not in it. `features` are rows of the table that have to be named in ADOPTED.md."""
+    """`machine` and `modes` are sections as in MPF, and `files` are further texts. `happens` are lines of the trace
+    without OWNER, in this order; `never` are not in it. `features` are rows of the table that have to be named in
+    ADOPTED.md."""
 
     name: str
     machine: str
@@ -14,6 +15,7 @@ class Play:
     never: tuple[str, ...] = ()
     modes: dict[str, str] = field(default_factory=dict)
     features: tuple[str, ...] = ()
+    files: dict[str, str] = field(default_factory=dict)
 
 
 GAME = """
@@ -56,6 +58,8 @@ FIRED = """
   bd_plunger: {ball_switches: s_plunger, eject_coil: c_plunger, player_controlled_eject_event: s_launch_active}
 """
 START = "100 s_start 1\n150 s_start 0\n"
+# a second ball of the game
+SECOND = "7000 s_trough 1\n8000 s_trough 0\n9000 s_plunger 1\n10000 s_plunger 0\n11000 s_a 1\n11050 s_a 0\n"
 # a ball comes into the trough, a game begins, and the ball comes to the plunger and onto the playfield
 IN_PLAY = ("0 s_trough 1\n1000 s_start 1\n1050 s_start 0\n2000 s_trough 0\n3000 s_plunger 1\n4000 s_plunger 0\n"
            "5000 s_a 1\n5050 s_a 0\n")
@@ -350,6 +354,10 @@ BALL_PLAYS = (
          {"tilt": "tilt: {warnings_to_tilt: 3}\n",
           "bonus": "mode: {start_events: ball_ending, stop_events: timer_b_complete, use_wait_queue: yes}\n"
                    "timers:\n  b: {end_value: 1, start_running: yes}\n"}),
+    Play("MPF's own tilt", "modes: [tilt]\n" + BALLS + MANUAL,
+         logged(IN_PLAY, press("s_bob", 6000, 7000, 8000), press("s_b", 8500)),
+         ("6000 event tilt_warning", "7000 event tilt_warning", "8000 event tilt"),
+         ("8500 coil c_flipper pulse 30 1000",), features=("tilt", "own mode of MPF")),
     Play("a slam tilt", BALLS + MANUAL, logged(IN_PLAY, press("s_slam", 6000), press("s_b", 7000)),
          ("6000 event slam_tilt", "6000 event tilt"), ("7000 coil c_flipper pulse 30 1000",),
          {"tilt": "tilt:\n  warnings_to_tilt: 3\n"}),
@@ -377,4 +385,120 @@ BALL_PLAYS = (
           "11000 event ball_save_two_shoot_again_disabled"),
          features=("multiballs.shoot_again", "multiballs.ball_count_type")),
 )
-PLAYS = (*DELAYS, *CONDITIONS, *LISTS, *COILS, *PLAYFIELD, *BALL_PLAYS)
+MODE = "mode: {start_events: s_a_active, stop_events: s_b_active, game_mode: no}\n"
+STATES = """state_machines:
+  quest:
+    states:
+      start: {events_when_started: at_start, events_when_stopped: leaves_start}
+      lit: {events_when_started: 'lit_now, lit_later|1s', events_when_stopped: leaves_lit}
+    transitions:
+      - {source: start, target: lit, events: s_c_active}
+      - {source: 'start, lit', target: start, events: s_d_active}
+"""
+MORE_PLAYS = (
+    Play("a delay in the second ball",
+         BALLS + MANUAL + "event_player:\n  ball_started: later|1s\n  s_b_active: soon|3s\n",
+         logged(IN_PLAY, press("s_b", 6000), SECOND, press("s_b", 12000), "16000"),
+         ("2000 event later", "7500 event ball_ended", "8500 event later", "9000 event soon", "15000 event soon")),
+    Play("a delay of a delayed event", GAME + "event_player:\n  s_a_active|1s: later\n  later: last|1s\n",
+         logged(press("s_a", 1000), "4000"), ("2000 event later", "3000 event last"), features=("a: b|2s",)),
+    Play("a state machine in a mode", GAME, logged(START, press("s_a", 1000), press("s_c", 2000), press("s_d", 3000),
+                                                   press("s_c", 4000), press("s_b", 5000), press("s_a", 6000), "7000"),
+         ("1000 event at_start", "2000 event leaves_start", "2000 event lit_now", "3000 event lit_later",
+          "3000 event leaves_lit", "3000 event at_start", "4000 event lit_now", "5000 event lit_later",
+          "6000 event at_start"), ("3000 event leaves_start",), {"m": MODE.replace("no", "yes") + STATES}),
+    Play("a state machine that goes on", GAME,
+         logged(START, press("s_a", 1000), press("s_c", 2000), press("s_b", 3000), press("s_a", 4000),
+                press("s_d", 5000)),
+         ("1000 event at_start", "2000 event lit_now", "5000 event leaves_lit"), ("4000 event at_start",),
+         {"m": MODE.replace("no", "yes") + STATES.replace("quest:\n", "quest:\n    persist_state: yes\n")}),
+    Play("the first state of the machine", GAME + STATES, logged(START, press("s_c", 1000)),
+         ("100 event at_start", "1000 event leaves_start", "1000 event lit_now")),
+    Play("two ball holds of one device", BALLS + MANUAL + "  bd_hole: {ball_switches: s_hole, eject_coil: c_hole}\n"
+         "ball_holds:\n  one: {hold_devices: bd_hole, enable_events: s_a_active, disable_events: s_b_active}\n"
+         "  two: {hold_devices: bd_hole, enable_events: s_b_active, disable_events: s_launch_active, "
+         "release_one_events: s_slam_active}\n",
+         logged(IN_PLAY, "6000 s_hole 1\n", press("s_slam", 8000), "8100 s_hole 0\n", press("s_b", 9000),
+                "10000 s_hole 1\n", press("s_slam", 12000), "12100 s_hole 0\n", press("s_launch", 13000),
+                "14000 s_hole 1\n16000"),
+         ("8000 coil c_hole pulse 12 1000", "12000 coil c_hole pulse 12 1000", "14500 coil c_hole pulse 12 1000"),
+         ("6500 coil c_hole pulse 12 1000", "10500 coil c_hole pulse 12 1000")),
+    Play("an extra ball with a condition",
+         BALLS + MANUAL + "extra_balls:\n  eb: {award_events: 's_b_active{current_player.x == 1}', max_per_game: 1}\n"
+         "variable_player:\n  s_launch_active: {x: 1}\n",
+         logged(IN_PLAY, press("s_b", 5500), press("s_launch", 6000), press("s_b", 6500, 7000)),
+         ("6500 event extra_ball_eb_awarded",),
+         ("5500 event extra_ball_eb_awarded", "7000 event extra_ball_eb_awarded")),
+    Play("a group of extra balls that awards one",
+         BALLS + MANUAL + "extra_ball_groups:\n  g: {award_events: s_b_active}\n",
+         logged(IN_PLAY, press("s_b", 6000)), ("6000 event extra_ball_g_awarded",)),
+    Play("warnings that are taken back", BALLS + MANUAL,
+         logged(IN_PLAY, press("s_bob", 6000), press("s_launch", 7000), press("s_bob", 8000, 9000)),
+         ("9000 event tilt",), ("8000 event tilt",),
+         {"tilt": "tilt: {warnings_to_tilt: 2, reset_warnings_events: s_launch_active}\n"}),
+    Play("drop targets of several coils", GAME + TARGETS.replace("two: {switch: s_b, reset_coil: c_a}",
+                                                                "two: {switch: s_b, reset_coil: c_hold}") +
+         "drop_target_banks:\n  bank: {drop_targets: 'one, two', reset_coils: c_a}\n", START,
+         ("100 coil c_a pulse 20 1000", "100 coil c_hold pulse 10 1000")),
+    Play("a drop target that the ball raises", GAME + "drop_targets:\n  one: {switch: s_a, reset_coil: c_a}\n", START,
+         ("100 coil c_a pulse 20 1000",)),
+    Play("a diverter of two coils",
+         GAME + "diverters:\n  d: {activation_coil: c_hold, deactivation_coil: c_a, activate_events: s_a_active, "
+         "deactivate_events: s_b_active}\n", logged(press("s_a", 1000), press("s_b", 2000)),
+         ("1000 coil c_hold enable 250", "2000 coil c_hold disable", "2000 coil c_a pulse 20 1000")),
+    Play("a diverter that ends with its mode", GAME, logged(press("s_a", 1000), press("s_c", 2000), press("s_b", 3000)),
+         ("2000 coil c_hold enable 250", "3000 coil c_hold disable"), (),
+         {"m": MODE + "diverters:\n  d: {activation_coil: c_hold, activate_events: s_c_active}\n"}),
+    Play("two buttons, and an event after a time",
+         GAME + "combo_switches:\n  c: {switches_1: s_a, switches_2: s_b, events_when_both: 'both, late|1s'}\n",
+         "1000 s_a 1\n1200 s_b 1\n4000 s_a 0\n4100 s_b 0\n", ("1200 event both", "2200 event late")),
+    Play("lists of coils", GAME + "coil_player:\n  s_a_active: [c_a, c_hold]\n  s_b_active:\n    - c_a\n"
+         "    - c_hold: {action: enable}\n  s_c_active: {c_a: 8ms}\n",
+         logged(press("s_a", 1000), press("s_b", 2000), press("s_c", 3000)),
+         ("1000 coil c_a pulse 20 1000", "1000 coil c_hold pulse 10 1000", "2000 coil c_a pulse 20 1000",
+          "2000 coil c_hold enable 250", "3000 coil c_a pulse 8 1000")),
+    Play("events of a list of mappings in turn", GAME + "random_event_player:\n  s_a_active:\n    scope: player\n"
+         "    events:\n      - one: 5\n      - two\n",
+         logged(START, press("s_a", 1000, 2000, 3000)), ("1000 event one", "2000 event two", "3000 event one")),
+    Play("files that are joined", "config: more.yaml\n" + GAME + "event_player:\n  s_a_active: one\n",
+         logged(press("s_a", 1000), press("s_b", 2000)), ("1000 event one", "2000 event two"),
+         features=("config", "section twice"), files={"config/more.yaml": "event_player:\n  s_b_active: two\n"}),
+    Play("a folder in capitals", "modes: [m]\n" + GAME, logged(press("s_a", 1000)), ("1000 event mode_m_started",),
+         features=("letter case",), files={"modes/M/Config/m.YAML": MODE}),
+    Play("other spellings",
+         GAME.replace("s_d: {number: 5, debounce: quick}", "s_d: {number: 5, debounce: no, type: nc}"),
+         logged("1000 s_d 1\n2000 s_d 0\n"), ("2000 event s_d_active",), features=("other spelling",)),
+    Play("a coil of two windings", GAME + "dual_wound_coils:\n  c_both: {main_coil: c_a, hold_coil: c_hold}\n"
+         "flippers:\n  f: {main_coil: c_both, activation_switch: s_a}\n", logged(START, press("s_a", 1000)),
+         ("1000 coil c_a pulse 20 1000", "1000 coil c_hold enable 250", "1020 coil c_hold disable"),
+         features=("dual_wound_coils",)),
+    Play("a coil that one flipper drives less", GAME + "flippers:\n  f: {main_coil: c_a, hold_coil: c_hold, "
+         "activation_switch: s_a, main_coil_overwrite: {pulse_ms: 8}, hold_coil_overwrite: {hold_power: 1}}\n",
+         logged(START, press("s_a", 1000)), ("1000 coil c_a pulse 8 1000", "1000 coil c_hold enable 125")),
+    Play("logic blocks", GAME + "logic_blocks:\n  counters:\n    n: {count_events: s_a_active, "
+         "count_complete_value: 2, player_variable: hits, count_interval: 2}\n", logged(START, press("s_a", 1000)),
+         ("1000 player 1 hits 2", "1000 event logicblock_n_complete"),
+         features=("logic_blocks", "counters.player_variable")),
+    Play("a ball that comes", BALLS + MANUAL + "event_player:\n  balldevice_bd_plunger_ball_entered: there\n", IN_PLAY,
+         ("3500 event there",), features=("renamed events",)),
+    Play("events of shots", GAME, logged(START, press("s_a", 1000, 1500), press("s_c", 2000), press("s_a", 2500),
+                                         press("s_d", 3000), press("s_a", 3500)),
+         ("1000 event x_unlit_hit", "1500 event x_lit_hit", "2500 event x_unlit_hit", "3500 event x_unlit_hit"), (),
+         {"m": "mode: {start_events: ball_started}\nshots:\n  x:\n    switch: s_a\n    restart_events: s_d_active\n"
+               "    control_events:\n      - {events: s_c_active, state: 0}\n"},
+         ("shots.restart_events", "shots.control_events")),
+    Play("events of a group", GAME, logged(START, press("s_a", 1000), press("s_c", 2000), press("s_a", 2500)),
+         ("2500 event x_hit",), ("1000 event x_hit",),
+         {"m": "mode: {start_events: ball_started}\nshots:\n  x: {switch: s_a}\n"
+               "shot_groups:\n  g: {shots: x, enable_events: s_c_active}\n"}, ("shot_groups.enable_events",)),
+    Play("another tag of the start button", GAME.replace("tags: start", "tags: begin") +
+         "game: {start_game_switch_tag: begin}\n", START, ("100 event game_started",),
+         features=("game.start_game_switch_tag",)),
+    Play("a machine without a section game", GAME, START, ("100 event game_started",), features=("no game",)),
+    Play("long names", GAME + TARGETS.replace("one", "o" * 58).replace("two", "t" * 58) +
+         f"drop_target_banks:\n  {'b' * 60}:\n    drop_targets: {'o' * 58}, {'t' * 58}\n    reset_coils: c_a\n"
+         f"    reset_on_complete: 1s\nkickbacks:\n  {'k' * 60}: {{coil: c_hold, switch: s_c}}\n",
+         logged(START, press("s_c", 500), press("s_a", 1000), press("s_b", 2000), "4000"),
+         ("500 coil c_hold pulse 10 1000", "3000 coil c_a pulse 20 1000"), features=("bad name",)),
+)
+PLAYS = (*DELAYS, *CONDITIONS, *LISTS, *COILS, *PLAYFIELD, *BALL_PLAYS, *MORE_PLAYS)

@@ -8,7 +8,6 @@ import tempfile
 import time
 import traceback
 from dataclasses import replace
-from functools import cache
 from pathlib import Path
 from typing import Callable, Iterator
 
@@ -16,36 +15,21 @@ if __name__ == "__main__":
     sys.dont_write_bytecode = True
     sys.path[:0] = [str(Path(__file__).resolve().parents[2] / it) for it in ("tools", "dev")]
 
+from help_tests.adopted import MACHINES, REWRITES, adopted, written
 from help_tests.adopted_draws import draw_folder
 from help_tests.adopted_plays import PLAYS, Play
 from help_tests.common import PROGRAM, TOP, takes_longer, test
 from help_tests.folders import damaged
+from help_tests.of_adopted_coils import driven_more
 from pinball_help import outline
 from pinball_help.adopt import report, run, whole
 from pinball_help.adopt.context import Context
 from pinball_help.adopt.features import EFFECTS, FEATURES, LOST, REWRITTEN, TABLE, UNSEEN, WEAKENED
-from pinball_help.adopt.settings import OLD_NAMES
-from pinball_help.adopt.source import Given, Source, read
-from pinball_help.powers import meant
-from pinball_help.values import milliseconds, thousandths
+from pinball_help.adopt.source import Source, read
 
-MACHINES = [TOP / "tools/pinball_help/machines" / it for it in ("tutorial", "modern", "em", "slips")]
-REWRITES = TOP / "dev/help_tests/rewrites"  # each section that is rewritten, with all of its settings
 DRAWN, DAMAGED = 40, 20  # folders that are tried with the other tests
 MOST_SECONDS = 5.0
 PLACE = re.compile(r"([\w./-]+\.yaml):(\d+)(?:-(\d+))?")
-
-
-@cache
-def adopted(folder: Path) -> run.Adopted:
-    return run.adopt(PROGRAM, folder)
-
-
-def written(files: dict[str, str], folder: Path) -> Path:
-    for name, text in files.items():
-        (folder / name).parent.mkdir(parents=True, exist_ok=True)
-        (folder / name).write_text(text)
-    return folder
 
 
 # the four machines
@@ -200,162 +184,14 @@ def each_feature_that_is_said_is_in_the_table() -> None:
             assert name in FEATURES, f"{source.name}: {name}"
 
 
-@test
-def a_change_of_a_builder_is_not_overwritten() -> None:
-    made = adopted(MACHINES[2])
-    with tempfile.TemporaryDirectory() as room:
-        new = Path(room) / "new"
-        assert run.write(made, new, force=False) == [] == run.write(made, new, force=False)
-        for name in "config/config.yaml", "modes/em_game/config/em_game.yaml", report.NAME:
-            text, before = new / name, (new / name).read_text()
-            text.write_text("# mine\n" + before)
-            differs = run.write(made, new, force=False)
-            assert differs[0] == f"--- {name} as it is" and "-# mine" in differs, differs
-            assert text.read_text().startswith("# mine\n")
-            assert run.write(made, new, force=True) == [] and text.read_text() == before
-        text.write_text(before + "mine\n")
-        (new / "config/config.yaml").unlink()
-        assert run.write(made, new, force=False) == ["--- config/config.yaml is gone, and adopt would write it again"]
-
-
-@test
-def a_folder_is_adopted_again_after_it_changed() -> None:
-    def make(machine: str, **modes: str) -> run.Adopted:
-        texts = {f"modes/{it}/config/{it}.yaml": f"#config_version=6\n{text}" for it, text in modes.items()}
-        text = f"#config_version=6\nmodes: {', '.join(modes)}\n{machine}"
-        return run.adopt(PROGRAM, written({"config/config.yaml": text, **texts}, folder))
-
-    with tempfile.TemporaryDirectory() as room:
-        folder, new = Path(room) / "mpf", Path(room) / "new"
-        assert run.write(make("event_player: {a: b}\n", base="event_player: {c: d}\n", old=""), new, False) == []
-        (new / "notes").write_text("mine")
-        second = make("event_player: {a: b2|1s}\n", base="event_player: {c: d2}\n", young="event_player: {e: f}\n")
-        assert run.write(second, new, False) == []
-        there = {str(it.relative_to(new)) for it in new.glob("**/*") if it.is_file()}
-        assert there == {*second.files, "notes"} and PROGRAM.check(new).accepted, there
-        (new / "modes/base/config/base.yaml").write_text("#config_version=6\nevent_player: {c: mine}\n")
-        third = make("event_player: {a: b3}\n", base="event_player: {c: d3}\n")
-        assert "-event_player: {c: mine}" in run.write(third, new, False)
-        assert "b3" not in (new / "config/config.yaml").read_text() and (new / "modes/young/config/young.yaml").exists()
-        assert run.write(third, new, True) == [] and PROGRAM.check(new).accepted
-        assert not (new / "modes/young/config/young.yaml").exists() and (new / "notes").read_text() == "mine"
-
-
-def refusal(function: Callable[[], object]) -> str:
-    try:
-        function()
-    except ValueError as error:
-        return str(error)
-    return ""
-
-
-@test
-def no_folder_of_somebody_else_is_changed() -> None:
-    made = adopted(MACHINES[2])
-    with tempfile.TemporaryDirectory() as name:
-        room = Path(name)
-        (room / "other").mkdir()
-        (room / "other/mine").write_text("x")
-        assert "not by adopt" in refusal(lambda: run.write(made, room / "other", force=True))
-        folder = written({"config/config.yaml": "#config_version=6\nevent_player: {a: b|1s}\n"}, room / "mpf")
-        mine = run.adopt(PROGRAM, folder)
-        assert run.write(mine, room / "new", force=False) == []
-        (room / "new/config/config.yaml").unlink()
-        (room / "new/config").rmdir()
-        (room / "new/config").symlink_to(room / "mpf/config")
-        assert "in the MPF folder, by a link" in refusal(lambda: run.write(mine, room / "new", force=True))
-        assert (folder / "config/config.yaml").read_text().endswith("{a: b|1s}\n")
-
-
-@test
-def what_is_left_out_is_printed() -> None:
-    made = adopted(MACHINES[0])
-    said = run.shown(made, Path("new"))
-    for it in made.context.done:
-        if it.effect in (LOST, WEAKENED, UNSEEN):
-            assert any(report.shown(it) in line for line in said), it
-    assert said[0] == "Lost. These rules are gone, or never run." and said[-1].startswith("new/ADOPTED.md "), said
-
-
-@test
-def no_coil_is_driven_more_than_the_source_says() -> None:
-    for folder in (*MACHINES, REWRITES):
-        assert not (said := driven_more(adopted(folder))), f"{folder.name}: {said}"
-
-
-def driven_more(made: run.Adopted) -> str:
-    """A coil of the new folder that gets more than the MPF folder can have meant, or nothing."""
-    given: dict[str, list[Given]] = {}
-    for part in made.context.source.parts:
-        for section in part.sections():
-            for it in section.inside() if section.key == "coils" else ():
-                given.setdefault(it.key, []).append(it)
-    coils = made.context.draft.texts[""].get("coils", {})
-    for name, written_coil in coils.items():
-        assert isinstance(written_coil.value, dict)
-        here, most = driven(written_coil.value), most_of(given[name], made.context.pulse_ms)
-        if wrong := [it for it in here if here[it] > most[it]]:
-            return f"`{wrong[0]}` of {name} is {here[wrong[0]]}, and not {most[wrong[0]]}"
-    for sections in made.context.draft.texts.values():
-        for event, entry in sections.get("coil_player", {}).items():
-            for name, what in entry.value.items() if isinstance(entry.value, dict) else ():
-                coil = driven(coils[name].value)  # type: ignore[arg-type]
-                pulse, power = ((milliseconds, thousandths)[at](what.get(key, "0")) if isinstance(what, dict) else 0
-                                for at, key in enumerate(("pulse_ms", "pulse_power")))
-                if (pulse or 0) > coil["max_pulse_ms"] or (power or 0) > coil["max_pulse_power"]:
-                    return f"{name} gets {what} at {event}"
-    return ""
-
-
-def driven(coil: dict) -> dict[str, int]:
-    """What a coil of the new folder may get, in milliseconds and thousandths, by the defaults of docs/profile.md."""
-    pulse = milliseconds(coil.get("default_pulse_ms", "10")) or 0
-    may_hold = coil.get("allow_enable", "no").lower() in ("yes", "true", "on")
-    held = thousandths(coil.get("default_hold_power", "0")) or 0
-    most = thousandths(coil["max_hold_power"]) if "max_hold_power" in coil else 1_000 if may_hold else held
-    return {
-        "default_pulse_ms": pulse, "max_pulse_ms": milliseconds(coil.get("max_pulse_ms", str(pulse))) or 0,
-        "default_pulse_power": thousandths(coil.get("default_pulse_power", "1")) or 0,
-        "max_pulse_power": thousandths(coil.get("max_pulse_power", "1")) or 0,
-        "default_hold_power": held if "default_hold_power" in coil else (most or 0) if may_hold else 0,
-        "max_hold_power": (most or 0) if may_hold or held else 0,
-    }
-
-
-def most_of(given: list[Given], default: str) -> dict[str, int]:
-    """The most that a coil may get by what is written of it: of each setting the lowest of its values."""
-    found: dict[str, list[int]] = {}
-    for it in (setting for coil in given for setting in coil.inside()):
-        key = OLD_NAMES.get(("coils", it.key), it.key)
-        texts = it.words() if it.is_list or "," in it.text else [it.text]
-        if key.endswith("_ms"):
-            numbers = [n * 1_000 if re.fullmatch(r"[\d.]+ ?s\w*", text) else n for text in texts
-                       for n in map(float, re.findall(r"\d+\.?\d*", text)[:1])]
-            found.setdefault(key, []).extend(max(1, int(it)) for it in numbers)
-        elif key.endswith("_power"):
-            found.setdefault(key, []).extend(thousandths(meant(it.key, text)[0]) or 0 for text in texts or [""])
-        elif key == "allow_enable":
-            found.setdefault(key, []).append(it.text.lower() in ("yes", "true", "on", "1", "y"))
-    pulse = min([*found.get("default_pulse_ms", [max(10, int(default or 10))]), 5_000])
-    held = min(found.get("default_hold_power", [1_000 if min(found.get("allow_enable", [0])) else 0]))
-    most = min(found.get("max_hold_power", [1_000 if min(found.get("allow_enable", [0])) else held]))
-    timed = any(it.at(key) for it in given for key in ("max_hold_duration", "default_timed_enable_ms"))
-    return {
-        "default_pulse_ms": pulse, "max_pulse_ms": max([pulse, *found.get("max_pulse_ms", [])]),
-        "default_pulse_power": min(found.get("default_pulse_power", [1_000])),
-        "max_pulse_power": min(found.get("max_pulse_power", [1_000])),
-        "default_hold_power": 0 if timed else min(held, most), "max_hold_power": 0 if timed else max(most, held),
-    }
-
-
 # what is rewritten does what it should
 
 
 def machine_of(play: Play, folder: Path) -> Path:
     modes = "modes:\n" + "".join(f"  - {it}\n" for it in play.modes) if play.modes else ""
     files = {"config/config.yaml": f"#config_version=6\n{modes}{play.machine}"}
-    files |= {f"modes/{it}/config/{it}.yaml": f"#config_version=6\n{text}" for it, text in play.modes.items()}
-    return written(files, folder)
+    texts = {f"modes/{it}/config/{it}.yaml": text for it, text in play.modes.items()} | play.files
+    return written(files | {name: f"#config_version=6\n{text}" for name, text in texts.items()}, folder)
 
 
 def fails(play: Play) -> str:
@@ -383,6 +219,13 @@ def fails(play: Play) -> str:
 def each_rewritten_rule_is_played() -> None:
     for play in PLAYS:
         assert not (said := fails(play)), said
+
+
+@test
+def each_feature_that_is_rewritten_is_played() -> None:
+    played = {name for play in PLAYS for name in play.features}
+    missing = [it.title for it in TABLE if it.effect == REWRITTEN and not played & {*it.names}]
+    assert not missing, missing
 
 
 # any folder

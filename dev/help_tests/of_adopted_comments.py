@@ -2,6 +2,7 @@
 import tempfile
 from pathlib import Path
 
+from help_tests.adopted import written
 from help_tests.common import PROGRAM, test
 from pinball_help.adopt import run
 
@@ -38,6 +39,7 @@ switches: # all of them
     number: 3
     # above what is left out
     ignore_window_ms: 200ms  # it bounces
+    tags: tilt_warning
     label: "a # in quotes"  # a label
 # in the first column
 coils:
@@ -58,6 +60,9 @@ drop_targets:
   one:
     switch: s_a  # behind it
     reset_coil: c_a  # strong
+tilt: # hard
+  # how often
+  warnings_to_tilt: 2 # be kind
 event_player:
   s_a_active: # some
     - a1 # one
@@ -146,6 +151,7 @@ switches:  # all of them
   #   number: 9
   s_b:  # in the middle
     number: 3
+    tags: tilt_warning
     label: 'a # in quotes'  # a label
   # all further switches
   # of the upper playfield
@@ -166,7 +172,7 @@ coils:
 
 shot_profiles:
   # the bank
-  # config/config.yaml:51: drop targets
+  # config/config.yaml:52: drop targets
   adopted_drop_target:
     states:
       - name: up
@@ -175,24 +181,36 @@ shot_profiles:
 shots:
   # the upper one
   # reset_coil: strong
-  # config/config.yaml:51: a drop target
+  # config/config.yaml:52: a drop target
   drop_target_one:
     switch: s_a  # behind it
     profile: adopted_drop_target
     reset_events: ball_starting
 
 event_player:
-  # config/config.yaml:51: the event that MPF posts for one
+  # config/config.yaml:52: the event that MPF posts for one
   drop_target_one_up_hit: drop_target_one_down
   # a3|2s: late
   s_a_active:  # some
     - a1  # one
     # two comes next
     - a2
-  # config/config.yaml:55: a3 2s after s_a_active
+  # config/config.yaml:59: a3 2s after s_a_active
   timer_s_a_active_after_2000ms_complete: a3
   # the second
   s_b_active: b1, b2, b3
+
+counters:
+  # warnings_to_tilt: how often
+  # warnings_to_tilt: be kind
+  # config/config.yaml:55: counts the warnings of a ball
+  tilt_warnings:  # hard
+    count_events: sw_tilt_warning
+    multiple_hit_window: 300ms
+    count_complete_value: 2
+    events_when_hit: tilt_warning
+    events_when_complete: tilt
+    restart_events: ball_started
 
 coil_player:
   # kicks
@@ -204,7 +222,7 @@ coil_player:
   # action: holds
   a2:
     c_hold: enable
-  # config/config.yaml:51: raises one
+  # config/config.yaml:52: raises one
   ball_starting:
     c_a: pulse
 # the end
@@ -242,13 +260,10 @@ shot_profiles:
 
 def adopted(machine: str, **others: str) -> run.Adopted:
     """What comes of a folder with a text of the machine, and others: `more` is included, and `base` is a mode."""
+    names = {"more": "config/more.yaml", "base": "modes/base/config/base.yaml"}
     with tempfile.TemporaryDirectory() as room:
-        folder = Path(room)
-        names = {"more": "config/more.yaml", "base": "modes/base/config/base.yaml"}
-        for name, text in {"config/config.yaml": machine, **{names[it]: text for it, text in others.items()}}.items():
-            (folder / name).parent.mkdir(parents=True, exist_ok=True)
-            (folder / name).write_bytes(text.encode())
-        return run.adopt(PROGRAM, folder)
+        files = {"config/config.yaml": machine, **{names[it]: text for it, text in others.items()}}
+        return run.adopt(PROGRAM, written(files, Path(room)))
 
 
 @test

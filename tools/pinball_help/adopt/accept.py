@@ -108,8 +108,8 @@ def leave_out(ctx: Context, scene: Scenery, text: str, entry: Entry, complaint: 
 
 def may_drive_more(ctx: Context, section: str, setting: str, value: dict) -> bool:
     """Whether a coil may get more power, or for longer, if one setting alone is left out."""
-    held = section == "flippers" and setting == "hold_coil" and ctx.may_hold(str(value.get("main_coil")))
-    return section == "coils" and setting in DRIVES or held
+    held = setting == "hold_coil" and ctx.may_hold(str(value.get("main_coil")))
+    return section == "coils" and setting in DRIVES or section in FIRED and (held or setting == "disable_events")
 
 
 def drop_name(ctx: Context, inside: dict[str, Written], key: str, written: Written, complaint: Complaint) -> bool:
@@ -139,6 +139,7 @@ def drop_inner(ctx: Context, inside: dict[str, Written], key: str, inner: str, c
 
 DRIVES = ("default_pulse_ms", "max_pulse_ms", "default_pulse_power", "max_pulse_power", "default_hold_power",
           "max_hold_power", "allow_enable")
+FIRED = ("flippers", "autofire_coils")
 REQUIRED = ("main_coil", "activation_switch", "coil", "switch", "ball_switches", "shots", "events", "states",
             "count_events",
             "ball_count")

@@ -2,7 +2,7 @@
 from . import values
 from .context import Context
 from .delays import written
-from .draft import NoRoom, Taken, Value, Written, sections
+from .draft import Value, Written, sections
 from .playfield import NO_CALL, events_of, rest, time_of
 from .source import Given
 
@@ -18,17 +18,22 @@ SHOOT_AGAIN = 10_000  # milliseconds, in MPF, where it is not written
 def of_save(ctx: Context, mode: str, entry: Given, out: Out) -> None:
     grace = entry.at("grace_period")
     if grace:
-        active, more = ctx.time(str(out.get("active_time", "0"))), ctx.time(grace.text)
+        active, more = ctx.time(str(out.get("active_time", "0"))), time_of(ctx, entry, "grace_period", 0)
         if active and more:
             out["active_time"] = written(active + more)
-        for it in (grace, entry.at("active_time") or grace):
-            ctx.log("ball_saves.grace_period", it.place, f"`active_time: {out.get('active_time', 0)}`")
+            for it in (grace, entry.at("active_time") or grace):
+                ctx.log("ball_saves.grace_period", it.place, f"`active_time: {out['active_time']}`")
+        else:
+            ctx.log("ball_saves.grace_period", grace.place, "it changes nothing", "unseen")
     if start := entry.at("timer_start_events"):
         from_then(ctx, mode, entry, start, out)
     if launch := entry.at("auto_launch"):
         if launch.text.lower() in values.YES:
             ctx.auto_launch.append(entry.key)
-        ctx.log("ball_saves.auto_launch", launch.place)
+        if launch.text.lower() in values.YES + values.NO:
+            ctx.log("ball_saves.auto_launch", launch.place)
+        else:
+            ctx.lose("bad value", launch, f"`{launch.text[:60]}`")
     if ctx.tilt_events and out.get("enable_events"):
         here = out.setdefault("disable_events", [])
         assert isinstance(here, list)
@@ -70,17 +75,18 @@ def ball_count(ctx: Context, mode: str, entry: Given, given: Given, out: Out) ->
 
 
 def of_multiball(ctx: Context, mode: str, entry: Given, out: Out) -> None:
-    if kind := entry.at("ball_count_type"):
+    kind = entry.at("ball_count_type")
+    if kind and kind.text.lower() not in ("add", "total"):
+        ctx.lose("bad value", kind, f"`{kind.text[:60]}`")
+    elif kind:
         ctx.log("multiballs.ball_count_type", kind.place, f"`ball_count: {out.get('ball_count', '')}`")
-    again, grace = entry.at("shoot_again"), entry.at("grace_period")
-    time = ctx.time(again.text) if again else SHOOT_AGAIN
-    for it in (again, grace):
+    time, grace = time_of(ctx, entry, "shoot_again", SHOOT_AGAIN), time_of(ctx, entry, "grace_period", 0)
+    for it in (entry.at("shoot_again"), entry.at("grace_period")):
         if it:
             ctx.log("multiballs.shoot_again", it.place)
     if time:
-        name = ctx.own(f"{entry.key}_shoot_again", 50)
-        time += (ctx.time(grace.text) or 0) if grace else 0
-        ctx.saves.append((mode, name, entry, time))
+        name = ctx.own(f"{entry.key}_shoot_again", 42)  # (so that its events are short enough)
+        ctx.saves.append((mode, name, entry, time + grace))
     ctx.multiballs.append((entry.key, (ctx.number(str(out.get("ball_count", "2"))) or 2) - 1))
 
 
@@ -107,12 +113,22 @@ def launches(ctx: Context) -> None:
         if not isinstance(coil, str) or "trough" in device.get("tags", []):
             ctx.lose("ball_devices.player_controlled_eject_event", given, "it has no coil, or is a trough", "lost")
             continue
-        by_hand(ctx, written_device, "ball_devices.player_controlled_eject_event")
-        written_device.says.append(f"the player fires `{coil}`, so the device does not")
-        for event in values.events(ctx, "", "ball_devices", NO_CALL, given, given):
-            ctx.drive("", event, {coil: "pulse"}, given, f"launches a ball from {name}")
-        if ctx.auto_launch or ctx.multiballs:
-            auto_launch(ctx, name, coil, given)
+        with ctx.attempt(given):
+            launch(ctx, name, written_device, coil, given)
+
+
+def launch(ctx: Context, name: str, written_device: Written, coil: str, given: Given) -> None:
+    events = values.events(ctx, "", "ball_devices", NO_CALL, given, given)
+    if not events:
+        says = "no event fires it: the device ejects by itself"
+        ctx.log("ball_devices.player_controlled_eject_event", given.place, says, "weakened")
+        return
+    for event in events:
+        ctx.drive("", event, {coil: "pulse"}, given, f"launches a ball from {name}")
+    by_hand(ctx, written_device, "ball_devices.player_controlled_eject_event")
+    written_device.says.append(f"the player fires `{coil}`, so the device does not")
+    if ctx.auto_launch or ctx.multiballs:
+        auto_launch(ctx, name, coil, given)
 
 
 def by_hand(ctx: Context, written_device: Written, feature: str) -> None:
@@ -146,52 +162,79 @@ def of_holds(ctx: Context, mode: str, section: Given) -> None:
 
 def holds(ctx: Context) -> None:
     """Writes the ball holds, once all ball devices are known."""
+    devices: dict[str, list[tuple[str, Given]]] = {}
     for mode, entry in ctx.holds:
-        found = False
-        for name in entry.names("hold_devices"):
-            written_device = ctx.draft.section("", "ball_devices").get(name)
-            device = written_device.value if written_device else None
-            coil = device.get("eject_coil") if isinstance(device, dict) else None
-            if isinstance(device, dict) and isinstance(coil, str) and "trough" not in device.get("tags", []):
-                assert written_device
-                by_hand(ctx, written_device, "ball_holds")
-                written_device.says.append(f"it holds its balls for {entry.key}: {entry.place}")
-                hold(ctx, mode, entry, name, coil)
-                found = True
-            else:
-                given = entry.at("hold_devices") or entry
-                ctx.lose("ball_holds", given, f"`{name[:60]}` is no device with a coil", "lost")
-        if found:
+        names = entry.names("hold_devices")
+        here = [it for it in names if coil_of(ctx, it)]
+        for name in here:
+            devices.setdefault(name, []).append((mode, entry))
+        for name in [it for it in names if it not in here]:
+            given = entry.at("hold_devices") or entry
+            ctx.lose("ball_holds", given, f"`{name[:60]}` is no device with a coil", "lost")
+        if here:
             rest(ctx, "ball_holds", entry, "hold_devices", "balls_to_hold", "enable_events", "disable_events",
                  "release_one_events", "release_all_events", "release_one_if_full_events")
         else:
             ctx.lose("ball_holds", entry, "no such ball device with a coil")
+    for name, some in devices.items():
+        with ctx.attempt(some[0][1]):
+            held(ctx, name, some)
 
 
-def hold(ctx: Context, mode: str, entry: Given, name: str, coil: str) -> None:
+def coil_of(ctx: Context, device: str) -> str:
+    """The coil of a ball device that may hold its balls; none if its name is too long for its events."""
+    if not values.NAME.fullmatch(f"balldevice_{device}_ball_enter"):
+        return ""
+    written_device = ctx.draft.section("", "ball_devices").get(device)
+    value = written_device.value if written_device else None
+    coil = value.get("eject_coil") if isinstance(value, dict) and "trough" not in value.get("tags", []) else None
+    return coil if isinstance(coil, str) else ""
+
+
+def held(ctx: Context, name: str, some: list[tuple[str, Given]]) -> None:
+    """A ball device that holds its balls as long as one of some ball holds is enabled."""
+    first, enters = some[0][1], f"balldevice_{name}_ball_enter"
+    go = ctx.own(f"ball_hold_{name}_lets_go", 50)
+    ctx.drive("", go, {coil_of(ctx, name): "pulse"}, first, f"lets a ball of {name} go")
+    not_held = enters
+    for mode, entry in some:
+        not_held = hold(ctx, mode, entry, name, go, not_held)
+        if some[1:] and mode:
+            ctx.log("part of a rewrite", entry.place, f"the end of `{mode}` lets a ball go that another one holds")
+    if not_held:
+        ctx.post("", not_held, [go], first, "while no hold is enabled, a ball goes at once")
+    written_device = ctx.draft.section("", "ball_devices")[name]
+    by_hand(ctx, written_device, "ball_holds")
+    written_device.says.append(f"it holds its balls for {', '.join(f'{it.key}: {it.place}' for _, it in some)}")
+
+
+def hold(ctx: Context, mode: str, entry: Given, name: str, go: str, enters: str) -> str:
+    """The event that comes with a ball as long as neither this hold is enabled nor one before it."""
     most = entry.at("balls_to_hold")
     device = ctx.draft.section("", "ball_devices")[name].value
     if most and isinstance(device, dict) and ctx.number(most.text) != len(device.get("ball_switches", [])):
         ctx.log("part of a rewrite", most.place, f"it holds all balls in {name}")
-    go = ctx.own(f"ball_hold_{entry.key}_{name}_lets_go", 50)
-    ctx.drive("", go, {coil: "pulse"}, entry, f"lets a ball of {name} go")
     for event in events_of(ctx, mode, entry, "release_one_events", "release_all_events", "release_one_if_full_events"):
         ctx.post(mode, event, [go], entry, f"lets a ball of {name} go")
     enables, disables = events_of(ctx, mode, entry, "enable_events"), events_of(ctx, mode, entry, "disable_events")
     if mode:
         enables = enables or [f"mode_{mode}_started"]
-        disables = [*disables, f"mode_{mode}_stopping"]
+        disables = [*disables, *ctx.end_of(mode)]
         ctx.post(mode, f"mode_{mode}_stopping", [go], entry, "the mode ends, and with it the hold")
     enables = ctx.relay(mode, enables, f"ball_hold_{entry.key}_enable", entry)
     disables = ctx.relay(mode, disables, f"ball_hold_{entry.key}_disable", entry)
-    if enables:
-        ctx.put("", "counters", ctx.own(f"ball_hold_{entry.key}_{name}_off", 50), {
-            "count_events": [f"balldevice_{name}_ball_enter"], "disable_events": enables,
-            **({"restart_events": disables} if disables else {}), "events_when_hit": [go],
-        }, entry, "while the hold is not enabled, a ball goes at once")
-    held = f"ball_hold_{entry.key}_held_ball"
-    if held in ctx.taken_names:
-        ctx.post("", f"balldevice_{name}_ball_enter", [held], entry, "the event of MPF, also while it is not enabled")
+    held_ball = f"ball_hold_{entry.key}_held_ball"
+    if held_ball in ctx.taken_names:
+        says = "the event of MPF, also while it is not enabled"
+        ctx.post("", f"balldevice_{name}_ball_enter", [held_ball], entry, says)
+    if not enables or not enters:
+        return ""
+    passes = ctx.own(f"ball_hold_{entry.key}_{name}_is_off", 50)
+    ctx.put("", "counters", passes, {
+        "count_events": [enters], "disable_events": enables,
+        **({"restart_events": disables} if disables else {}), "events_when_hit": [passes],
+    }, entry, "counts while the hold is not enabled")
+    return passes
 
 
 # extra balls
@@ -199,9 +242,6 @@ def hold(ctx: Context, mode: str, entry: Given, name: str, coil: str) -> None:
 
 def of_extra(ctx: Context, mode: str, section: Given) -> None:
     for entry in section.inside():
-        if not values.NAME.fullmatch(f"extra_ball_{entry.key}_awarded"):
-            ctx.lose("extra_balls", entry)
-            continue
         group = entry.says("group")
         awards = events_of(ctx, mode, entry, "award_events")
         lights = events_of(ctx, mode, entry, "light_events", "lit_events")
@@ -209,7 +249,7 @@ def of_extra(ctx: Context, mode: str, section: Given) -> None:
         if (given := entry.at("group")) and (awards or not lights):
             says = "what is awarded at once does not count for the group" if awards else "no event lights one"
             ctx.log("part of a rewrite", given.place, says, "" if awards else "unseen")
-        lit = f"extra_ball_{group or entry.key}_lit"
+        lit = ctx.variable(f"extra_ball_{group or entry.key}_lit")
         for event in lights:
             ctx.change(mode, event, {lit: "1"}, entry, "an extra ball is lit")
         if lights and group not in ctx.groups:
@@ -220,10 +260,7 @@ def of_extra(ctx: Context, mode: str, section: Given) -> None:
 
 def of_extra_groups(ctx: Context, mode: str, section: Given) -> None:
     for entry in section.inside():
-        if not values.NAME.fullmatch(f"extra_ball_{entry.key}_awarded"):
-            ctx.lose("extra_ball_groups", entry)
-            continue
-        lit = f"extra_ball_{entry.key}_lit"
+        lit = ctx.variable(f"extra_ball_{entry.key}_lit")
         for event in events_of(ctx, mode, entry, "light_events"):
             ctx.change(mode, event, {lit: "1"}, entry, "an extra ball is lit")
         taken = ctx.own(f"extra_ball_{entry.key}_taken")
@@ -241,7 +278,7 @@ def of_extra_groups(ctx: Context, mode: str, section: Given) -> None:
 
 def award(ctx: Context, mode: str, entry: Given, name: str, awards: list[str]) -> None:
     """A ball save without a time, in a mode after all others: so any other ball save comes first."""
-    awarded, count = f"extra_ball_{name}_awarded", f"extra_ball_{name}_count"
+    awarded, count = ctx.fit(f"extra_ball_{name}_awarded"), ctx.variable(f"extra_ball_{name}_count")
     given = entry.at("max_per_game")
     if not awards:
         if given:
@@ -259,11 +296,8 @@ def award(ctx: Context, mode: str, entry: Given, name: str, awards: list[str]) -
                                             Written("",
                                                     says=["extra balls: this mode is the last, so other ball saves "
                                                           "come first"]))
-    try:
-        ctx.put(ctx.names[EXTRA], "ball_saves", ctx.own(f"extra_ball_{name}", 50), {"enable_events": [awarded]}, entry,
-                "it saves the next ball that nothing else saves")
-    except (Taken, NoRoom) as why:
-        ctx.lose("extra_balls", entry, str(why))
+    ctx.put(ctx.names[EXTRA], "ball_saves", ctx.own(f"extra_ball_{name}", 50), {"enable_events": [awarded]}, entry,
+            "it saves the next ball that nothing else saves")
 
 
 def limited(ctx: Context, mode: str, entry: Given, event: str, comparison: str) -> str:

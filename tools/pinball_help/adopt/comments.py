@@ -5,7 +5,7 @@ from dataclasses import dataclass, field
 
 from ..outline import Entry, Node, indentation, without_comment
 from .context import Context
-from .draft import Note, Path, Value, Written
+from .draft import SINGLE, Note, Path, Value, Written
 from .features import REWRITTEN
 from .settings import MACHINE_ONLY, OLD_NAMES
 from .source import File, Part
@@ -172,8 +172,7 @@ class Keeper:
     def of_section(self, mode: str, file: File, section: Entry, note: Note) -> None:
         """A section that is rewritten has its comments above the first entry that comes of it, and so has one that is
         there already."""
-        lines = range(section.line + 1, section.last + 1)
-        inside = [it for line in lines for it in self.homes.get((file.name, line), ())]
+        inside = self.inside(file, section)
         own = [it for it in inside if (it.mode, it.section) == (mode, section.key)]
         is_there = section.key in self.ctx.draft.texts.get(mode, {}) and (own or not section.value.entries)
         if is_there and self.taken.setdefault((mode, section.key), file) is file:
@@ -190,8 +189,16 @@ class Keeper:
         elsewhere = self.homes.get((file.name, steps[-1].line + 1))
         if elsewhere and len(steps) > 1:
             elsewhere[0].written.notes.setdefault((), Note()).add(note)
-        elif written and (file.name, steps[-1].line + 1) not in self.left_out:
-            written.notes.setdefault((), Note()).above += about(steps[-1], note)
+        elif not any((file.name, it.line + 1) in self.left_out for it in steps):
+            homes = self.inside(file, section)
+            written = written or (self.best(homes, mode, section.key, "") if homes else None)
+            if written:
+                written.notes.setdefault((), Note()).above += about(steps[-1], note)
+
+    def inside(self, file: File, section: Entry) -> list[Home]:
+        """All that comes of a section."""
+        lines = range(section.line + 1, section.last + 1)
+        return [it for line in lines for it in self.homes.get((file.name, line), ())]
 
     def written(self, mode: str, section: str, file: File, step: Step) -> Written | None:
         """The entry that comes of one of the MPF folder."""
@@ -201,8 +208,9 @@ class Keeper:
     def best(self, homes: list[Home], mode: str, section: str, key: str) -> Written:
         """Of several entries one of the same section, or the first that has the key in its name."""
 
-        def rank(home: Home) -> tuple[bool, bool]:
-            return (home.mode, home.section) != (mode, section), key not in home.key
+        def rank(home: Home) -> tuple[bool, bool, bool]:
+            is_same = (home.mode, home.section) == (mode, section)
+            return not is_same, home.section in SINGLE, key not in home.key
 
         return min(homes, key=rank).written
 

@@ -1,16 +1,19 @@
 """What the rewrites of an adoption share: the source, the new machine, and what was done with each place."""
 import re
+from contextlib import contextmanager
 from dataclasses import dataclass, field
+from typing import Iterator
 
 from ..schema import NAME
 from ..values import is_event
-from .draft import Draft, Taken, Value, Written, shortened
+from .draft import Draft, NoName, NotWritten, Taken, Value, Written, shortened
 from .expressions import Comparison, InMode, Known, NotSaid, Way, number, ways_of
 from .features import EFFECTS, FEATURES, REWRITTEN
 from .source import Given, Place, Source
 
 GREATEST_TIME = (1 << 32) - 1
 LONGEST_PULSE = 5_000
+ALWAYS: dict[str, Value] = {"game_mode": "no", "stop_on_ball_end": "no"}  # of a mode that no game and no ball ends
 TIMES = re.compile(r"(\d{1,10}(?:\.\d{1,6})?)\s*"
                    r"(ms|msec|millisecs?|s|sec|secs|seconds?|m|min|mins|minutes?|h|hours?|d|days?|)")
 UNITS = {"m": 60_000, "h": 3_600_000, "d": 86_400_000, "s": 1_000, "": 1}
@@ -70,6 +73,7 @@ class Context:
     later: dict[tuple[str, str, int], str] = field(default_factory=dict)  # events after a time
     steps: dict[tuple[str, str], str] = field(default_factory=dict)
     listed: set[str] = field(default_factory=set)  # modes with a text
+    left_out: set[str] = field(default_factory=set)  # modes that there is no room for
     game_modes: set[str] = field(default_factory=set)
     tilt_events: list[str] = field(default_factory=list)  # that a tilt posts
     pulse_ms: str = ""  # of each coil without one, if the section `mpf` says so
@@ -86,6 +90,7 @@ class Context:
     multiballs: list[tuple[str, int]] = field(default_factory=list)  # with the balls that each adds
     saves: list[tuple[str, str, Given, int]] = field(default_factory=list)  # ball saves of multiballs
     tilt_given: Given | None = None
+    own_tilt: Given | None = None  # MPF's own mode `tilt`, without a text
     dual: dict[str, tuple[str, str]] = field(default_factory=dict)  # coils of two windings
     main_coils: set[str] = field(default_factory=set)  # of flippers
     more: list["More"] = field(default_factory=list)  # events for shots and groups
@@ -105,6 +110,14 @@ class Context:
         """Leaves something out; its feature says what that does to a rule."""
         effect = effect or FEATURES[feature].effect
         self.log(feature, given.place, says, "lost" if effect == REWRITTEN else effect)
+
+    @contextmanager
+    def attempt(self, given: Given) -> Iterator[None]:
+        """Says that something is lost if it cannot be written."""
+        try:
+            yield
+        except NotWritten as why:
+            self.lose(why.feature, given, str(why), "lost")
 
     def keep(self, given: Given) -> None:
         self.kept.add((given.file.name, given.line + 1))
@@ -153,6 +166,17 @@ class Context:
         self.names[kind + found] = name
         return found
 
+    def fit(self, name: str, most: int = 64) -> str:
+        """A name, or one of adopt's own for one that is too long, or has other signs than a name."""
+        return name if len(name) <= most and re.fullmatch(NAME, name, re.ASCII) else self.own(name, most)
+
+    def variable(self, name: str) -> str:
+        """The name of a variable of adopt's own, the same each time."""
+        kind = f"variables {name}"
+        if kind not in self.names:
+            self.names[kind] = self.fit(name, 64 - len("player_"))
+        return self.names[kind]
+
     def timer(self, name: str) -> str:
         """The name of a timer of adopt's own, short enough for its events."""
         return self.own(name, 49, "timers ")
@@ -174,12 +198,19 @@ class Context:
         power = str(value.get("default_hold_power", "0")).rstrip("%")
         return str(value.get("allow_enable", "no")).lower() in ("yes", "true", "on") or power.strip("0.") != ""
 
-    def mode(self, name: str, starts: list[str], stops: list[str], given: Given, says: str) -> str:
-        """A mode of its own for a rewrite, which runs without a game too."""
+    def mode(self, name: str, starts: list[str], stops: list[str], given: Given, says: str, owner: str = "") -> str:
+        """A mode of its own for a rewrite, which runs without a game too. It ends with the mode that has the entry."""
+        stops = [*stops, *self.end_of(owner)]
         ends: dict[str, Value] = {"stop_events": stops} if stops else {}
-        settings: dict[str, Value] = {"start_events": starts, **ends, "game_mode": "no"}
-        return self.draft.helper(self.own(name, 40, "modes "), settings,
+        return self.draft.helper(self.own(name, 40, "modes "), {"start_events": starts, **ends, **ALWAYS},
                                  Written("", [given.place], says=[f"{given.place}: {says}"]))
+
+    def end_of(self, mode: str) -> list[str]:
+        """The event with which a mode ends; none of the machine."""
+        event = f"mode_{mode}_stopping"
+        if not re.fullmatch(NAME, event, re.ASCII):
+            raise NoName(f"`{event[:80]}` is too long")
+        return [event] if mode else []
 
     def relay(self, mode: str, events: list[str], name: str, given: Given) -> list[str]:
         """Events of a mode's entry as the machine may handle them: only while that mode runs."""

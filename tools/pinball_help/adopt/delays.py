@@ -3,14 +3,15 @@ import re
 
 from ..machine_graph import GAME
 from ..tables import MOST_MODES
-from .context import Context
-from .draft import NoRoom, Written
+from .context import ALWAYS, Context
+from .draft import Written
 from .source import Given
 
 SHARED = "adopted_delays"
 SPARE_MODES = 6  # modes that are left for other rewrites
 # in a game, the shared mode runs before these
 EARLY = ("sw_start", "game_will_start", "game_starting", "player_added", "game_started", "player_turn_will_start")
+MISSED = "the first one is missed if it comes before the first game"
 SAID = "a second {} before the {} are over begins them anew: in MPF both come"
 
 
@@ -22,13 +23,13 @@ def after(ctx: Context, mode: str, head: str, delay: int, given: Given) -> str:
     if key not in ctx.later:
         event = head.partition("{")[0]
         name = ctx.timer(f"{event}_after_{delay}ms")
-        ctx.later[key] = f"timer_{name}_complete"
         owner = mode or (shared(ctx, given) if is_late(ctx, event) else "")
         says = SAID.format(f"`{event}`", written(delay))
         if owner:
             wait(ctx, owner, name, head, delay, given, says, running=False)
         else:
             of_its_own(ctx, name, head, delay, given, says)
+        ctx.later[key] = f"timer_{name}_complete"
     return ctx.later[key]
 
 
@@ -47,10 +48,14 @@ def wait(ctx: Context, mode: str, name: str, head: str, delay: int, given: Given
 def of_its_own(ctx: Context, name: str, head: str, delay: int, given: Given, says: str) -> None:
     """A mode for one event: nothing that comes before it is known, and no mode hears the event that starts it."""
     if len(ctx.draft.modes) >= MOST_MODES - SPARE_MODES:
-        wait(ctx, shared(ctx, given), name, head, delay, given, f"only in a game; {says}", running=False)
-        ctx.log("a: b|2s", given.place, "there is no room for a mode of its own: only in a game", "weakened")
+        mode = shared(ctx, given)
+        starts = ctx.draft.texts[mode]["mode"]["start_events"].value
+        assert isinstance(starts, list)
+        starts += [head] if head not in starts else []
+        wait(ctx, mode, name, head, delay, given, f"{MISSED}; {says}", running=False)
+        ctx.log("a: b|2s", given.place, f"there is no room for a mode of its own: {MISSED}", "weakened")
         return
-    settings = {"start_events": [head], "stop_events": [f"timer_{name}_complete"], "game_mode": "no"}
+    settings = {"start_events": [head], "stop_events": [f"timer_{name}_complete"], **ALWAYS}
     mode = ctx.draft.helper(name, settings, Written("", [given.place], says=[f"{given.place}: an event after a time"]))
     wait(ctx, mode, name, head, delay, given, says, running=True)
 
@@ -58,14 +63,10 @@ def of_its_own(ctx: Context, name: str, head: str, delay: int, given: Given, say
 def shared(ctx: Context, given: Given) -> str:
     """The mode that has the delays of the machine, from the start of the first game on."""
     if SHARED not in ctx.names:
-        ctx.names[SHARED] = SHARED
+        ctx.draft.spare = 0
         says = "events of the machine that come after a time: this mode runs from the start of the first game on"
-        try:
-            ctx.names[SHARED] = ctx.draft.helper(
-                SHARED, {"start_events": ["game_will_start"], "game_mode": "no"}, Written("", says=[says]))
-        except NoRoom:
-            del ctx.names[SHARED]
-            raise
+        settings = {"start_events": ["game_will_start"], **ALWAYS}
+        ctx.names[SHARED] = ctx.draft.helper(SHARED, settings, Written("", says=[says]))
     return ctx.names[SHARED]
 
 

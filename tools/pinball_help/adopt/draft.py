@@ -26,12 +26,28 @@ def sections(is_mode: bool) -> dict[str, Section]:
     return tables.sections(is_mode)
 
 
-class NoRoom(Exception):
+class NotWritten(Exception):
+    """An entry cannot be in the new machine."""
+
+    feature = ""
+
+
+class NoRoom(NotWritten):
     """The profile has a limit, and it is reached."""
 
+    feature = "too many"
 
-class Taken(Exception):
+
+class Taken(NotWritten):
     """The entry is there already, and says another thing."""
+
+    feature = "entry twice"
+
+
+class NoName(NotWritten):
+    """What should be a name is none, or is too long."""
+
+    feature = "bad name"
 
 
 @dataclass
@@ -74,6 +90,7 @@ class Draft:
     texts: dict[str, Sections] = field(default_factory=lambda: {"": {}})
     modes: list[str] = field(default_factory=list)
     helpers: set[str] = field(default_factory=set)  # modes of adopt's own
+    spare: int = 0  # modes that are kept free
     heads: dict[str, list[str]] = field(default_factory=dict)  # what is said at the front of a text
     notes: dict[tuple[str, str], Notes] = field(default_factory=dict)  # at sections, by mode and section; "": the text
     known: set[tuple[str, str]] = field(default_factory=set)  # the entries of all texts: section and name
@@ -82,10 +99,10 @@ class Draft:
         return self.texts.setdefault(mode, {}).setdefault(name, {})
 
     def put(self, mode: str, section: str, key: str, written: Written) -> None:
-        """Adds an entry. Raises Taken if there is one of its name, here or in another text."""
+        """Adds an entry. Raises NotWritten if its name is none, or if one of its name is here or in another text."""
         if section not in PLAYERS + SINGLE:
             if not NAME.fullmatch(key):
-                raise Taken(f"`{key[:80]}` is no name, or too long")
+                raise NoName(f"`{key[:80]}` is no name, or too long")
             if (section, key) in self.known:
                 raise Taken(f"`{section}` has a `{key}` already")
             self.known.add((section, key))
@@ -108,12 +125,12 @@ class Draft:
         self.helpers.add(mode)
         self.heads[mode] = [f"{it}" for it in written.says]
         for key, value in settings.items():
-            self.section(mode, "mode")[key] = Written(value)
+            self.section(mode, "mode")[key] = Written(value, list(written.places))
         return mode
 
     def need(self, count: int) -> None:
         """Raises NoRoom if there is no room for so many modes more."""
-        if len(self.modes) + count > MOST_MODES:
+        if len(self.modes) + count + self.spare > MOST_MODES:
             raise NoRoom(f"a machine has at most {MOST_MODES} modes")
 
     def holds(self, mode: str) -> bool:

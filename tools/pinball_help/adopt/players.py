@@ -93,7 +93,8 @@ def of_event(ctx: Context, mode: str, entry: Given) -> None:
         ctx.post(mode, timer, [it for names in groups.values() for it in names], entry, f"{entry.key} in MPF")
         return
     for (condition, wait), names in groups.items():
-        write_event(ctx, mode, entry, condition, wait, names)
+        with ctx.attempt(entry):
+            write_event(ctx, mode, entry, condition, wait, names)
 
 
 def write_event(ctx: Context, mode: str, entry: Given, condition: str, wait: str, names: list[str]) -> None:
@@ -155,11 +156,10 @@ def of_coils(ctx: Context, mode: str, section: Given) -> None:
 def coils_of(entry: Given) -> list[Given]:
     """The coils of an entry, in any form: a mapping, a list of mappings or of names, or a text."""
     found = entry.inside()
-    for item in entry.node.items or []:
-        found += Given("", item, entry.file, item.line, item.line).inside()
-    for item in entry.node.texts():
-        found.append(Given(item.text, Node(item.line), entry.file, item.line, item.line + 1))
-    return found
+    for item in entry.items():
+        found += coils_of(item)
+    words = [] if entry.is_list else entry.node.texts()
+    return found + [Given(it.text, Node(it.line), entry.file, it.line, it.line + 1) for it in words]
 
 
 def of_coil(ctx: Context, given: Given, entry: Given) -> Value | None:
@@ -336,6 +336,7 @@ def drawn(ctx: Context, events: Given) -> list[str]:
             found.append(name)
             if given.key == text and given.text:
                 ctx.lose("random_event_player", given, f"the weight of `{name}`")
+            values.more_of(ctx, given)
     return found
 
 

@@ -77,19 +77,20 @@ def one_switch(ctx: Context, feature: str, entry: Given) -> str:
 TARGET = "adopted_drop_target"
 RESETS = "ball_starting"
 FIRST_BALL = "ball_will_start{current_player.ball == 1}"
+MOST_SHOT, MOST_GROUP = 64 - len("_up_hit"), 64 - len("_down_complete")
 MOST_TARGETS = 16  # shots of a group
 
 
 def of_drop_targets(ctx: Context, mode: str, section: Given) -> None:
     for entry in section.inside():
         switch = one_switch(ctx, "drop_targets", entry)
-        if not switch or not values.NAME.fullmatch(entry.key):
+        if not switch:
             ctx.lose("drop_targets", entry, "no such switch")
             continue
         if TARGET not in ctx.names:
             ctx.names[TARGET] = TARGET
             ctx.put("", "shot_profiles", TARGET, {"states": [{"name": "up"}, {"name": "down"}]}, entry, "drop targets")
-        shot = f"drop_target_{entry.key}"
+        shot = ctx.fit(f"drop_target_{entry.key}", MOST_SHOT)
         resets = ctx.relay(mode, events_of(ctx, mode, entry, "reset_events"), f"{shot}_reset", entry)
         ctx.put("", "shots", shot, {"switch": switch, "profile": TARGET, "reset_events": resets or [RESETS]}, entry,
                 "a drop target")
@@ -97,7 +98,8 @@ def of_drop_targets(ctx: Context, mode: str, section: Given) -> None:
         ctx.targets[entry.key] = Target(shot, coil, bool(resets), entry)
         for event in resets if coil else []:
             ctx.drive("", event, {coil: "pulse"}, entry, f"raises {entry.key}")
-        ctx.post("", f"{shot}_up_hit", [f"{shot}_down"], entry, f"the event that MPF posts for {entry.key}")
+        says = f"the event that MPF posts for {entry.key}"
+        ctx.post("", f"{shot}_up_hit", [f"drop_target_{entry.key}_down"], entry, says)
         rest(ctx, "drop_targets", entry, *SWITCHES, "reset_coil", "reset_events")
     ctx.log("drop_targets", section.place)
 
@@ -115,11 +117,12 @@ def banks(ctx: Context) -> None:
         for it in entry.names("drop_targets"):
             if it not in names and (given := entry.at("drop_targets")):
                 ctx.lose("drop_target_banks", given, f"`{it[:60]}` is not there, or in another bank", "lost")
-        if not names or not values.NAME.fullmatch(entry.key):
+        if not names:
             ctx.lose("drop_target_banks", entry, "no such drop targets")
             continue
         in_a_bank |= {*names}
-        bank(ctx, mode, entry, [ctx.targets[it] for it in names])
+        with ctx.attempt(entry):
+            bank(ctx, mode, entry, [ctx.targets[it] for it in names])
         rest(ctx, "drop_target_banks", entry, "drop_targets", "reset_coil", "reset_coils", "reset_events",
              "reset_on_complete")
     for name, target in ctx.targets.items():
@@ -129,18 +132,19 @@ def banks(ctx: Context) -> None:
 
 
 def bank(ctx: Context, mode: str, entry: Given, targets: list[Target]) -> None:
-    group = f"drop_target_bank_{entry.key}"
+    group = ctx.fit(f"drop_target_bank_{entry.key}", MOST_GROUP)
     raised = ctx.own(f"{group}_raise")
     coils = [*entry.names("reset_coil"), *entry.names("reset_coils"), *(it.coil for it in targets if it.coil)]
     resets = ctx.relay(mode, events_of(ctx, mode, entry, "reset_events"), f"{group}_reset", entry)
     for event in resets or [RESETS]:
         ctx.post("", event, [raised], entry, f"raises {entry.key}")
     ctx.put("", "shot_groups", group, {"shots": [it.shot for it in targets], "reset_events": [raised]}, entry, "a bank")
-    ctx.post("", f"{group}_down_complete", [f"{group}_down"], entry, f"the event that MPF posts for {entry.key}")
+    down = ctx.fit(f"drop_target_bank_{entry.key}_down")
+    ctx.post("", f"{group}_down_complete", [down], entry, f"the event that MPF posts for {entry.key}")
     wait = entry.at("reset_on_complete")
     delay = ctx.time(wait.text) if wait and wait.text.lower() not in values.NO + ("yes", "true") else None
     if wait and (delay is not None or wait.text.lower() in values.YES):
-        ctx.post("", after(ctx, "", f"{group}_down", delay or 0, entry), [raised], entry, "reset_on_complete")
+        ctx.post("", after(ctx, "", down, delay or 0, entry), [raised], entry, "reset_on_complete")
     if coils:
         ctx.drive("", raised, {it: "pulse" for it in dict.fromkeys(coils)}, entry, f"raises {entry.key}")
 
@@ -151,7 +155,7 @@ def bank(ctx: Context, mode: str, entry: Given, targets: list[Target]) -> None:
 def of_diverters(ctx: Context, mode: str, section: Given) -> None:
     for entry in section.inside():
         coil = entry.says("activation_coil")
-        if not coil or not values.NAME.fullmatch(entry.key):
+        if not coil:
             ctx.lose("diverters", entry, "it has no `activation_coil`")
             continue
         diverter(ctx, mode, entry, coil)
@@ -171,8 +175,7 @@ def diverter(ctx: Context, mode: str, entry: Given, coil: str) -> None:
     starts = ctx.relay(mode, starts + ([] if switches else enables), f"{name}_activate", entry)
     if switches:
         starts = starts + by_switch(ctx, mode, entry, name, switches, enables, disables)
-    stops = ctx.relay(mode, stops + disables, f"{name}_deactivate", entry)
-    stops += [f"mode_{mode}_stopping"] if mode else []
+    stops = [*ctx.relay(mode, stops + disables, f"{name}_deactivate", entry), *ctx.end_of(mode)]
     kind = entry.says("type", "hold").lower()
     if kind not in ("hold", "pulse"):
         ctx.log("lowest power or time", (entry.at("type") or entry).place, f"`{kind[:40]}`: a pulse")
@@ -204,7 +207,7 @@ def by_switch(ctx: Context, mode: str, entry: Given, name: str, switches: list[s
         return [activate]
     ctx.draft.need(2)
     enabled = ctx.mode(f"{name}_enabled", ctx.relay(mode, enables, f"{name}_enable", entry),
-                       ctx.relay(mode, disables, f"{name}_disable", entry), entry, "a diverter that is enabled")
+                       ctx.relay(mode, disables, f"{name}_disable", entry), entry, "a diverter that is enabled", mode)
     for event in switches:
         ctx.post(enabled, event, [activate], entry, "activates it")
     return [activate]
@@ -217,9 +220,11 @@ def pulsed(ctx: Context, entry: Given, name: str, coil: str, starts: list[str], 
         return
     for event in starts:
         ctx.drive("", event, {coil: "pulse"}, entry, "activates it")
-    off = entry.says("deactivation_coil")
-    for event in stops if off else []:
-        ctx.drive("", event, {off: "pulse"}, entry, "deactivates it")
+    off = entry.at("deactivation_coil")
+    for event in stops if off and off.text else []:
+        ctx.drive("", event, {off.text: "pulse"}, entry, "deactivates it")
+    if off and not stops:
+        ctx.log("diverters", off.place, "nothing deactivates it", "unseen")
     if entry.at("activation_time"):
         ctx.lose("part of a rewrite", entry.at("activation_time") or entry, "`activation_time` of a pulsed diverter")
 
@@ -230,10 +235,10 @@ def pulsed(ctx: Context, entry: Given, name: str, coil: str, starts: list[str], 
 def of_kickbacks(ctx: Context, mode: str, section: Given) -> None:
     for entry in section.inside():
         coil, switch = entry.says("coil"), one_switch(ctx, "kickbacks", entry)
-        if not coil or not switch or not values.NAME.fullmatch(entry.key):
+        if not coil or not switch:
             ctx.lose("kickbacks", entry, "it needs a coil and a switch")
             continue
-        name = f"kickback_{entry.key}"
+        name, fired = ctx.fit(f"kickback_{entry.key}"), ctx.fit(f"kickback_{entry.key}_fired")
         enables = ctx.relay(mode, events_of(ctx, mode, entry, "enable_events"), f"{name}_enable", entry)
         disables = ctx.relay(mode, events_of(ctx, mode, entry, "disable_events"), f"{name}_disable", entry)
         enables = enables or ["ball_started"]
@@ -243,7 +248,7 @@ def of_kickbacks(ctx: Context, mode: str, section: Given) -> None:
         }, entry, "it kicks once each time it is enabled")
         ctx.put("", "counters", name, {
             "count_events": [f"{switch}_active"], "count_complete_value": "1", "enable_events": enables,
-            "disable_events": disables, "events_when_complete": [f"{name}_fired"],
+            "disable_events": disables, "events_when_complete": [fired],
         }, entry, "posts the event of a kick")
         rest(ctx, "kickbacks", entry, "coil", *SWITCHES, "enable_events", "disable_events")
     ctx.log("kickbacks", section.place)
@@ -252,14 +257,14 @@ def of_kickbacks(ctx: Context, mode: str, section: Given) -> None:
 def of_spinners(ctx: Context, mode: str, section: Given) -> None:
     for entry in section.inside():
         switches = switches_of(ctx, entry)
-        if not switches or not values.NAME.fullmatch(entry.key):
+        if not switches:
             ctx.lose("spinners", entry, "no such switch")
             continue
         name, turns = f"spinner_{entry.key}", [f"{it}_active" for it in switches]
         delay = time_of(ctx, entry, "active_ms", SPINS) or SPINS
         turns = ctx.relay(mode, turns, f"{name}_turn", entry)
         timer = ctx.timer(f"{name}_still")
-        helper = ctx.mode(name, turns, [f"timer_{timer}_complete"], entry, "a spinner that spins")
+        helper = ctx.mode(name, turns, [f"timer_{timer}_complete"], entry, "a spinner that spins", mode)
         again: Value = [{"event": it, "action": "restart"} for it in turns]
         ctx.put(helper, "timers", timer, {"end_value": "1", "tick_interval": written(delay), "start_running": "yes",
                                           "control_events": again}, entry, "how long it has to be still")
@@ -279,7 +284,7 @@ def of_spinners(ctx: Context, mode: str, section: Given) -> None:
 def of_combos(ctx: Context, mode: str, section: Given) -> None:
     for entry in section.inside():
         ones, others = switches_of(ctx, entry, "_1"), switches_of(ctx, entry, "_2")
-        if not ones or not others or not values.NAME.fullmatch(entry.key):
+        if not ones or not others:
             ctx.lose("combo_switches", entry, "it needs two switches")
             continue
         combo(ctx, mode, entry, ones, others)
@@ -306,7 +311,7 @@ def combo(ctx: Context, mode: str, entry: Given, ones: list[str], others: list[s
             ctx.post(helper, f"{switch}_active", [pressed], entry, "both are held")
     starts = ctx.relay(mode, [pressed], f"{name}_in_mode", entry)
     both = ctx.mode(f"{name}_both", starts, [f"{it}_inactive" for it in (*ones, *others)], entry,
-                    "both buttons are held")
+                    "both buttons are held", mode)
     posts = names_or(ctx, mode, entry, "events_when_both", f"{entry.key}_both")
     hold = time_of(ctx, entry, "hold_time", 0)
     event = f"mode_{both}_started"
@@ -346,7 +351,7 @@ def of_timed(ctx: Context, mode: str, section: Given) -> None:
         switches = switches_of(ctx, entry)
         delay = ctx.time(entry.says("time", "0"))
         inactive = entry.says("state", "active").lower() not in ("active", "1")
-        if not switches or not delay or inactive or not values.NAME.fullmatch(entry.key):
+        if not switches or not delay or inactive:
             ctx.lose("timed_switches", entry, "it needs a switch and a time")
             continue
         if len(switches) > 1:
@@ -357,13 +362,13 @@ def of_timed(ctx: Context, mode: str, section: Given) -> None:
         timer = ctx.timer(name)
         starts = ctx.relay(mode, [f"{it}_active" for it in switches], f"{name}_begins", entry)
         stops = [f"{it}_inactive" for it in switches]
-        helper = ctx.mode(name, starts, stops, entry, "a switch that is held")
+        helper = ctx.mode(name, starts, stops, entry, "a switch that is held", mode)
         ctx.put(helper, "timers", timer, {"end_value": "1", "tick_interval": written(delay), "start_running": "yes"},
                 entry,
                 "the time")
         posts = names_or(ctx, mode, entry, "events_when_active", f"{entry.key}_active")
         held = ctx.mode(f"{name}_held", [f"timer_{timer}_complete"], stops, entry,
-                        "a switch that was held for the time")
+                        "a switch that was held for the time", mode)
         ctx.post(held, f"mode_{held}_started", posts, entry, "events_when_active")
         ends = names_or(ctx, mode, entry, "events_when_released", f"{entry.key}_released")
         ctx.post(held, f"mode_{held}_stopping", ends, entry, "events_when_released")
@@ -383,8 +388,8 @@ def of_sequence_shots(ctx: Context, mode: str, section: Given) -> None:
             steps += [one for it in (given.words() if given else []) for one in ctx.handled(mode, it, entry)]
         except NotSaid:
             steps = []
-        if missing or len(steps) < 2 or len(steps) > 16 or not values.NAME.fullmatch(entry.key):
-            ctx.lose("sequence_shots", entry, "it needs two switches or events")
+        if missing or not 2 <= len(steps) <= 16 or not values.NAME.fullmatch(f"{entry.key}_hit"):
+            ctx.lose("sequence_shots", entry, "it needs 2 to 16 switches or events, and a name of 60 characters")
             continue
         sequence(ctx, mode, entry, steps)
         rest(ctx, "sequence_shots", entry, "switch_sequence", "event_sequence", "sequence_timeout")
@@ -402,7 +407,7 @@ def sequence(ctx: Context, mode: str, entry: Given, steps: list[str]) -> None:
     timer = ctx.timer(name)
     starts = ctx.relay(mode, steps[:1], f"{name}_begins", entry)
     stops = [f"timer_{timer}_complete", f"{entry.key}_hit"]
-    helper = ctx.mode(name, starts, stops, entry, "a shot of several switches within a time")
+    helper = ctx.mode(name, starts, stops, entry, "a shot of several switches within a time", mode)
     ctx.put(helper, "sequences", name, {"events": [[it] for it in steps[1:]], **device}, entry, "the other switches")
     ctx.put(helper, "timers", timer, {"end_value": "1", "tick_interval": written(delay), "start_running": "yes"}, entry,
             "sequence_timeout")

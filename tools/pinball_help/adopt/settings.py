@@ -37,10 +37,9 @@ def single(ctx: Context, mode: str, section: Given) -> None:
     """`mode`, `machine` and `game`: the section is one entry."""
     out = settings_of(ctx, mode, section.key, section)
     for key, value in (out or {}).items():
-        try:
-            ctx.draft.put(mode, section.key, key, Written(value, [(section.at(key) or section).place]))
-        except Taken as why:
-            ctx.lose("entry twice", section.at(key) or section, str(why))
+        given = section.at(key) or section
+        with ctx.attempt(given):
+            ctx.draft.put(mode, section.key, key, Written(value, [given.place]))
     ctx.draft.section(mode, section.key)
 
 
@@ -248,6 +247,9 @@ def launch(ctx: Context, _mode: str, entry: Given, given: Given, out: Out) -> No
 
 def shot_switches(ctx: Context, mode: str, entry: Given, given: Given, out: Out) -> None:
     words = [it for it in given.words() if values.NAME.fullmatch(it)]
+    for it in given.words():
+        if it not in words:
+            ctx.lose("bad name", given, f"`{it[:60]}`")
     if given.key == "switch" and len(words) == 1:
         out["switch"] = words[0]
         ctx.keep(given)
@@ -267,6 +269,9 @@ def hit_events(ctx: Context, mode: str, entry: Given, given: Given, out: Out) ->
 
 
 def start_enabled(ctx: Context, mode: str, entry: Given, given: Given, out: Out) -> None:
+    if given.text.lower() not in values.YES + values.NO:
+        ctx.lose("bad value", given, f"`{given.text[:60]}`")
+        return
     starts = given.text.lower() in values.YES
     enables = entry.at("enable_events")
     if starts and enables:
@@ -419,6 +424,7 @@ def own_modes(ctx: Context, mode: str, entry: Given, out: Out) -> None:
         ctx.log("attract", entry.place)
     elif mode == "tilt" and "start_events" not in out:
         out["start_events"] = ["ball_started"]
+        ctx.log("own mode of MPF", entry.place, "`start_events: ball_started`", "rewritten")
     elif mode == "bonus" and "start_events" not in out:
         out["start_events"] = ["ball_ending"]
         ctx.log("own mode of MPF", entry.place)

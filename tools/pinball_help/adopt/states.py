@@ -16,6 +16,7 @@ class Machine:
     ctx: Context
     mode: str
     entry: Given
+    variable: str
     states: dict[str, Given]
     started: dict[str, list[str]] = field(default_factory=dict)
     stopped: dict[str, list[str]] = field(default_factory=dict)
@@ -29,17 +30,17 @@ class Machine:
         return [self.first, *(it for it in self.states if it != self.first)].index(state)
 
     def sets(self, state: str) -> dict[str, Value]:
-        return {self.entry.key: {"int": str(self.number(state)), "action": "set"}}
+        return {self.variable: {"int": str(self.number(state)), "action": "set"}}
 
 
 def of_state_machines(ctx: Context, mode: str, section: Given) -> None:
     for entry in section.inside():
         given, moves = entry.at("states"), entry.at("transitions")
         states = {it.key: it for it in given.inside()} if given else {}
-        if not states or not moves or not moves.items() or not values.NAME.fullmatch(f"player_{entry.key}"):
+        if not states or not moves or not moves.items():
             ctx.lose("state_machines", entry, "it needs `states` and `transitions`")
             continue
-        machine = Machine(ctx, mode, entry, states)
+        machine = Machine(ctx, mode, entry, ctx.variable(entry.key), states)
         of_states(machine)
         begins(machine)
         for at, move in enumerate(moves.items(), 1):
@@ -89,13 +90,13 @@ def begins(machine: Machine) -> None:
 
 
 def transition(machine: Machine, move: Given, name: str) -> None:
-    ctx, mode, entry = machine.ctx, machine.mode, machine.entry
+    ctx, mode = machine.ctx, machine.mode
     sources, target = move.names("source"), move.says("target")
     if target not in machine.states or not sources or not all(it in machine.states for it in sources):
         ctx.lose("state_machines", move, "no such state")
         return
     for source in sources:
-        condition = f"current_player.{entry.key} == {machine.number(source)}"
+        condition = f"current_player.{machine.variable} == {machine.number(source)}"
         for event in events_of(ctx, mode, move, "events"):
             try:
                 head, _, own = event.partition("{")

@@ -185,7 +185,8 @@ def events(ctx: Context, mode: str, section: str, _kind: Call, _entry: Given, gi
     for text in items_of(ctx, given):
         before = len(found)
         try:
-            found += ctx.handled(owner, text, given)
+            with ctx.attempt(given):
+                found += ctx.handled(owner, text, given)
         except NotSaid as why:
             ctx.lose("(name)_hit" if "(" in text.partition("{")[0] else "other conditions", given,
                      f"`{text[:60]}`: {why}")
@@ -271,8 +272,10 @@ def later(ctx: Context, mode: str, trigger: str, text: str, given: Given) -> Non
     """Posts an event with a time or a condition, at another event."""
     name, condition, wait = parts_of(text)
     head = f"{trigger}{{{condition}}}" if condition else trigger
+    heads: list[str] = []
     try:
-        heads = ctx.handled(mode, f"{head}|{wait}" if wait else head, given)
+        with ctx.attempt(given):
+            heads = ctx.handled(mode, f"{head}|{wait}" if wait else head, given)
     except NotSaid as why:
         ctx.lose("other conditions", given, f"`{text[:60]}`: {why}")
         return

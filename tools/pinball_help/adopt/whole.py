@@ -2,9 +2,10 @@
 from typing import Callable
 
 from .. import profile, tables
+from ..outline import Node
 from . import balls, comments, players, playfield, settings, states, values
 from .context import Context
-from .draft import NoRoom, Taken, sections
+from .draft import sections
 from .features import FEATURES, LEFT_OUT
 from .source import Given, Part, Place, Source
 
@@ -55,9 +56,11 @@ def adopt(source: Source) -> Context:
 
 def prepare(ctx: Context) -> None:
     of_files(ctx)
+    ctx.draft.spare = int(any("|" in line for file in ctx.source.files for line in file.read))  # for delays
     for part in list(ctx.source.parts):
         if part.mode and (len(ctx.listed) == tables.MOST_MODES or part.mode == "machine"):
             ctx.source.parts.remove(part)
+            ctx.left_out.add(part.mode)
             for section in part.sections():
                 ctx.lose("too many" if part.mode != "machine" else "bad name", section, f"the mode `{part.mode}`")
         elif part.mode:
@@ -70,12 +73,21 @@ def prepare(ctx: Context) -> None:
             modes = [it for it in part.sections() if it.key == "mode"]
             if not any(it.says("game_mode").lower() in values.NO for it in modes):
                 ctx.game_modes.add(part.mode)
-        for section in part.sections():
-            if section.key == "tilt" and section.is_mapping and balls.tilts(ctx, section):
-                ctx.tilt_events, ctx.tilt_given = ["tilt"], section
+    of_tilts(ctx)
     listed(ctx)
-    for section in ctx.source.parts[0].sections():
-        heads(ctx, section)
+
+
+def of_tilts(ctx: Context) -> None:
+    """Whether there is a tilt: by a section `tilt`, or by MPF's own mode without a text in the folder."""
+    tilts = [it for part in ctx.source.parts for it in part.sections() if it.key == "tilt"]
+    section = next((it for name, it in ctx.source.modes if name == "tilt" and it), None)
+    if section and not tilts and "tilt" not in ctx.listed:
+        line = next((it.line for it in section.node.texts() if it.text == "tilt"), section.line)
+        ctx.own_tilt = Given("tilt", Node(line, entries=[]), section.file, line, line + 1)
+        tilts = [ctx.own_tilt]
+    for it in tilts:
+        if it.is_mapping and balls.tilts(ctx, it):
+            ctx.tilt_events, ctx.tilt_given = ["tilt"], it
 
 
 def learn(ctx: Context, part: Part, section: Given, entry: Given) -> None:
@@ -99,11 +111,6 @@ def learn(ctx: Context, part: Part, section: Given, entry: Given) -> None:
     elif section.key == "mpf" and entry.key == "default_pulse_ms":
         value = ctx.time(entry.text)
         ctx.pulse_ms = str(value) if value and value <= 5_000 else ""
-
-
-def heads(ctx: Context, section: Given) -> None:
-    if section.key == "config":
-        ctx.log("config", section.place, ", ".join(section.words()[:20]))
 
 
 def of_files(ctx: Context) -> None:
@@ -131,6 +138,10 @@ def listed(ctx: Context) -> None:
         given = Given(name, section.node, section.file, item.line, item.line + 1) if item else section
         if name in seen:
             ctx.lose("entry twice", given, f"the mode `{name[:60]}`")
+        elif name in ctx.left_out:
+            ctx.lose("too many" if name != "machine" else "bad name", given, f"the mode `{name[:60]}`")
+        elif name == "tilt" and ctx.own_tilt:
+            ctx.log("own mode of MPF", given.place, "it has no text, and does what MPF's own does", "rewritten")
         elif name not in ctx.listed and name in OF_MPF:
             ctx.lose("modes of MPF", given, f"`{name}`", "unseen" if name in ("attract", "game", "service") else "lost")
         elif name not in ctx.listed:
@@ -157,19 +168,24 @@ def of_part(ctx: Context, part: Part) -> None:
         if section.key in seen and section.key in profile.sections():
             ctx.log("section twice", section.place, f"`{section.key}`")
         seen[section.key] = section.file.name
-        try:
+        with ctx.attempt(section):
             of_section(ctx, part.mode, section)
-        except (NoRoom, Taken) as why:
-            ctx.lose("too many" if isinstance(why, NoRoom) else "entry twice", section, str(why), "lost")
+    if ctx.own_tilt and not part.mode:
+        with ctx.attempt(ctx.own_tilt):
+            balls.of_tilt(ctx, "", ctx.own_tilt)
     if part.mode and "mode" not in seen:
         settings.of_section(ctx, part.mode, Given("mode", type(part.files[0].root)(0, entries=[]), part.files[0], 0, 1))
 
 
 def of_section(ctx: Context, mode: str, section: Given) -> None:
     key = section.key
-    if key in ("modes", "config"):
-        if mode or key == "modes" and section.is_mapping:
-            ctx.log("lists of events" if not mode else "bad value", section.place)
+    if key == "config" and not section.is_mapping:
+        ctx.log("config", section.place, ", ".join(section.words()[:20]))
+    elif key == "config" or key == "modes" and mode:
+        ctx.lose("bad value", section)
+    elif key == "modes":
+        if section.is_mapping:
+            ctx.log("other spelling", section.place, "a list of names")
         ctx.keep(section)
     elif key in OTHER:
         OTHER[key](ctx, mode, section)
@@ -202,11 +218,12 @@ def one_by_one(ctx: Context, mode: str, section: Given) -> None:
     for entry in section.node.entries or []:
         alone = type(section.node)(section.node.line, section.node.start, section.node.end, "", [entry])
         given = Given(section.key, alone, section.file, section.line, section.last)
-        try:
+        one = given.inside()[0]
+        if section.key not in LAST and (one.text or one.is_list):
+            ctx.lose("bad value", one, f"`{one.text[:60]}` in place of settings")
+            continue
+        with ctx.attempt(one):
             REWRITTEN[section.key](ctx, mode, given)
-        except (NoRoom, Taken) as why:
-            one = Given(entry.key, entry.value, section.file, entry.line, entry.last)
-            ctx.lose("too many" if isinstance(why, NoRoom) else "entry twice", one, str(why), "lost")
     if before == len(ctx.done) and not section.node.entries and section.key in FEATURES:
         ctx.log(section.key, section.place)
 
@@ -263,11 +280,7 @@ def finish(ctx: Context) -> None:
     settings.add_more(ctx)
     settings.lower_coils(ctx)
     for step in (playfield.banks, balls.launches, balls.holds, balls.shoot_again):
-        try:
-            step(ctx)
-        except (NoRoom, Taken) as why:
-            ctx.log("too many", ctx.source.parts[0].files and Given(
-                "", ctx.source.parts[0].files[0].root, ctx.source.parts[0].files[0], 0, 1).place, str(why))
+        step(ctx)
     balls.tilted(ctx)
     dual_wound(ctx)
     one_coil(ctx)
