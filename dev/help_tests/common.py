@@ -7,8 +7,9 @@ from typing import Callable
 from pinball_help.program import Program
 
 TOP = Path(__file__).resolve().parents[2]
-PROGRAM = Program(str(Path(sys.argv[1] if sys.argv[1:] else TOP / "crates/pinball/out/pinball").resolve()), "given")
-IS_UNPROVED = b"__asan_init" in Path(PROGRAM.path).read_bytes() if Path(PROGRAM.path).is_file() else False
+PATH = Path(sys.argv[1] if sys.argv[1:] else TOP / "crates/pinball/out/pinball").resolve()
+IS_UNPROVED = b"__asan_init" in PATH.read_bytes() if PATH.is_file() else False
+PROGRAM = Program(str(PATH), "an unproved build" if IS_UNPROVED else "given")
 EXAMPLES = sorted(it.parent for it in (TOP / "examples").glob("*/expected-check"))
 TESTS: list[Callable[[], None]] = []
 QUIET = 0.14  # s: what the sum below takes on the computer on which limits of time were set, with nothing beside it

@@ -1,12 +1,15 @@
 """The sections and entries of a text as blocks of lines, by indentation alone: so also those of a text with faults."""
+import re
 from bisect import bisect_left, bisect_right
 from dataclasses import dataclass
+from functools import cached_property
 
 from .outline import KEY, indentation, is_item, without_comment
 from .profile import SINGLE
 
 WHOLE = (*SINGLE, "modes")  # sections that are judged as one entry
 STAND_IN = "a_stand_in: 1"
+TAB = re.compile(r"[^\S\t]*(?:-[^\S\t]*)?\t")  # (each blank is matched in one way only: a line may have many)
 
 
 @dataclass(frozen=True)
@@ -87,6 +90,14 @@ class Blocks:
             last += 1
         return Block(first, last)
 
+    def entries_of(self, section: Block) -> list[Block]:
+        """The entries of a section."""
+        first = self.first_below(section)
+        found = [section if first is None else self.entry_at(section, first)]
+        while found[-1].last < section.last:
+            found.append(self.entry_at(section, found[-1].last))
+        return found
+
     def begins_entry(self, at: int, depth: int) -> bool:
         """Whether an entry begins here. A line with a tab before its content is taken as deeper."""
         own = self.depths[at]
@@ -103,6 +114,11 @@ class Blocks:
                 break
             last = number + 1 if own >= 0 else last
         return last
+
+    @cached_property
+    def tabs(self) -> list[int]:
+        """The lines with a tab before their content, or after a dash."""
+        return [at for at, line in enumerate(self.lines) if TAB.match(line)]
 
     def part(self, section: Block, kept: set[int]) -> Part:
         """The lines of a section that are kept, and empty ones in place of the others."""

@@ -26,6 +26,7 @@ LINE_NUMBERS = (
     "Line numbers are those of your files now: begin with the last one, or run this again after each change."
 )
 MAY_BE_MORE = "There may be others that come after the last of these: mend it, and look again."
+CUT_SHORT = "There may be others, as time ran out: mend these, and look again; or give it more time by --within SECONDS."
 MOST_IN_FULL = 8  # findings; more are listed in short form
 MOST_CURES = 200  # that `explain` looks for in the texts: each may take milliseconds
 MOST_NAMES = 3  # of switches that are named, and not counted
@@ -45,7 +46,7 @@ def write_errors(asked: argparse.Namespace) -> int:
     more = hints.hints(report.scene, Path(asked.dir))
     if asked.json or asked.lines:
         print(for_editors(asked, report, found, more), end="")
-        print(f"{MAY_BE_MORE}\n" * is_open(report) + warning, end="", file=sys.stderr)
+        print(f"{may_be_more(report)}\n" * is_open(report) + warning, end="", file=sys.stderr)
         return 1 if found else 0
     print(warning, end="\n" if warning else "")
     is_short = len(found) > MOST_IN_FULL and not asked.full
@@ -81,13 +82,17 @@ def is_open(report: errors.Report) -> bool:
     return report.unsolved or not (report.answer and report.answer.accepted)
 
 
+def may_be_more(report: errors.Report) -> str:
+    return CUT_SHORT if report.is_cut_short else MAY_BE_MORE
+
+
 def counted(report: errors.Report, found: list[Finding], full: str) -> str:
     """How many there are; `full` is the command that says more, if there is one."""
     follows = len(report.findings) - len(found)
     if not report.findings:
         return "Nothing to mend: the answer is yes."
     more = f" {follows} more follow from these." if follows else ""
-    more += f" {MAY_BE_MORE}" if is_open(report) else ""
+    more += f" {may_be_more(report)}" if is_open(report) else ""
     if len(found) < 2:
         return f"{len(found)} to mend.{more}"
     if full:
@@ -238,7 +243,7 @@ def parser() -> argparse.ArgumentParser:
     )
     one.add_argument(
         "--within", type=float, default=errors.WITHIN, metavar="SECONDS",
-        help=f"stops looking after so many seconds of its own work ({errors.WITHIN:g})",
+        help=f"stops looking after so many seconds of processor time ({errors.WITHIN:g})",
     )
     with_program(one)
     one.set_defaults(run=write_errors)

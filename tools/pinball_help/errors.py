@@ -10,12 +10,14 @@ from .mending import commented, line_of, take_out
 from .probes import OutOfTime, Probes, Verdict, is_error
 from .program import Program
 from .scenery import Scenery
-from .texts import MACHINE, Edit, Texts, edited, read_texts
+from .texts import MACHINE, Edit, Texts, edited, is_changed, read_texts
 from .ways import Cure, Way
 
 ROUNDS = 500
-WITHIN = 10.0  # seconds of its own work: a text may be written to take for ever
+WITHIN = 10.0  # seconds of processor time: a text may be written to take for ever
+A_LITTLE_MORE = 0.1  # of that time, for what was found and not yet looked at
 MOST_MENDS = 8  # of one complaint, each after a change of its line
+AT_ONCE = 64  # complaints: their findings are known even if time runs out before those of the others
 MOST_TRIES = 3  # to mend one place before something is taken out
 ALONE = ("Bundle", "Limit", "Cycle", "Bound")  # what has to be mended before others are said
 BEST = (0, 0, 0)
@@ -30,6 +32,7 @@ class Report:
     answer: Answer | None = None  # of the copy
     scene: Scenery = field(default_factory=lambda: Scenery({}))  # of the copy
     unsolved: bool = False  # something was refused, and no way was found to look further
+    is_cut_short: bool = False  # .. since it would have taken too long
 
 
 class Progress:
@@ -53,7 +56,7 @@ class Search:
     """Looks for all that is refused in the texts of a folder."""
 
     def __init__(self, program: Program, folder: Path, leave_out: bool, within: float):
-        self.probes, self.leave_out = Probes(program, time.process_time() + within), leave_out
+        self.probes, self.leave_out, self.within = Probes(program, within), leave_out, within
         self.original = read_texts(folder)
         self.scene = Scenery(self.original)
         self.report = Report()
@@ -61,47 +64,50 @@ class Search:
         self.counts: dict[tuple, int] = {}
         self.gone: set[str] = set()  # names that the copy defines no more
         self.touched: set[tuple[str, int, str]] = set()  # what has lost something: text, line of the file, key
+        self.touched_lines: set[tuple[str, int]] = set()
+        self.touched_keys: set[str] = set()
         self.moved: set[tuple[str, int]] = set()  # lines of the files that the copy has elsewhere
         self.faults_were_reported = False
+        self.waiting: list[Complaint] = []  # that have no finding yet
         self.progress = Progress("found")
 
     def run(self) -> Report:
-        answer = self.ask()
+        self.answer = self.ask()
         try:
-            answer = self.mend_all(answer)
+            self.mend_all()
         except OutOfTime:
-            self.report.unsolved = True
-            if not self.report.findings:
-                self.add_first(answer)
+            self.report.is_cut_short = self.report.unsolved = True
+            self.add_waiting()
         finally:
             self.progress.end()
-        self.report.texts, self.report.scene, self.report.answer = self.scene.texts, self.scene, answer
+        self.report.texts, self.report.scene, self.report.answer = self.scene.texts, self.scene, self.answer
         order = {name: at for at, name in enumerate(self.scene.texts)}
         self.report.findings.sort(key=lambda it: (it.line == 0, order.get(it.text, -1), it.line))
         return self.report
 
-    def mend_all(self, answer: Answer) -> Answer:
+    def mend_all(self) -> None:
         """Mends all that is found, and looks again, until all is accepted or nothing helps."""
         for _ in range(ROUNDS):
-            if answer.accepted or not answer.complaints:
+            if self.answer.accepted or not self.answer.complaints:
                 break
-            if not self.mend(self.found(answer)):
+            if not self.mend(self.found()):
                 self.report.unsolved = True
                 break
-            answer = self.ask()
+            self.answer = self.ask()
             self.progress.at(len(self.report.findings))
-        return answer
 
     def ask(self) -> Answer:
         return self.probes.answer({name: self.scene.texts[name] for name in (self.scene.read or [MACHINE])})
 
-    def found(self, answer: Answer) -> list[Complaint]:
+    def found(self) -> list[Complaint]:
         """What can be mended at once: the first error of each entry, or all faults that are listed."""
-        first = answer.complaints[0]
+        self.waiting = []
+        self.probes.found.clear()
+        first = self.answer.complaints[0]
         if first.name in ALONE:
             return [first]
         if not is_error(first):
-            return list(answer.complaints)
+            return list(self.answer.complaints)
         return [it for text in self.scene.read for it in self.errors_of(text)] or [first]
 
     def errors_of(self, text: str) -> list[Complaint]:
@@ -122,14 +128,18 @@ class Search:
     def mend(self, complaints: list[Complaint]) -> bool:
         """Mends the copy at each complaint, where no other one is mended at the same lines. Says whether it has."""
         taken: list[Edit] = []
-        cures = [self.cure(it) for it in complaints]
-        ways = self.probes.workers.map(self.choose, complaints, cures)
-        for complaint, cure, way in zip(complaints, cures, ways):
-            self.add_finding(complaint, cure, way or next(iter(cure.ways), None))
-            if way and not any(overlap(one, other) for one in way.edits for other in taken):
-                taken += way.edits
-                self.count(complaint)
-                self.touch(complaint)
+        lines: set[tuple[str, int]] = set()
+        for at in range(0, len(complaints), AT_ONCE):
+            self.waiting = complaints[at:]
+            some = complaints[at : at + AT_ONCE]
+            cures = [self.cure(it) for it in some if self.probes.is_in_time()]
+            for complaint, cure, way in zip(some, cures, [*self.probes.workers.map(self.choose, some, cures)]):
+                self.add_finding(complaint, cure, way or next(iter(cure.ways), None))
+                if way and lines.isdisjoint(lines_of(way.edits)):
+                    lines |= lines_of(way.edits)
+                    taken += way.edits
+                    self.count(complaint)
+                    self.touch(complaint)
         self.faults_were_reported |= not is_error(complaints[0])
         self.change(tuple(taken))
         return bool(taken)
@@ -137,15 +147,15 @@ class Search:
     def choose(self, complaint: Complaint, cure: Cure) -> Way | None:
         """The likeliest way that helps. What takes something out comes last, the smallest part first."""
         tries = self.tries(complaint)
-        ways = [it for it in cure.ways if it.edits and edited(self.scene.texts, it.edits) != self.scene.texts]
+        ways = [it for it in cure.ways if self.probes.is_in_time() and is_changed(self.scene.texts, it.edits)]
         if complaint.name != "Yaml":
             last = [] if tries < len(ways) else self.last_ways(complaint)
             return next(iter([*ways, *last][tries:]), None)
-        mends, removals = [it for it in ways if not is_removal(it)], [it for it in ways if is_removal(it)]
-        for some in (mends if tries < MOST_TRIES else [], [*removals, *self.last_ways(complaint)][max(0, tries - 1) :]):
-            if best := self.best(complaint, some):
-                return best
-        return None
+        mends = [it for it in ways if not is_removal(it)] if tries < MOST_TRIES else []
+        if best := self.best(complaint, mends):
+            return best
+        removals = [*filter(is_removal, ways), *self.last_ways(complaint)]
+        return self.best(complaint, removals[max(0, tries - 1) :])
 
     def best(self, complaint: Complaint, ways: list[Way]) -> Way | None:
         """The way after which the entry has no error, or the one that is furthest on."""
@@ -189,9 +199,13 @@ class Search:
         finding = finding_of(self.scene, complaint, cure, way, self.original)
         self.report.findings.append(replace(finding, follows=self.is_consequence(complaint)))
 
-    def add_first(self, answer: Answer) -> None:
-        """Adds what the answer says first, with the likeliest way to mend it."""
-        for complaint in answer.complaints[:1]:
+    def add_waiting(self) -> None:
+        """Adds what was found before time ran out, each with the likeliest way to mend it, as far as a little more time
+        allows. There is at least one finding."""
+        until = self.probes.program.seconds() + self.within * A_LITTLE_MORE
+        for complaint in self.waiting or self.probes.found or self.answer.complaints:
+            if self.report.findings and self.probes.program.seconds() > until:
+                break
             cure = self.cure(complaint)
             self.add_finding(complaint, cure, next(iter(cure.ways), None))
 
@@ -209,9 +223,8 @@ class Search:
         if complaint.message in (
             "fault 2 PulseLimit", "fault 3 PowerLimit", "fault 4 HoldNotAllowed", "fault 6 BallRoute"
         ):
-            own = any(text == complaint.text and line == number for text, line, _ in self.touched)
-            coil = any(key == complaint.key for _, _, key in self.touched)
-            return own or coil or self.faults_were_reported
+            own = (complaint.text, number) in self.touched_lines or complaint.key in self.touched_keys
+            return own or self.faults_were_reported
         return False
 
     def touch(self, complaint: Complaint) -> None:
@@ -222,6 +235,8 @@ class Search:
         for outer in entry.path[1:]:
             number = self.scene.number(complaint.text, outer.line)
             self.touched |= {(complaint.text, number, outer.key), (complaint.text, number, entry.key)}
+            self.touched_lines.add((complaint.text, number))
+            self.touched_keys |= {outer.key, entry.key}
 
     def change(self, edits: tuple[Edit, ...]) -> None:
         names = self.names()
@@ -255,10 +270,9 @@ def rank_of(complaint: Complaint, verdict: Verdict) -> Rank | None:
     return (3, 0, 0) if error.line == complaint.line and error.key != complaint.key else None
 
 
-def overlap(one: Edit, other: Edit) -> bool:
-    return one.text == other.text and one.first < max(other.last, other.first + 1) and other.first < max(
-        one.last, one.first + 1
-    )
+def lines_of(edits: tuple[Edit, ...]) -> set[tuple[str, int]]:
+    """The lines that edits change; of lines that come between two others, the second of the two."""
+    return {(it.text, at) for it in edits for at in range(it.first, max(it.last, it.first + 1))}
 
 
 def search(program: Program, folder: Path, leave_out: bool = False, within: float = WITHIN) -> Report:

@@ -2,7 +2,6 @@
 
 A part is a text in which all other lines are empty. So a mistake in one place hides none in another."""
 import hashlib
-import time
 from concurrent.futures import ThreadPoolExecutor
 from dataclasses import dataclass, replace
 
@@ -14,6 +13,7 @@ from .texts import MACHINE, VERSION, Edit, Texts, edited, plain
 
 WORKERS = 4
 MOST_LEFT_OUT = 8  # errors beside the one that is mended
+AT_ONCE = 32  # entries
 BATCHES = 32  # of the sections of a text: it may have thousands
 
 
@@ -45,12 +45,19 @@ class OutOfTime(Exception):
 
 
 class Probes:
-    """Asks until a moment of the processor time of this process: then it raises OutOfTime."""
+    """Asks for so many seconds of processor time: then it raises OutOfTime."""
 
-    def __init__(self, program: Program, until: float):
-        self.program, self.until = program, until
+    def __init__(self, program: Program, within: float):
+        self.program, self.until = program, program.seconds() + within
+        self.found: list[Complaint] = []  # since `begin`
         self.known: dict[tuple[str, bytes], Complaint | None] = {}
         self.workers = ThreadPoolExecutor(WORKERS)
+
+    def is_in_time(self) -> bool:
+        """Always. Raises OutOfTime if it is too late."""
+        if self.program.seconds() > self.until:
+            raise OutOfTime
+        return True
 
     def answer(self, texts: Texts) -> Answer:
         return self.program.check_texts({name: plain(lines) for name, lines in texts.items()})
@@ -59,8 +66,7 @@ class Probes:
         """The first error of a part of a text.
 
         The empty lines before its content are left out. So it is known if it comes again at another place."""
-        if time.process_time() > self.until:
-            raise OutOfTime
+        self.is_in_time()
         first = next((at for at, line in enumerate(part.lines) if line), len(part.lines))
         found = self.first_error_of(owner, text, "\n".join(part.lines[first:]))
         return moved(found, part.above + first - 1) if found else None
@@ -98,11 +104,26 @@ class Probes:
         return [found for it in sections for found in self.errors_of_section(owner, text, blocks, it)]
 
     def errors_of_section(self, owner: str, text: str, blocks: Blocks, section: Block) -> list[Complaint]:
-        """The first error of each entry: each that is found is left out, and the rest is asked about again.
+        """The first error of each entry, first the faults of YAML.
 
-        The program reports faults of YAML first. If there are any, the other errors wait until these are mended: how to
-        mend an error is found in the outline of the text, which may be wrong until then."""
-        kept = {*range(section.first, section.last)}
+        If there are any, the other errors wait until these are mended: how to mend an error is found in the outline of
+        the text, which may be wrong until then. If there are none, no entry changes how another one is read: so they
+        are asked about some at a time, as all of them may be many."""
+        lines, head = {*range(section.first, section.last)}, blocks.head_of(section)
+        first = self.error_of_part(owner, text, blocks, section, lines)
+        if first is None or first.name == "Yaml" or first.line - 1 <= head:
+            return self.errors_of_lines(owner, text, blocks, section, lines)
+        entries, found = blocks.entries_of(section), []
+        for at in range(0, len(entries), AT_ONCE):
+            some = {head, *range(entries[at].first, entries[at : at + AT_ONCE][-1].last)}
+            found += self.errors_of_lines(owner, text, blocks, section, some)
+        return found
+
+    def errors_of_lines(
+        self, owner: str, text: str, blocks: Blocks, section: Block, kept: set[int]
+    ) -> list[Complaint]:
+        """The first error of each entry in some lines of a section: each that is found is left out, and the rest is
+        asked about again."""
         found: list[Complaint] = []
         while kept and (complaint := self.error_of_part(owner, text, blocks, section, kept)):
             at = complaint.line - 1
@@ -110,8 +131,9 @@ class Probes:
             out = kept & {*range(entry.first, entry.last)}
             if not out or found and found[0].name == "Yaml" and complaint.name != "Yaml":
                 break
-            kept -= out
+            kept = kept - out
             found.append(complaint)
+            self.found.append(complaint)
         return found
 
     def error_of_part(
@@ -163,9 +185,12 @@ def trial_of(scene: Scenery, complaint: Complaint, edits: tuple[Edit, ...]) -> T
 
 def around(blocks: Blocks, at: int, edits: list[Edit]) -> set[int]:
     """The lines of the entries that are at a line, or that edits change, with the heads of their sections."""
-    kept: set[int] = set()
+    inside: set[int] = set()
+    heads: set[int] = set()
     for place in (at, *(it.first for it in edits), *(max(it.first, it.last - 1) for it in edits)):
-        section = blocks.section_at(place)
-        entry = blocks.entry_at(section, min(place, len(blocks.lines) - 1))
-        kept |= {blocks.head_of(section), *range(entry.first, entry.last)}
-    return kept
+        if place not in inside:
+            section = blocks.section_at(place)
+            entry = blocks.entry_at(section, min(place, len(blocks.lines) - 1))
+            inside |= {*range(entry.first, entry.last)}
+            heads.add(blocks.head_of(section))
+    return inside | heads

@@ -1,8 +1,10 @@
 """Finds the program `pinball`, and asks it."""
 import os
+import resource
 import shutil
 import subprocess
 import sys
+import time
 from dataclasses import dataclass
 from pathlib import Path
 
@@ -19,6 +21,16 @@ class NoAnswer(Exception):
 class Program:
     path: str
     what: str  # where it was found
+
+    @property
+    def is_unproved(self) -> bool:
+        return "unproved" in self.what
+
+    def seconds(self) -> float:
+        """The processor time so far: of this process, and of the program. An unproved build is so slow that its time is
+        not counted."""
+        spent = resource.getrusage(resource.RUSAGE_CHILDREN)
+        return time.process_time() + (0 if self.is_unproved else spent.ru_utime + spent.ru_stime)
 
     def output(self, words: list[str], text: str | None = None) -> str:
         """What the program writes. Raises NoAnswer where it ends with another status than yes and no."""
@@ -77,5 +89,5 @@ def find(given: str | None) -> Program:
 
 def report(program: Program) -> None:
     """Says on standard error which program answers, where it is not the proved one."""
-    if "unproved" in program.what:
+    if program.is_unproved:
         print(f"(the answers are those of {program.what}: {program.path})", file=sys.stderr)

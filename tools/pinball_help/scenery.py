@@ -33,6 +33,8 @@ class Scenery:
         same = [name for name in known if before and before.texts[name] is texts.get(name)]
         others = {name: outline.read(plain(lines)) for name, lines in texts.items() if name not in same}
         self.by_line: dict[str, dict[int, list[Entry]]] = {}
+        self.items_by_line: dict[str, dict[int, list[tuple[Entry, Node]]]] = {}
+        self.twins: dict[str, dict[int, tuple[Entry, Entry]]] = {}
         self.greatest: dict[str, list[int]] = {}
         self.outlines: dict[str, Node] = {name: others.get(name) or known[name] for name in texts}
         self.known_blocks = {name: it for name, it in (before.known_blocks if before else {}).items() if name in same}
@@ -92,10 +94,35 @@ class Scenery:
     def entries_at(self, text: str, line: int) -> list[Entry]:
         """The entries that begin in a line."""
         if text not in self.by_line:
-            self.by_line[text] = {}
+            found: dict[int, list[Entry]] = {}
             for entry in outline.entries(self.outlines.get(text, Node(0))):
-                self.by_line[text].setdefault(entry.line, []).append(entry)
+                found.setdefault(entry.line, []).append(entry)
+            self.by_line[text] = found
         return self.by_line[text].get(line, [])
+
+    def items_at(self, text: str, line: int) -> list[tuple[Entry, Node]]:
+        """The mappings in lists that begin in a line, each with the entry that has the list."""
+        if text not in self.items_by_line:
+            found: dict[int, list[tuple[Entry, Node]]] = {}
+            for entry in outline.entries(self.outlines.get(text, Node(0))):
+                for item in entry.value.items or []:
+                    if item.entries is not None:
+                        found.setdefault(item.line, []).append((entry, item))
+            self.items_by_line[text] = found
+        return self.items_by_line[text].get(line, [])
+
+    def twins_at(self, text: str, line: int) -> tuple[Entry, Entry] | None:
+        """The entry of a line whose key is there before in the same block, after that earlier entry."""
+        if text not in self.twins:
+            seen: dict[tuple[int, str], Entry] = {}
+            found: dict[int, tuple[Entry, Entry]] = {}
+            for entry in outline.entries(self.outlines.get(text, Node(0))):
+                outer = id(entry.path[-1].value) if entry.path else 0
+                first = seen.setdefault((outer, entry.key), entry)
+                if first is not entry:
+                    found.setdefault(entry.line, (first, entry))
+            self.twins[text] = found
+        return self.twins[text].get(line)
 
     def around(self, text: str, line: int) -> Entry | None:
         """The innermost entry that a line belongs to."""

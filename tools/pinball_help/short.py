@@ -20,7 +20,7 @@ def grouped(findings: list[Finding]) -> list[list[Finding]]:
     found: dict[tuple, list[list[Finding]]] = {}
     for it in findings:
         groups = found.setdefault(kind_of(it), [])
-        if groups and fits([*groups[-1], it]):
+        if groups and fits(groups[-1], it):
             groups[-1].append(it)
         else:
             groups.append([it])
@@ -40,8 +40,12 @@ def advice_of(finding: Finding) -> str:
     return f"{found[1]}: there is no such setting here." if found else finding.write
 
 
-def fits(group: list[Finding]) -> bool:
-    """Whether one line can list a group: with what to write at each place in turn, if that is not the same."""
+def fits(group: list[Finding], more: Finding) -> bool:
+    """Whether one line can list a finding with a group: with what to write at each place in turn, if that is not the
+    same."""
+    if len(group) > MOST_PLACES:  # (so none of these differ)
+        return more.write == group[0].write or not WRITE.fullmatch(more.write)
+    group = [*group, more]
     if not is_listed(group):
         return True
     places = {(it.text, it.line) for it in group}

@@ -155,15 +155,25 @@ def write_texts(texts: Texts, folder: Path) -> None:
 
 
 def edited(texts: Texts, edits: tuple[Edit, ...]) -> Texts:
-    """The texts after these edits. Lines keep their numbers; further lines have none."""
+    """The texts after these edits. Lines keep their numbers; further lines have none.
+
+    Two edits are at the same line only if the first one puts lines before those that the other one changes."""
     result = dict(texts)
-    for edit in sorted(edits, key=lambda it: -it.first):
-        lines = result[edit.text]
-        numbers = list(edit.numbers) or [line.number for line in lines[edit.first : edit.last]]
-        numbers += [0] * (len(edit.lines) - len(numbers))
-        new = [Line(number, text) for number, text in zip(numbers, edit.lines)]
-        result[edit.text] = lines[: edit.first] + new + lines[edit.last :]
+    for name in {it.text for it in edits}:
+        before, after, at = texts[name], [], 0
+        for edit in sorted((it for it in edits if it.text == name), key=lambda it: (it.first, it.last)):
+            numbers = [*edit.numbers] or [line.number for line in before[edit.first : edit.last]]
+            numbers += [0] * (len(edit.lines) - len(numbers))
+            after += before[at : edit.first]
+            after += [Line(number, text) for number, text in zip(numbers, edit.lines)]
+            at = edit.last
+        result[name] = after + before[at:]
     return result
+
+
+def is_changed(texts: Texts, edits: tuple[Edit, ...]) -> bool:
+    """Whether edits change anything."""
+    return any(edit.numbers or [*edit.lines] != plain(texts[edit.text][edit.first : edit.last]) for edit in edits)
 
 
 @contextmanager

@@ -2,12 +2,12 @@
 import re
 from dataclasses import replace
 
-from . import drop_targets, events, outline, overwrites, powers, profile
+from . import drop_targets, events, overwrites, powers, profile
 from .answers import Complaint
 from .idioms import OLDER_NAMES, RECIPES, RECIPES_OF_SECTIONS, SECTIONS, SECTIONS_RENAMED, SETTINGS
 from .mending import add, add_to_item, blanks, give, line_of, rename, take_item_out, take_out
 from .near import nearest
-from .outline import Entry, Node, unquoted
+from .outline import Entry, unquoted
 from .scenery import Scenery, raw, section_of, setting_table, siblings_of
 from .texts import MACHINE, VERSION, Edit
 from .ways import EXAMPLE, Cure, Way
@@ -169,8 +169,8 @@ def as_setting(scene: Scenery, text: str, entry: Entry, new: str) -> tuple[Edit,
 
 def of_missing(scene: Scenery, complaint: Complaint) -> Cure:
     text, key, line = complaint.text, complaint.key, complaint.line - 1
-    here = [it for it in outline.entries(scene.outlines[text]) if it.line == line]
-    items = items_without(scene.outlines[text], line, key)
+    here = scene.entries_at(text, line)
+    items = [it for it in scene.items_at(text, line) if key not in [entry.key for entry in it[1].entries or []]]
     entry = next((it for it in here if requires(it, key)), None) or (items[0][0] if items else next(iter(here), None))
     if entry is None:
         return Cure()
@@ -196,16 +196,6 @@ def requires(entry: Entry, key: str) -> bool:
     depth = 2 if section_of(entry) in ("coil_player", "variable_player") else 1
     has_settings = bool(entry.value.entries) or depth == 1 and entry.value.items is None and not entry.value.text
     return len(entry.path) == depth and has_settings and key not in [it.key for it in entry.value.entries or []]
-
-
-def items_without(root: Node, line: int, key: str) -> list[tuple[Entry, Node]]:
-    """The mappings in lists, at a line, that have no such setting; each with the entry that has the list."""
-    return [
-        (entry, item)
-        for entry in outline.entries(root)
-        for item in entry.value.items or []
-        if item.entries is not None and item.line == line and key not in [it.key for it in item.entries]
-    ]
 
 
 def of_duplicate(scene: Scenery, complaint: Complaint) -> Cure:

@@ -1,12 +1,13 @@
 """The ways to mend a text that is not in the subset of YAML that is read."""
 import re
+from bisect import bisect_left
 from dataclasses import dataclass
 
 from .blocks import Blocks
 from .mending import blanks, give, line_of, take_out
-from .outline import KEY, Entry, entries, indentation, is_item, without_comment
+from .outline import KEY, Entry, indentation, is_item, without_comment
 from .scenery import Scenery
-from .texts import Edit, Texts, plain
+from .texts import Edit, Texts
 from .ways import Cure, Way
 
 
@@ -88,20 +89,20 @@ def slips(scene: Scenery, text: str, at: int, fault: str) -> list[Way]:
     return found
 
 
-def of_tabs(scene: Scenery, text: str) -> list[Way]:
-    """All tabs at the front of lines, and after dashes, become spaces."""
-    # (the blanks before a tab are matched in one way only, so that a line of many takes no longer than it is long)
-    before = re.compile(r"[^\S\t]*(?:-[^\S\t]*)?\t")
-    tabs = [number for number, line in enumerate(plain(scene.texts[text])) if before.match(line)]
+def of_tabs(scene: Scenery, text: str, at: int) -> list[Way]:
+    """All tabs at the front of the lines of an entry, and after dashes, become spaces."""
+    blocks = scene.blocks(text)
+    entry = blocks.entry_at(blocks.section_at(at), at)
+    own = blocks.tabs[bisect_left(blocks.tabs, entry.first) : bisect_left(blocks.tabs, entry.last)]
+    more = f" {len(blocks.tabs) - 1} more lines of this text have tabs too." if len(blocks.tabs) > 1 else ""
     found = []
     for width in (2, 4, 8):
         edits = []
-        for number in tabs:
+        for number in own:
             line = line_of(scene.texts, text, number)
             front = re.match(r"[\s-]*", line)
             assert front
             edits.append(Edit(text, number, number + 1, (front[0].expandtabs(width) + line[front.end() :],)))
-        more = f" {len(tabs) - 1} more lines of this text have tabs too." if len(tabs) > 1 else ""
         found.append(Way(tuple(edits), "Indent with spaces." + more, "YAML takes no tabs there."))
     return found
 
@@ -159,20 +160,9 @@ def columns_above(blocks: Blocks, at: int) -> list[int]:
     return sorted({*columns} - {here}, key=lambda it: (abs(it - here), it))
 
 
-def twins(scene: Scenery, text: str, at: int) -> tuple[Entry, Entry] | None:
-    """The entry of a line whose key is there before in the same block, and that earlier entry."""
-    seen: dict[tuple[int, str], Entry] = {}
-    for entry in entries(scene.outlines[text]):
-        outer = id(entry.path[-1].value) if entry.path else 0
-        first = seen.setdefault((outer, entry.key), entry)
-        if entry.line == at and first is not entry:
-            return first, entry
-    return None
-
-
 def of_duplicates(scene: Scenery, text: str, at: int) -> list[Way]:
     """Joins a key with the same key above it: two lists, or two blocks."""
-    found = twins(scene, text, at)
+    found = scene.twins_at(text, at)
     if found is None:
         return []
     first, here = found
@@ -282,7 +272,7 @@ def cure_of(scene: Scenery, text: str, at: int, fault: str) -> Cure:
     """The ways to mend a line; the last ones take it out."""
     ways: list[Way] = []
     if fault == "Tab":
-        ways += of_tabs(scene, text)
+        ways += of_tabs(scene, text, at)
     if fault == "Indent":
         ways += of_indents(scene, text, at)
     if fault == "DuplicateKey":
