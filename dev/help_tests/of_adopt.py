@@ -18,11 +18,11 @@ if __name__ == "__main__":
 from help_tests.adopted import MACHINES, REWRITES, adopted, written
 from help_tests.adopted_draws import draw_folder
 from help_tests.adopted_plays import PLAYS, Play
-from help_tests.common import PROGRAM, TOP, takes_longer, test
+from help_tests.common import IS_UNPROVED, PROGRAM, TOP, takes_longer, test
 from help_tests.folders import damaged
 from help_tests.of_adopted_coils import driven_more
 from pinball_help import outline
-from pinball_help.adopt import report, run, whole
+from pinball_help.adopt import accept, report, run, whole
 from pinball_help.adopt.context import Context
 from pinball_help.adopt.features import EFFECTS, FEATURES, LOST, REWRITTEN, TABLE, UNSEEN, WEAKENED
 from pinball_help.adopt.source import Source, read
@@ -231,19 +231,24 @@ def each_feature_that_is_rewritten_is_played() -> None:
 # any folder
 
 
+def spent() -> float:
+    """Seconds of processor time; those of an unproved program do not count, which is slow."""
+    return time.process_time() if IS_UNPROVED else accept.spent()
+
+
 def wrong(seed: int, make: Callable[[random.Random, Path], Path]) -> str:
     """What is wrong with how a drawn folder is adopted, or nothing."""
     with tempfile.TemporaryDirectory(prefix="adopt-") as name:
         room = Path(name)
         folder = make(random.Random(seed), room / "mpf")
-        start = time.process_time()
+        start = spent()
         try:
             made = run.adopt(PROGRAM, folder)
         except (OSError, ValueError) as error:
             return "" if make is hostile_folder else f"{seed}: {error!r}"
         except Exception:
             return f"{seed}: {traceback.format_exc()}"
-        seconds = time.process_time() - start
+        seconds = spent() - start
         run.write(made, room / "new", force=False)
         answer = PROGRAM.check(room / "new")
         if not answer.accepted:

@@ -63,7 +63,7 @@ def most_of(given: list[Given], default: str) -> dict[str, int]:
         texts = it.words() if it.is_list or "," in it.text else [it.text]
         if key.endswith("_ms"):
             numbers = [n * 1_000 if re.fullmatch(r"[\d.]+ ?s\w*", text) else n for text in texts
-                       for n in map(float, re.findall(r"\d+\.?\d*", text)[:1])]
+                       for n in map(float, re.findall(r"\d{1,20}(?:\.\d{1,20})?", text)[:1])]
             found.setdefault(key, []).extend(max(1, int(it)) for it in numbers)
         elif key.endswith("_power"):
             found.setdefault(key, []).extend(thousandths(meant(it.key, text)[0]) or 0 for text in texts or [""])

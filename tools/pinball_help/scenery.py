@@ -126,11 +126,11 @@ class Scenery:
 
     def around(self, text: str, line: int) -> Entry | None:
         """The innermost entry that a line belongs to."""
-        found = None
-        for entry in outline.entries(self.outlines.get(text, Node(0))):
-            if entry.line <= line < max(entry.last, entry.line + 1):
-                found = entry
-        return found
+        for first in range(line, -1, -1):
+            for entry in reversed(self.entries_at(text, first)):
+                if line < max(entry.last, entry.line + 1):
+                    return entry
+        return None
 
     def places(self, text: str, line: int, name: str) -> Iterator[Place]:
         """Where a name is written in a line."""

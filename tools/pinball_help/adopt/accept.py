@@ -1,5 +1,5 @@
 """Asks the program about the new machine, and leaves out what it refuses, the smallest part first."""
-import time
+import os
 
 from ..answers import Answer, Complaint
 from ..graph import Graph, Post
@@ -7,14 +7,16 @@ from ..machine_graph import graph_of
 from ..outline import Entry
 from ..program import NoAnswer, Program
 from ..scenery import Scenery, section_of
-from ..texts import MACHINE, Line
+from ..texts import MACHINE, TEXT_LIMIT, Line, plain
 from .context import Context
-from .draft import SINGLE, Written
+from .draft import SINGLE, Written, entry_lines
 from .source import Place
 
-ROUNDS = 80
-FEW_CYCLES = 4  # that are broken one by one
-MUCH = 64  # entries that are taken out at once, if all else takes too long
+ROUNDS = 1_000
+ANSWERS = 60  # for which there is always time: an unproved program is slow
+FEW = 4  # rounds in which cycles are broken one by one, and little is taken out of a table
+MUCH = 16  # times as many entries are taken out at once, if all else takes too long
+TOO_LONG = "error 3 Yaml TooLong"
 LISTS = ("shots", "ball_switches")  # settings that lose one name
 INNER = ("coil_player", "variable_player")
 FEATURE_OF = {
@@ -29,28 +31,34 @@ SAID = {
 
 
 def accept(ctx: Context, program: Program, within: float) -> Answer:
-    """The answer for the new machine, which is yes: what is refused is left out."""
-    end = time.process_time() + within
-    share = 1
+    """The answer for the new machine, which is yes: what is refused is left out. `within` is in seconds."""
+    start, share, scene = spent(), 1, Scenery({})
     for count in range(ROUNDS):
-        if time.process_time() > end or count > ROUNDS // 2:
-            share *= 2
+        before = spent()
+        if before - start > within or count > ROUNDS // 2:
+            share *= MUCH
         texts = ctx.draft.files()
         answer = answer_of(program, texts)
+        within = max(within, ANSWERS * (spent() - before)) if count == 0 else within
         if answer is not None and answer.accepted:
             return answer
         if is_too_long(answer) and ctx.draft.has_notes():
             ctx.draft.forget_notes()
             ctx.log("comments", Place(ctx.source.files[0].name, 1, 1), "left out: the texts are too long", "unseen")
             continue
-        scene = Scenery({name: [Line(at, it) for at, it in enumerate(lines, 1)] for name, lines in texts.items()})
+        scene = scene_of(texts, scene)
         complaints = answer.complaints if answer else ()
-        dropped = [drop(ctx, scene, it, count > FEW_CYCLES) for it in complaints]
-        if not any(dropped) or share > MUCH:
-            drop_last(ctx, "the program has no answer for it" if answer is None else complaints[0].said, share)
+        dropped = [drop(ctx, scene, it, count) for it in complaints]
+        if not any(dropped) or share > 1:
+            drop_last(ctx, complaints[0].said if complaints else "the program has no answer for it", share)
     ctx.draft.texts, ctx.draft.modes = {"": {}}, []
     ctx.log("refused", Place(ctx.source.files[0].name, 1, len(ctx.source.files[0].lines)), "the whole machine", "lost")
     return program.check_texts(ctx.draft.files())
+
+
+def spent() -> float:
+    """Seconds of processor time, those of the program too."""
+    return sum(os.times()[:4])
 
 
 def answer_of(program: Program, texts: dict[str, list[str]]) -> Answer | None:
@@ -62,16 +70,27 @@ def answer_of(program: Program, texts: dict[str, list[str]]) -> Answer | None:
         raise
 
 
+def scene_of(texts: dict[str, list[str]], before: Scenery) -> Scenery:
+    """The texts with their outlines; those of texts that are as before are not read again."""
+    lines = {name: before.texts.get(name, []) for name in texts}
+    for name, text in texts.items():
+        if plain(lines[name]) != text:
+            lines[name] = [Line(at, it) for at, it in enumerate(text, 1)]
+    return Scenery(lines, before)
+
+
 def is_too_long(answer: Answer | None) -> bool:
-    return answer is None or any(it.message == "error 3 Yaml TooLong" for it in answer.complaints)
+    return answer is None or any(it.message == TOO_LONG for it in answer.complaints)
 
 
-def drop(ctx: Context, scene: Scenery, complaint: Complaint, all_cycles: bool) -> bool:
-    """Leaves out what a complaint is about. Says whether it has."""
+def drop(ctx: Context, scene: Scenery, complaint: Complaint, count: int) -> bool:
+    """Leaves out what a complaint is about, in a round of which so many come before. Says whether it has."""
     if complaint.name == "Cycle":
-        return drop_cycles(ctx, scene, complaint, all_cycles)
+        return drop_cycles(ctx, scene, complaint, count > FEW)
     if complaint.name == "Limit" and not complaint.line:
-        return drop_some(ctx, complaint)
+        return drop_some(ctx, complaint, 8 if count < FEW else 2)
+    if complaint.message == TOO_LONG:
+        return drop_long(ctx, complaint)
     if not complaint.line:
         return False
     entry = next(iter(it for it in scene.entries_at(complaint.text, complaint.line - 1) if it.key == complaint.key),
@@ -239,15 +258,29 @@ TABLES = {"switches": ("switches",), "coils": ("coils",), "variables": ("variabl
           "bindings": ("event_player", "coil_player", "variable_player")}
 
 
-def drop_some(ctx: Context, complaint: Complaint) -> bool:
-    """Takes the last half out of the section that has most of what there is too much of."""
+def drop_some(ctx: Context, complaint: Complaint, parts: int) -> bool:
+    """Takes the last part out of the section that has most of what there is too much of."""
     wanted = TABLES.get(complaint.words[0] if complaint.words else "", ())
     sections = [inside for of_mode in ctx.draft.texts.values() for name, inside in of_mode.items() if name in wanted]
     most = max(sections, key=len, default={})
-    for key in list(most)[len(most) // 2 :]:
+    for key in list(most)[len(most) - max(1, len(most) // parts) :]:
         say(ctx, most[key], "", complaint)
         del most[key]
-    return bool(sections)
+    return bool(most)
+
+
+def drop_long(ctx: Context, complaint: Complaint) -> bool:
+    """Takes the last entries out of a text that is too long."""
+    mode = next((it for it in ctx.draft.texts if ctx.draft.name(it) == complaint.text), "")
+    sections = ctx.draft.texts[mode]
+    size = sum(len(line.encode()) + 1 for line in ctx.draft.lines(mode))
+    before = size
+    while size > TEXT_LIMIT and any(sections.values()):
+        inside = max(sections.values(), key=len)
+        key, written = inside.popitem()
+        size -= sum(len(line.encode()) + 1 for line in entry_lines(key, written))
+        say(ctx, written, "", complaint)
+    return size < before
 
 
 def drop_last(ctx: Context, why: str, share: int) -> None:

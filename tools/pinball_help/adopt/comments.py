@@ -20,9 +20,9 @@ def keep(ctx: Context) -> None:
         for file in part.files:
             notes = Comments(file)
             notes.read()
-            if file is part.files[0]:
+            if file is part.files[0] and notes.head:
                 ctx.draft.note(part.mode, "").above += notes.head
-            else:
+            elif notes.head:
                 notes.note(notes.first).above[:0] = notes.head
             steps = steps_of(file)
             for line, note in sorted(notes.found.items()):
@@ -56,7 +56,8 @@ class Comments:
                     self.note(head).above.append(comment)
             elif without_comment(self.file.read[at]).strip():
                 self.row(at, indentation(line))
-                self.note(at).behind = comment
+                if comment:
+                    self.note(at).behind = comment
             elif comment and "config_version" not in comment:
                 self.waiting.append((at, indentation(line), comment))
         if self.first < 0:

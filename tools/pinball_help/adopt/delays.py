@@ -8,6 +8,7 @@ from .draft import Written
 from .source import Given
 
 SHARED = "adopted_delays"
+MOST_STARTS = 1_000  # events that start the shared mode
 SPARE_MODES = 6  # modes that are left for other rewrites
 # in a game, the shared mode runs before these
 EARLY = ("sw_start", "game_will_start", "game_starting", "player_added", "game_started", "player_turn_will_start")
@@ -51,7 +52,7 @@ def of_its_own(ctx: Context, name: str, head: str, delay: int, given: Given, say
         mode = shared(ctx, given)
         starts = ctx.draft.texts[mode]["mode"]["start_events"].value
         assert isinstance(starts, list)
-        starts += [head] if head not in starts else []
+        starts += [head] if head not in starts and len(starts) < MOST_STARTS else []
         wait(ctx, mode, name, head, delay, given, f"{MISSED}; {says}", running=False)
         ctx.log("a: b|2s", given.place, f"there is no room for a mode of its own: {MISSED}", "weakened")
         return

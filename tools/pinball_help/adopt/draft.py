@@ -1,5 +1,6 @@
 """The new machine while it is made, and how its texts are written."""
 import re
+from collections import Counter
 from dataclasses import dataclass, field
 from functools import cache
 from typing import Iterator
@@ -18,6 +19,10 @@ PLAIN = re.compile(r"(?![-?:](?:\s|$))[A-Za-z0-9_.+/-](?:[^\s:#]|:(?=\S)|(?<=\S)
 FIRST = ("mode", "modes", "machine", "game", "switches", "coils", "ball_devices", "flippers", "autofire_coils")
 SINGLE = ("mode", "machine", "game")
 PLAYERS = ("event_player", "coil_player", "variable_player")
+# of all texts: docs/profile.md has the limits of a plan
+MOST = {"switches": 256, "coils": 256, **dict.fromkeys((
+    "timers", "counters", "accruals", "sequences", "flippers", "autofire_coils", "ball_devices", "ball_saves", "multiballs",
+), 1_024)}
 
 
 @cache
@@ -94,6 +99,7 @@ class Draft:
     heads: dict[str, list[str]] = field(default_factory=dict)  # what is said at the front of a text
     notes: dict[tuple[str, str], Notes] = field(default_factory=dict)  # at sections, by mode and section; "": the text
     known: set[tuple[str, str]] = field(default_factory=set)  # the entries of all texts: section and name
+    counts: Counter[str] = field(default_factory=Counter)  # how many entries each section has in all texts
 
     def section(self, mode: str, name: str) -> dict[str, Written]:
         return self.texts.setdefault(mode, {}).setdefault(name, {})
@@ -105,7 +111,10 @@ class Draft:
                 raise NoName(f"`{key[:80]}` is no name, or too long")
             if (section, key) in self.known:
                 raise Taken(f"`{section}` has a `{key}` already")
+            if self.counts[section] == MOST.get(section):
+                raise NoRoom(f"a machine has at most {MOST[section]} `{section}`")
             self.known.add((section, key))
+            self.counts[section] += 1
         inside = self.section(mode, section)
         if key not in inside:
             inside[key] = written
@@ -281,6 +290,8 @@ def scalar(text: str) -> str:
 
 def clean(text: str) -> str:
     """A text without what no text may have: control characters, and what is no character."""
+    if text.isascii() and text.isprintable():
+        return text
     return "".join(it if it.isprintable() and it not in "\ufeff\ufffe\uffff" and not "\ud800" <= it <= "\udfff"
                    else "?" for it in text.replace("\t", " "))
 

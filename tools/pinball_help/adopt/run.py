@@ -17,7 +17,7 @@ from .context import Context
 from .features import LOST, REWRITTEN, UNSEEN, WEAKENED
 from .source import Place, read
 
-WITHIN = 3.0  # seconds in which the program is asked for single places; then more goes at once
+WITHIN = 3.0  # seconds of processor time in which single places are left out; then more goes at once
 MOST_LINES = 400  # of what differs, or is left out
 MOST_FILE = 8 * MIB
 

@@ -5,7 +5,7 @@ from .. import powers, tables
 from ..values import milliseconds, thousandths
 from . import values
 from .context import Context, More
-from .draft import SINGLE, Taken, Value, Written, sections
+from .draft import SINGLE, NotWritten, Taken, Value, Written, sections
 from .features import FEATURES
 from .source import Given
 
@@ -56,9 +56,9 @@ def of_entry(ctx: Context, mode: str, section: Given, entry: Given) -> None:
     try:
         ctx.draft.put(mode, section.key, entry.key, written)
         ctx.keep(entry)
-    except Taken as why:
-        ctx.lose("entry twice", entry, str(why))
-        if section.key == "coils":
+    except NotWritten as why:
+        ctx.lose(why.feature, entry, str(why), "lost")
+        if section.key == "coils" and isinstance(why, Taken):
             lower_both(ctx, entry, out)
 
 
