@@ -169,6 +169,32 @@ def a_search_that_is_cut_short_says_what_comes_first() -> None:
     assert "There may be others" in said and said.startswith(f"1. {MACHINE}:3: error 5 UnknownSetting"), said
 
 
+@test
+def what_was_found_before_time_ran_out_is_listed() -> None:
+    """And the answer says how it gets more time."""
+    delays = "".join(f"  e_{at}: x|{at + 1}s\n" for at in range(1_000))
+    with folder_of(texts_of(f"event_player:\n{delays}")) as folder, redirect_stdout(io.StringIO()) as written:
+        report = errors.search(PROGRAM, folder, within=0.3)
+        words = ["pinball-help", "errors", "--program", PROGRAM.path, "--within", "0", str(folder)]
+        with patch.object(sys, "argv", words):
+            assert command.main() == 1
+    assert report.is_cut_short and 5 < len(report.findings) < 1_000, len(report.findings)
+    assert "as time ran out" in written.getvalue() and "--within SECONDS" in written.getvalue(), written.getvalue()
+
+
+@test
+def a_tab_is_mended_in_its_own_entry() -> None:
+    """So each line with a tab is in one finding, also below another fault of YAML."""
+    switches = '  s_a:\n\tnumber: 1\n\ttype: NC\n  s_b:\n    label: "B\n\tnumber: 2\n'
+    report = search(texts_of(f"switches:\n{switches}coils:\n\tc_a:\n\t\tnumber: 3\n"))
+    changed = {it.line: [(change.line, change.new) for change in it.changes] for it in report.findings}
+    assert changed == {
+        4: [(4, "    number: 1"), (5, "    type: NC")], 7: [(7, '    label: "B"')], 8: [(8, "    number: 2")],
+        10: [(10, "  c_a:"), (11, "    number: 3")],
+    }, changed
+    assert report.answer and report.answer.accepted, report.findings
+
+
 # what a cure means
 
 CONDITIONS = {  # a handled event, and what is written in its place; nothing if none means the same
@@ -376,8 +402,8 @@ def many_findings_take_few_lines() -> None:
 
 @test
 def the_errors_of_a_large_machine_take_a_second() -> None:
-    """Of processor time, the program's too: so other work on the computer does not count. The compiled modules are kept,
-    as they are for a builder."""
+    """Of processor time, the program's too: so other work on the computer does not count. The compiled modules are
+    kept, as they are for a builder."""
     if IS_UNPROVED:
         raise NotTried("an unproved build takes many seconds")
     words = [sys.executable, str(TOP / "tools/pinball-help"), "errors", "--program", PROGRAM.path]

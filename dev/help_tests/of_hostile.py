@@ -13,6 +13,7 @@ import traceback
 from dataclasses import dataclass
 from itertools import accumulate
 from pathlib import Path
+from typing import Sequence
 
 if __name__ == "__main__":
     sys.path[:0] = [str(Path(__file__).resolve().parents[2] / it) for it in ("tools", "dev")]
@@ -208,13 +209,29 @@ def deep_brackets_and_long_numbers_are_read() -> None:
         assert ran.status == 1 and "To do:" in ran.out, (name, ran)
 
 
-def of_text(text: str, name: str, folder_name: str = "m") -> Ran:
+@test
+def a_search_ends_in_time() -> None:
+    """Whatever grows with the text: its lines, its entries, its tabs, or the blanks before a line."""
+    blocks = "\n".join(" " * (at * 2) + "a:" for at in range(900))
+    texts = {
+        "lines": "a: b\n" * 20_000,
+        "entries": "event_player:\n" + "".join(f"  e_{at}: e_{at + 1}|2s\n" for at in range(9_000)),
+        "tabs": "switches:\n" + "".join(f"  s_{at}:\n\tnumber: {at}\n" for at in range(3_000)),
+        "blanks": f"switches:\n  s_a:\n\tnumber: 1\nb:\n{blocks}",
+    }
+    for what, text in texts.items():
+        ran = of_text(text, "errors", more=["--within", "1"] if what != "blanks" else [])
+        assert ran.status == 1 and "to mend" in ran.out, (what, ran)
+        assert not takes_longer(ran.seconds, MOST_SECONDS) and ran.bytes < MOST_BYTES, (what, ran.seconds, ran.bytes)
+
+
+def of_text(text: str, name: str, folder_name: str = "m", more: Sequence[str] = ()) -> Ran:
     """How a command ends about a machine with this text."""
     with tempfile.TemporaryDirectory() as room:
         folder = Path(room) / folder_name
         (folder / "config").mkdir(parents=True)
         (folder / MACHINE).write_text(f"#config_version=6\n{text}\n")
-        return run([name, "--program", PROGRAM.path, str(folder)])
+        return run([name, *more, "--program", PROGRAM.path, str(folder)])
 
 
 @test
