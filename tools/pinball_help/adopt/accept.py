@@ -166,12 +166,12 @@ REQUIRED = ("main_coil", "activation_switch", "coil", "switch", "ball_switches",
 
 
 def say(ctx: Context, written: Written, inner: str, complaint: Complaint) -> None:
-    place = written.lines.get(inner) or written.lines.get(complaint.key) or next(iter(written.places), None)
-    if place is None:
-        place = Place(ctx.source.files[0].name, 1, 1)
-    key = complaint.key or " ".join(complaint.words[:6])
-    says = SAID.get(complaint.name, "`{}`: " + complaint.said).format(key[:60])
-    ctx.log(FEATURE_OF.get(complaint.name, "refused"), place, says, "lost")
+    """Says that an entry is lost, or one setting of it."""
+    place = written.lines.get(inner) or written.lines.get(complaint.key)
+    key = (complaint.key or " ".join(complaint.words[:6]))[:60]
+    says = SAID[complaint.name].format(key) if complaint.name in SAID else f"`{key}`: {complaint.message or complaint.said}"
+    for it in [place] if place else written.places or [Place(ctx.source.files[0].name, 1, 1)]:
+        ctx.log(FEATURE_OF.get(complaint.name, "refused"), it, says, "lost")
 
 
 def drop_mode(ctx: Context, mode: str, complaint: Complaint) -> bool:
