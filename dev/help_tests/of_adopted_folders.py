@@ -123,6 +123,18 @@ def the_limit_of_modes_is_met_or_said() -> None:
 
 
 @test
+def what_is_above_a_limit_of_the_plan_is_said() -> None:
+    text = "#config_version=6\ncoils:\n" + "".join(f"  c_{it}: {{number: {it}}}\n" for it in range(300))
+    text += "event_player:\n" + "".join(f"  e_{it}: f_{it}|2s\n" for it in range(700))
+    with tempfile.TemporaryDirectory() as room:
+        made = run.adopt(PROGRAM, written({"config/config.yaml": text}, Path(room)))
+    assert made.answer.accepted and len(made.context.draft.texts[""]["coils"]) == 256
+    lost = {it.place.line for it in made.context.done if it.effect == LOST and it.feature == "too many"}
+    kept = len(made.context.draft.texts[""]["event_player"])
+    assert lost >= {*range(259, 303)} and 300 < kept == 700 + 44 - len(lost), (len(lost), kept)
+
+
+@test
 def long_names_are_met_or_said() -> None:
     for length in 34, 52, 58, 64:
         text = re.sub(r"<(\w+)>", lambda found: (found[1] + "_" + "n" * 64)[:length], LONG)

@@ -14,7 +14,7 @@ from .source import Place
 
 ROUNDS = 1_000
 ANSWERS = 60  # for which there is always time: an unproved program is slow
-FEW = 4  # rounds in which cycles are broken one by one, and little is taken out of a table
+FEW = 4  # rounds in which cycles are broken one by one
 MUCH = 16  # times as many entries are taken out at once, if all else takes too long
 TOO_LONG = "error 3 Yaml TooLong"
 LISTS = ("shots", "ball_switches")  # settings that lose one name
@@ -48,7 +48,8 @@ def accept(ctx: Context, program: Program, within: float) -> Answer:
             continue
         scene = scene_of(texts, scene)
         complaints = answer.complaints if answer else ()
-        dropped = [drop(ctx, scene, it, count) for it in complaints]
+        part = 8 if before - start < within / 3 else 2
+        dropped = [drop(ctx, scene, it, count > FEW, part) for it in complaints]
         if not any(dropped) or share > 1:
             drop_last(ctx, complaints[0].said if complaints else "the program has no answer for it", share)
     ctx.draft.texts, ctx.draft.modes = {"": {}}, []
@@ -83,12 +84,12 @@ def is_too_long(answer: Answer | None) -> bool:
     return answer is None or any(it.message == TOO_LONG for it in answer.complaints)
 
 
-def drop(ctx: Context, scene: Scenery, complaint: Complaint, count: int) -> bool:
-    """Leaves out what a complaint is about, in a round of which so many come before. Says whether it has."""
+def drop(ctx: Context, scene: Scenery, complaint: Complaint, all_cycles: bool, part: int) -> bool:
+    """Leaves out what a complaint is about: of a table a half, an eighth or so. Says whether it has."""
     if complaint.name == "Cycle":
-        return drop_cycles(ctx, scene, complaint, count > FEW)
+        return drop_cycles(ctx, scene, complaint, all_cycles)
     if complaint.name == "Limit" and not complaint.line:
-        return drop_some(ctx, complaint, 8 if count < FEW else 2)
+        return drop_some(ctx, complaint, part)
     if complaint.message == TOO_LONG:
         return drop_long(ctx, complaint)
     if not complaint.line:
@@ -165,12 +166,12 @@ REQUIRED = ("main_coil", "activation_switch", "coil", "switch", "ball_switches",
 
 
 def say(ctx: Context, written: Written, inner: str, complaint: Complaint) -> None:
-    place = written.lines.get(inner) or written.lines.get(complaint.key) or next(iter(written.places), None)
-    if place is None:
-        place = Place(ctx.source.files[0].name, 1, 1)
-    key = complaint.key or " ".join(complaint.words[:6])
-    says = SAID.get(complaint.name, "`{}`: " + complaint.said).format(key[:60])
-    ctx.log(FEATURE_OF.get(complaint.name, "refused"), place, says, "lost")
+    """Says that an entry is lost, or one setting of it."""
+    place = written.lines.get(inner) or written.lines.get(complaint.key)
+    key = (complaint.key or " ".join(complaint.words[:6]))[:60]
+    says = SAID[complaint.name].format(key) if complaint.name in SAID else f"`{key}`: {complaint.message or complaint.said}"
+    for it in [place] if place else written.places or [Place(ctx.source.files[0].name, 1, 1)]:
+        ctx.log(FEATURE_OF.get(complaint.name, "refused"), it, says, "lost")
 
 
 def drop_mode(ctx: Context, mode: str, complaint: Complaint) -> bool:
@@ -258,12 +259,12 @@ TABLES = {"switches": ("switches",), "coils": ("coils",), "variables": ("variabl
           "bindings": ("event_player", "coil_player", "variable_player")}
 
 
-def drop_some(ctx: Context, complaint: Complaint, parts: int) -> bool:
+def drop_some(ctx: Context, complaint: Complaint, part: int) -> bool:
     """Takes the last part out of the section that has most of what there is too much of."""
     wanted = TABLES.get(complaint.words[0] if complaint.words else "", ())
     sections = [inside for of_mode in ctx.draft.texts.values() for name, inside in of_mode.items() if name in wanted]
     most = max(sections, key=len, default={})
-    for key in list(most)[len(most) - max(1, len(most) // parts) :]:
+    for key in list(most)[len(most) - max(1, len(most) // part) :]:
         say(ctx, most[key], "", complaint)
         del most[key]
     return bool(most)

@@ -20,9 +20,9 @@ FIRST = ("mode", "modes", "machine", "game", "switches", "coils", "ball_devices"
 SINGLE = ("mode", "machine", "game")
 PLAYERS = ("event_player", "coil_player", "variable_player")
 # of all texts: docs/profile.md has the limits of a plan
-MOST = {"switches": 256, "coils": 256, **dict.fromkeys((
-    "timers", "counters", "accruals", "sequences", "flippers", "autofire_coils", "ball_devices", "ball_saves", "multiballs",
-), 1_024)}
+DEVICES = ("timers", "counters", "accruals", "sequences", "flippers", "autofire_coils", "ball_devices", "ball_saves",
+           "multiballs")
+MOST = {"switches": 256, "coils": 256, **dict.fromkeys(DEVICES, 1_024)}
 
 
 @cache
