@@ -1,13 +1,67 @@
 """`pinball-help adopt`: no coil gets more power, or a longer pulse, than the MPF folder can have meant."""
 import re
+import tempfile
+from pathlib import Path
 
-from help_tests.adopted import MACHINES, REWRITES, adopted
-from help_tests.common import test
+from help_tests.adopted import MACHINES, REWRITES, adopted, written
+from help_tests.common import PROGRAM, test
 from pinball_help.adopt import run
 from pinball_help.adopt.settings import OLD_NAMES
 from pinball_help.adopt.source import Given
 from pinball_help.powers import meant
 from pinball_help.values import milliseconds, thousandths
+
+
+# settings of a coil in the MPF folder, and what they are in the new one
+MEANT = (
+    ("default_pulse_power: 1.0", {"default_pulse_power": "1.0"}),
+    ("default_pulse_power: 1", {"default_pulse_power": "0.125"}),
+    ("pulse_power: 1.0", {"default_pulse_power": "0.125"}),
+    ("hold_power: 4", {"default_hold_power": "0.5"}),
+    ("hold_power: 10", {"default_hold_power": "0.1"}),
+    ("hold_power: 60", {"default_hold_power": "0.125"}),
+    ("hold_power: 50%", {"default_hold_power": "50%"}),
+    ("hold_power: loud", {"default_hold_power": "0"}),
+    ("hold_power32: 8", {"default_hold_power": "0.25"}),
+    ("hold_pwm_mask: 11110000", {"default_hold_power": "0.5"}),
+    ("hold_pwm_mask: loud", {"default_hold_power": "0"}),
+    ("hold_power32: 8, default_hold_power: 0.5, hold_pwm_mask: 10000000", {"default_hold_power": "0.125"}),
+    ("default_hold_power: [0.5, 0.25]", {"default_hold_power": "0.25"}),
+    ("default_hold_power: 0.2999", {"default_hold_power": "0.299"}),
+    ("allow_enable: yes, default_hold_power: {a: 1}", {"allow_enable": "yes", "default_hold_power": "0"}),
+    ("allow_enable: maybe, default_pulse_ms: 5", {"default_pulse_ms": "5"}),
+    ("allow_enable: yes, allow_enable: no", {"allow_enable": "no"}),
+    ("max_hold_power: 0.25, default_hold_power: 0.5", {"max_hold_power": "0.25", "default_hold_power": "0.25"}),
+    ("hold_power: 2, max_hold_duration: 2s", {}),
+    ("max_pulse_power: 0.5", {"max_pulse_power": "0.5", "default_pulse_power": "0.5"}),
+    ("max_pulse_ms: 5", {"max_pulse_ms": "5", "default_pulse_ms": "5"}),
+    ("pulse_ms: 20, default_pulse_ms: 30", {"default_pulse_ms": "20"}),
+    ("default_pulse_ms: 30, pulse_ms: 20", {"default_pulse_ms": "20"}),
+    ("default_pulse_ms: 8.5", {"default_pulse_ms": "8ms"}),
+    ("default_pulse_ms: 0", {"default_pulse_ms": "1ms"}),
+    ("default_pulse_ms: 7 or so", {"default_pulse_ms": "7ms"}),
+    ("default_pulse_ms: 70 or so", {}),
+    ("default_pulse_ms: 6s", {"default_pulse_ms": "6ms"}),
+    ("default_pulse_ms: '20, 12'", {"default_pulse_ms": "12"}),
+    ("default_pulse_ms: 20 msec", {"default_pulse_ms": "20ms"}),
+    ("default_pulse_ms: settings.kick", {"default_pulse_ms": "15ms"}),
+    ("default_pulse_ms: 40}\n  c: {default_pulse_ms: 9, allow_enable: yes", {"default_pulse_ms": "9"}),
+    ("number: 1}\n  c: {default_pulse_ms: 40, hold_power: 2, max_pulse_ms: 8",
+     {"number": "1", "default_pulse_ms": "8"}),
+)
+
+
+@test
+def a_power_or_time_is_the_lowest_that_it_can_mean() -> None:
+    for given, wanted in MEANT:
+        text = f"#config_version=6\nsettings: {{kick: {{default: 15}}}}\ncoils:\n  c: {{{given}}}\n"
+        with tempfile.TemporaryDirectory() as room:
+            made = run.adopt(PROGRAM, written({"config/config.yaml": text}, Path(room)))
+        here = made.context.draft.texts[""]["coils"]["c"].value
+        assert here == wanted, (given, here)
+        as_it_is = given == ", ".join(f"{key}: {value}" for key, value in wanted.items())
+        said = any(4 <= it.place.line for it in made.context.done)
+        assert said or as_it_is, given
 
 
 @test

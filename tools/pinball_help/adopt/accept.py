@@ -169,7 +169,8 @@ def say(ctx: Context, written: Written, inner: str, complaint: Complaint) -> Non
     """Says that an entry is lost, or one setting of it."""
     place = written.lines.get(inner) or written.lines.get(complaint.key)
     key = (complaint.key or " ".join(complaint.words[:6]))[:60]
-    says = SAID[complaint.name].format(key) if complaint.name in SAID else f"`{key}`: {complaint.message or complaint.said}"
+    refused = f"`{key}`: {complaint.message or complaint.said}"
+    says = SAID[complaint.name].format(key) if complaint.name in SAID else refused
     for it in [place] if place else written.places or [Place(ctx.source.files[0].name, 1, 1)]:
         ctx.log(FEATURE_OF.get(complaint.name, "refused"), it, says, "lost")
 

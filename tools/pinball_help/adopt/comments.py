@@ -191,7 +191,7 @@ class Keeper:
         if elsewhere and len(steps) > 1:
             elsewhere[0].written.notes.setdefault((), Note()).add(note)
         elif not any((file.name, it.line + 1) in self.left_out for it in steps):
-            homes = self.inside(file, section)
+            homes = self.inside(file, section) if section.key == "tilt" else []  # (a section that is one entry)
             written = written or (self.best(homes, mode, section.key, "") if homes else None)
             if written:
                 written.notes.setdefault((), Note()).above += about(steps[-1], note)
@@ -235,16 +235,17 @@ def inside_of(value: Value, section: str, steps: tuple[Step, ...]) -> tuple[Path
 def place_in(values: list, step: Step) -> str | int | None:
     """Where a list has an item, which may be an entry of a mapping in the MPF folder."""
     node = step if isinstance(step, Node) else Node(step.line, text=step.key)
-    return next((it if isinstance(it, str) else at for at, it in enumerate(values) if is_same(it, node)), None)
+    words = {node.text, *(it.text for it in node.texts())}
+    return next((it if isinstance(it, str) else at for at, it in enumerate(values) if is_same(it, node, words)), None)
 
 
-def is_same(value: Value, node: Node) -> bool:
+def is_same(value: Value, node: Node, words: set[str]) -> bool:
     if isinstance(value, str):
-        return value in (node.text, *(it.text for it in node.texts()))
+        return value in words
     if isinstance(value, dict):
         both = [it for it in node.entries or [] if it.key in value]
         return bool(both) and all(it.value.text == value[it.key] for it in both)
-    return bool({*value} & {it.text for it in node.texts()})
+    return bool({*value} & words)
 
 
 def about(step: Step, note: Note) -> list[str]:
