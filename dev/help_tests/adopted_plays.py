@@ -179,6 +179,9 @@ LISTS = (
          logged(press("s_b", 1000)), ("1000 event a1", "1000 event a2"), features=("lax YAML",)),
     Play("events that lead to each other", GAME + "event_player:\n  s_a_active: x1\n  x1: x2\n  x2: x1, x3\n",
          press("s_a", 1000), ("1000 event x1",), features=("refused",)),
+    Play("an event of a counter that leads back to it", GAME +
+         "counters:\n  n: {count_events: 's_a_active, x1', count_complete_value: 9, events_when_hit: 'x1, x2'}\n",
+         press("s_a", 1000), ("1000 event x2",), features=("refused",)),
     Play("events of tags", GAME + "event_player:\n  sw_lane_active: lane\n  sw_lane_inactive: left\n",
          logged(press("s_b", 1000)), ("1000 event lane", "1020 event left"), features=("sw_TAG_active",)),
     Play("a score of an older version", GAME + "scoring:\n  s_a_active: {score: 1_000}\n",
@@ -491,6 +494,15 @@ MORE_PLAYS = (
          ("2500 event x_hit",), ("1000 event x_hit",),
          {"m": "mode: {start_events: ball_started}\nshots:\n  x: {switch: s_a}\n"
                "shot_groups:\n  g: {shots: x, enable_events: s_c_active}\n"}, ("shot_groups.enable_events",)),
+    Play("what only a lost event enables", GAME, logged(START, press("s_a", 1000)),
+         ("1000 event s_a_active",), ("1000 event x_hit", "1000 event logicblock_n_hit"),
+         {"m": "mode: {start_events: ball_started}\nshots:\n  x: {switch: s_a, enable_events: (name)_go}\n"
+               "counters:\n  n: {count_events: s_a_active, enable_events: 'go{ticks == 3}'}\n"}),
+    Play("a coil that only a lost event disables",
+         "game: {balls_per_game: 1}\n" + BALLS + MANUAL +
+         "autofire_coils:\n  a: {coil: c_hole, switch: s_a, disable_events: (name)_stop}\n",
+         logged(IN_PLAY, press("s_a", 6000), "7000 s_trough 1\n", press("s_a", 12000)),
+         ("6000 coil c_hole pulse 12 1000", "7500 event ball_ended"), ("12000 coil c_hole pulse 12 1000",)),
     Play("another tag of the start button", GAME.replace("tags: start", "tags: begin") +
          "game: {start_game_switch_tag: begin}\n", START, ("100 event game_started",),
          features=("game.start_game_switch_tag",)),

@@ -280,9 +280,22 @@ def damaged_folders_are_adopted_or_refused_with_a_message() -> None:
     assert not (said := all_wrong(DAMAGED, 8_200, hostile_folder)), said[0]
 
 
-if __name__ == "__main__":
-    count, seed = (int(it) for it in [*sys.argv[2:4], "1000", "0"][:2]) if len(sys.argv) < 4 else map(int,
-                                                                                                      sys.argv[2:4])
+def main() -> int:
+    """Adopts many drawn folders, and many damaged ones."""
+    count, seed = (int(it) for it in (sys.argv[2:] + ["1000", "0"][len(sys.argv[2:]) :]))
+    failed = 0
     for name, make in ("drawn", draw_folder), ("damaged", hostile_folder):
-        found = all_wrong(count, seed, make)
-        print(f"{count} {name} folders, {len(found)} wrong", *found[:8], sep="\n")
+        found = 0
+        for at in range(count):
+            if said := wrong(seed + at, make):
+                found += 1
+                print(f"{name} folder {said}", flush=True)
+            if at % 100 == 99:
+                print(f".. {at + 1} {name} folders, {found} wrong", flush=True)
+        print(f"{count} {name} folders, {found} wrong", flush=True)
+        failed += found
+    return 1 if failed else 0
+
+
+if __name__ == "__main__":
+    sys.exit(main())

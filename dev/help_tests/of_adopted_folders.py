@@ -88,6 +88,16 @@ def what_is_left_out_is_printed() -> None:
     assert said[0] == "Lost. These rules are gone, or never run." and said[-1].startswith("new/ADOPTED.md "), said
 
 
+@test
+def what_is_lost_is_shown_as_it_is_written() -> None:
+    tutorial, slips = (" ".join(adopted(it).files[report.NAME].split()) for it in (MACHINES[0], MACHINES[3]))
+    assert "- config/config.yaml:182: `jam_switch: s_trough_jam`" in tutorial
+    unknown = "nothing defines `c_trouhg`, or it may not be used so (near it: `c_trough`)"
+    for said in ("config.yaml:16: `tpye: NC`: `tpye` (near it: `type`)", "config.yaml:32-33: `coil`: `coil` (near it: ",
+                 f"config.yaml:51: `eject_coil: c_trouhg`: {unknown}"):
+        assert said in slips, (said, slips)
+
+
 # limits
 
 

@@ -443,6 +443,16 @@ def names_to_write_are_listed_in_one_line() -> None:
 
 
 @test
+def the_new_line_is_shown_if_the_words_do_not_have_it() -> None:
+    for line, wanted in {
+        "  s_a:\n  s_b": "4: Yaml NotInSubset: Write a `:` after it. `s_b:`",
+        "  s_a: {tpye: NC}": "3: UnknownSetting tpye: Write `type`.",
+    }.items():
+        lines = short.shown(findings(f"switches:\n{line}"))
+        assert lines == [f"{MACHINE}:{wanted}"], lines
+
+
+@test
 def the_settings_of_a_section_are_not_repeated() -> None:
     found = findings("switches:\n  a: {zzz: 1}\ncoils:\n  b: {yyy: 1}")
     wanted = f"{MACHINE}:3,5: UnknownSetting: Take it out: there is no such setting here."

@@ -95,7 +95,7 @@ def shown_by_chromium(page: str, part: str) -> str:
         file = Path(room) / "page.html"
         file.write_text(page)
         words = [browser, "--headless", "--no-sandbox", "--disable-gpu", f"--user-data-dir={room}/user", "--dump-dom"]
-        ran = subprocess.run([*words, f"file://{file}#{part}"], capture_output=True, text=True, timeout=120)
+        ran = subprocess.run([*words, f"file://{file}#{part}"], capture_output=True, text=True, timeout=600)
     assert "</html>" in ran.stdout, ran.stderr[-500:]
     return ran.stdout
 

@@ -9,6 +9,8 @@ from .scenery import Scenery
 COUNTER, TWO_CONDITIONS = "A counter in a condition", "Two conditions at once"
 
 ONLY_VARIABLES = "A condition compares a variable of the current player with a whole number, and nothing else."
+IN_BRACES = "A condition is in braces, right after the event."
+NO_BLANK = "No blank may come before the brace."
 ONE_COMPARISON = "A condition has one comparison."
 AN_ARGUMENT = "In MPF `{0}` may be a value that comes with the event `{1}`. Events bring no values here."
 NOT_CHANGED = "No entry changes a variable `{}`, so it would always be 0."
@@ -34,6 +36,7 @@ class Meaning:
 def parts_of(event: str) -> tuple[str, str, str] | None:
     """The name of an event, what is between the name and the brace, and what is in the braces."""
     found = re.fullmatch(r"([\w.-]+)(\s*)\{(.*)\}", event.strip(), re.ASCII)
+    found = found or re.fullmatch(r"([\w.-]+)(\s+)(?:(?:if|when|and)\s+)?(\S.*[=<>].*)", event.strip(), re.ASCII)
     return (found[1], found[2], found[3].strip()) if found else None
 
 
@@ -51,7 +54,7 @@ def meaning_of(scene: Scenery, event: str) -> Meaning | None:
     if len(found) > 1:
         return in_steps(name, [it.right for it in found])
     right = f"{name}{{{found[0].right}}}"
-    why = found[0].why or ("No blank may come before the brace." if gap else ONLY_VARIABLES)
+    why = found[0].why or (IN_BRACES if "{" not in event else NO_BLANK if gap else ONLY_VARIABLES)
     return Meaning(right, why, f"Write `{right}`.")
 
 

@@ -1,4 +1,5 @@
 """All errors at once: checks a copy, mends or leaves out what was refused, and checks again."""
+import re
 import sys
 import time
 from dataclasses import dataclass, field, replace
@@ -6,7 +7,8 @@ from pathlib import Path
 
 from .answers import Answer, Complaint
 from .findings import Finding, cure_of, finding_of
-from .mending import commented, line_of, take_out
+from .mending import blanks, commented, line_of, take_out
+from .powers import is_power
 from .probes import OutOfTime, Probes, Verdict, is_error
 from .program import Program
 from .scenery import Scenery
@@ -22,6 +24,12 @@ MOST_TRIES = 3  # to mend one place before something is taken out
 ALONE = ("Bundle", "Limit", "Cycle", "Bound")  # what has to be mended before others are said
 BEST = (0, 0, 0)
 Rank = tuple[int, int, int]
+# the settings of which a fault may come, if a copy has lost them
+OF_SETTINGS = {
+    "fault 2 PulseLimit": "pulse", "fault 3 PowerLimit": "power|hold|pulse|enable",
+    "fault 4 HoldNotAllowed": "hold|enable",
+    "fault 6 BallRoute": "^(?:ball_switches|eject_coil|eject_targets|mechanical_eject|tags)$",
+}
 SECTIONS_WITH_NAMES = ("switches", "coils", "ball_devices", "shots", "shot_profiles", "shot_groups")
 
 
@@ -64,8 +72,8 @@ class Search:
         self.counts: dict[tuple, int] = {}
         self.gone: set[str] = set()  # names that the copy defines no more
         self.touched: set[tuple[str, int, str]] = set()  # what has lost something: text, line of the file, key
-        self.touched_lines: set[tuple[str, int]] = set()
-        self.touched_keys: set[str] = set()
+        self.lost: set[tuple[str, int, str]] = set()  # of an entry: text, line of the file, the setting
+        self.lost_by_name: set[tuple[str, str]] = set()  # of a coil or a ball device: its name, the setting
         self.moved: set[tuple[str, int]] = set()  # lines of the files that the copy has elsewhere
         self.faults_were_reported = False
         self.waiting: list[Complaint] = []  # that have no finding yet
@@ -139,7 +147,7 @@ class Search:
                     lines |= lines_of(way.edits)
                     taken += way.edits
                     self.count(complaint)
-                    self.touch(complaint)
+                    self.touch(complaint, way)
         self.faults_were_reported |= not is_error(complaints[0])
         self.change(tuple(taken))
         return bool(taken)
@@ -168,8 +176,12 @@ class Search:
         return min(found, key=lambda it: it[0])[1] if found else None
 
     def last_ways(self, complaint: Complaint) -> list[Way]:
-        """If nothing else helps: takes the entry around a place out, and then what is around that."""
-        entry = self.scene.around(complaint.text, complaint.line - 1)
+        """If nothing else helps: takes the entry around a place out, and then what is around that; or a line that is
+        in no entry, since its first sign is none that begins a key."""
+        at = complaint.line - 1
+        entry = self.scene.around(complaint.text, at)
+        if entry is None and 0 <= at < len(self.scene.texts.get(complaint.text, [])):
+            return [Way((blanks(complaint.text, at, self.scene.blocks(complaint.text).end_of(at)),))]
         outer = [*entry.path, entry][::-1] if entry else []
         return [Way((take_out(self.scene.texts, complaint.text, it),)) for it in outer]
 
@@ -220,14 +232,13 @@ class Search:
             return (complaint.text, number, complaint.key) in self.touched
         if complaint.key == "DuplicateKey":
             return (complaint.text, number) in self.moved
-        if complaint.message in (
-            "fault 2 PulseLimit", "fault 3 PowerLimit", "fault 4 HoldNotAllowed", "fault 6 BallRoute"
-        ):
-            own = (complaint.text, number) in self.touched_lines or complaint.key in self.touched_keys
-            return own or self.faults_were_reported
+        if complaint.message in OF_SETTINGS:
+            lost = {setting for text, line, setting in self.lost if (text, line) == (complaint.text, number)}
+            lost |= {setting for name, setting in self.lost_by_name if name == complaint.key}
+            return self.faults_were_reported or any(re.search(OF_SETTINGS[complaint.message], it) for it in lost)
         return False
 
-    def touch(self, complaint: Complaint) -> None:
+    def touch(self, complaint: Complaint, way: Way) -> None:
         """Notes what loses something at a complaint: the entries around it."""
         entry = self.scene.entry_at(complaint.text, complaint.line - 1, complaint.key) if complaint.line else None
         if entry is None or complaint.name == "Missing":
@@ -235,8 +246,10 @@ class Search:
         for outer in entry.path[1:]:
             number = self.scene.number(complaint.text, outer.line)
             self.touched |= {(complaint.text, number, outer.key), (complaint.text, number, entry.key)}
-            self.touched_lines.add((complaint.text, number))
-            self.touched_keys |= {outer.key, entry.key}
+            if not way.near or is_power(way.near):  # (else the setting that was meant is there)
+                self.lost.add((complaint.text, number, entry.key))
+                if outer is entry.path[1] and entry.path[0].key in SECTIONS_WITH_NAMES:
+                    self.lost_by_name.add((outer.key, entry.key))
 
     def change(self, edits: tuple[Edit, ...]) -> None:
         names = self.names()

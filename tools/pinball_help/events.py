@@ -11,6 +11,7 @@ from .texts import Edit, Texts
 from .ways import Way
 
 BEFORE_THE_BRACE = r"(?<=[\w.-])\s+(?=\{[^}]*[=<>])"
+IN_WORDS = r"([\w.-]+)\s+(?:if|when)\s+([^{}]*[=<>][^{}]*)"
 POSTED = "A condition of an event that is posted is not read."
 MOVED = "Move the condition to the event that is handled: `{}`."
 
@@ -18,6 +19,8 @@ MOVED = "Move the condition to the event that is handled: `{}`."
 def way_of(scene: Scenery, text: str, entry: Entry) -> Way | None:
     """The way to mend the conditions in the value of an entry, if there are such."""
     value = raw(scene.texts, text, entry)
+    if section_of(entry) == "event_player" and re.fullmatch(IN_WORDS, value, re.ASCII):
+        return of_posted(scene, text, entry)
     if "{" not in value or "|" in value:
         return None
     if section_of(entry) == "event_player":
@@ -63,6 +66,8 @@ def of_posted(scene: Scenery, text: str, entry: Entry) -> Way | None:
     """Conditions of events that are posted: each becomes an entry of its own."""
     items = entry.value.texts()
     posted = [(it.text.partition("{")[0], it.text.partition("{")[2].removesuffix("}")) for it in items]
+    if in_words := re.fullmatch(IN_WORDS, raw(scene.texts, text, entry), re.ASCII):
+        items, posted = items[:1], [(in_words[1], in_words[2].strip())]
     if not any(condition for _, condition in posted) or not values.is_event(entry.key):
         return None
     meanings = {condition: meaning_of(scene, joined(entry.key, condition)) for _, condition in posted if condition}

@@ -1,5 +1,6 @@
 """What is no error, and seldom meant: a machine without a game, a mode without its text, a setting that is skipped."""
 import os
+import re
 from dataclasses import dataclass
 from pathlib import Path
 
@@ -84,6 +85,9 @@ def why_absent(folder: Path, item: Node) -> str:
         return f"Its file is called `{other[0]}`, and has to be `{name}.yaml`: as it is, the mode has no text."
     if name in OF_MPF:
         return ""
+    alone = re.sub(r"\.ya?ml$", "", name)
+    if alone != name:
+        return f"A mode is listed by the name of its folder: write `{alone}`."
     return f"There is no `{mode_text(name)}`, so the mode does nothing. Look for a slip."
 
 

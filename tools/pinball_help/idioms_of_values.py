@@ -7,6 +7,8 @@ A row holds for an entry of a section (or of several) whose key and raw value ma
     value B       its value becomes B
     keys          a mapping becomes the list of its keys
     first         a list becomes its first item
+    dash          a mapping becomes the one item of a list
+    blank         a setting gets a blank after its `:`, or the entry is taken out
     hits          switches become the events that hit a shot
     coils         names of coils become a mapping in which each is pulsed
     number        a formula becomes the first number in it
@@ -91,6 +93,23 @@ IDIOMS = (
         ("keys",), "event_player:\n  a:\n    b:\n      priority: 5",
     ),
     Idiom(
+        "event_player", ANY, rf"^\{{?\s*[\w.]+\s*:\s*{TIME}\s*(?:$|[,}}])",
+        "Delays are not carried out here.",
+        f"Write the names of the events alone: each {POSTED_LATER.replace('it is then', 'is then')}",
+        ("keys",), "event_player:\n  a: {b: 2s}", DELAY,
+    ),
+    Idiom(
+        "event_player", ANY, r"^(?:- )?\{?\s*[\w.]+\s*:",
+        "Settings of a posted event are not read here.",
+        "Write the names of the events alone: `a: b, c`.",
+        ("keys",), "event_player:\n  a: {b: {c: 1}}",
+    ),
+    Idiom(
+        "timers", "control_events", r"^\{?\s*(?:event|action|value)\s*:",
+        "It is a list, also of one mapping.", "Begin each mapping with a dash: `- event: EVENT`.",
+        ("dash",), "mode:\ntimers:\n  t:\n    control_events:\n      event: e\n      action: start",
+    ),
+    Idiom(
         ANY, EVENTS, r"^\{?\s*[\w.]+\s*:",
         "MPF takes an event with a delay, as `e: 1s`. Delays are not carried out here.",
         f"Write a list of the events' names: they then act at once. {ACTS_LATER}",
@@ -104,6 +123,16 @@ IDIOMS = (
         ("number",), "variable_player:\n  e:\n    score: current_player.x + current_player.y", COMPUTED,
     ),
     Idiom(
+        "variable_player", ANY, r"^\+\d+$",
+        "A number is added anyway.", "Write the number without `+`.",
+        ("sub", r"\+(?=\d)", ""), "variable_player:\n  e:\n    score: +100",
+    ),
+    Idiom(
+        "variable_player", ANY, r"^(?:add|set) +-?\d+$",
+        "What is done with the number is a setting of its own.", "Write `{int: NUMBER, action: set}`, or `add`.",
+        ("sub", r"\b(add|set) +(-?\d+)", r"{int: \2, action: \1}"), "variable_player:\n  e:\n    score: set 0",
+    ),
+    Idiom(
         "variable_player", ANY, r"^-?\d{1,3}([,_]\d{3})+$",
         "A number has digits alone.", "Write the number without `,` and `_`.",
         ("sub", r"(?<=\d)[,_](?=\d)", ""), "variable_player:\n  e:\n    score: 10_000",
@@ -114,6 +143,12 @@ IDIOMS = (
         "MPF may read it from its settings or work it out. Here it is a number that is written.",
         "Write the number: the one below is an example.",
         ("value", "3"), "counters:\n  c:\n    count_events: a\n    count_complete_value: settings.y",
+    ),
+    Idiom(
+        "variable_player", EVENT, r"^[^\s{\[]",
+        "An entry is an event, and below it are variables.",
+        "Write an event, and below it, deeper, the variable with its number: `EVENT: {score: 100}`.",
+        ("out",), "variable_player:\n  score: 1000",
     ),
     Idiom(
         "variable_player", ANY, r"\|\s*block",
@@ -142,7 +177,7 @@ IDIOMS = (
         "switches|coils|flippers|autofire_coils", ENTRY, ANY,
         "Its settings are missing, or are below it as one text.",
         "Write its settings below it, deeper, each with a blank after the `:`.",
-        ("out",), "switches:\n  s: yes",
+        ("blank",), "switches:\n  s: yes",
     ),
     Idiom(
         "switches", "type", r"(?i)^n[co]$",
@@ -166,7 +201,8 @@ IDIOMS = (
     ),
     Idiom(
         "coils", r"\w+_pulse_ms", r"^\d{4,}|^[\d.]+ *s$|^0",
-        "A pulse lasts from 1 to 5,000 ms.", "Write how long the coil may be on, as `20ms`.",
+        "A pulse lasts from 1 to 5,000 ms.",
+        "Write how long the coil may be on, as `20ms`. The copy goes on without it.",
         ("out",), "coils:\n  c: {default_pulse_ms: 6000}",
     ),
     Idiom(
@@ -192,7 +228,7 @@ IDIOMS = (
         ("value", "disable"), "coils:\n  c:\ncoil_player:\n  e:\n    c: off",
     ),
     Idiom(
-        "coil_player", ANY, r"^\d+(ms)?$",
+        "coil_player", ANY, r"^(pulse\s+)?\d+\s*(ms)?$",
         "The length of a pulse is a setting of its own.", "Write `{action: pulse, pulse_ms: 20}`.",
         ("value", "pulse"), "coils:\n  c:\ncoil_player:\n  e:\n    c: 20ms",
     ),

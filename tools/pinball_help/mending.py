@@ -41,9 +41,10 @@ def emptied(entry: Entry) -> Entry:
 
 
 def item_around(entry: Entry) -> Node | None:
-    """The item of a list to take out with an entry, since it has to have this entry."""
-    items = entry.path[-1].value.items or [] if entry.path and entry.key == "event" else []
-    return next((it for it in items if any(entry is own for own in it.entries or [])), None)
+    """The item of a list to take out with an entry, since it has to have this entry, or has nothing else."""
+    items = entry.path[-1].value.items or [] if entry.path else []
+    item = next((it for it in items if any(entry is own for own in it.entries or [])), None)
+    return item if item and (entry.key == "event" or len(item.entries or []) == 1) else None
 
 
 def take_out(texts: Texts, name: str, entry: Entry) -> Edit:

@@ -133,4 +133,4 @@ def advice(group: list[Finding], room: int) -> str:
 
 def is_said(new: str, write: str) -> bool:
     """Whether the words have the new line, or what is new in it."""
-    return any(it in new for it in re.findall("`([^`]+)`", write))
+    return any(it in new for it in re.findall("`([^`]{2,})`", write))

@@ -2,11 +2,11 @@
 import re
 from dataclasses import replace
 
-from . import drop_targets, events, overwrites, powers, profile
+from . import drop_targets, events, overwrites, powers, profile, signs
 from .answers import Complaint
 from .idioms import OLDER_NAMES, RECIPES, RECIPES_OF_SECTIONS, SECTIONS, SECTIONS_RENAMED, SETTINGS
 from .mending import add, add_to_item, blanks, give, line_of, rename, take_item_out, take_out
-from .near import nearest
+from .near import longer, nearest, words_of
 from .outline import Entry, unquoted
 from .scenery import Scenery, raw, section_of, setting_table, siblings_of
 from .texts import MACHINE, VERSION, Edit
@@ -41,17 +41,30 @@ def of_version(scene: Scenery, complaint: Complaint) -> Cure:
     text, first = complaint.text, line_of(scene.texts, complaint.text, 0)
     in_place = not first.strip() or first.lstrip("\ufeff").startswith(("#", "---"))
     lines = (VERSION,) if in_place else (VERSION, first)
-    why = ""
-    if found := re.search(r"config_version\s*=\s*(\d+)", first):
-        why = f"It is written for version {found[1]} of MPF's configurations." if found[1] != "6" else ""
     numbers = () if in_place else (0, 1)
     edit = Edit(text, 0, min(1, len(scene.texts[text])), lines, numbers)
-    return Cure(ways=(Way((edit,), f"Write `{VERSION}` as the first line.", why),), out=(edit,), mark=(0, len(first)))
+    way = Way((edit,), f"Write `{VERSION}` as the first line.", why_no_version(first))
+    if first.strip("\ufeff \t") == VERSION and first.startswith("\ufeff"):
+        way = replace(way, write="Save the file as UTF-8 without it. Editors call it a BOM.")
+    return Cure(ways=(way,), out=(edit,), mark=(0, len(first)))
+
+
+def why_no_version(first: str) -> str:
+    """Why the first line of a text is not the one that it has to be, if it is like it."""
+    if first.startswith("\ufeff"):
+        return "The file begins with a byte order mark, which no editor shows."
+    found = re.search(r"config_version\s*[=:]\s*(\d+)", first)
+    if found and found[1] != "6":
+        return f"It is written for version {found[1]} of MPF's configurations."
+    return "It has to be just that, without any blank." if found else ""
 
 
 def of_section(scene: Scenery, complaint: Complaint) -> Cure:
-    text, key = complaint.text, complaint.key
-    entry = scene.entry_at(text, complaint.line - 1, key)
+    text, key, line = complaint.text, complaint.key, complaint.line - 1
+    entry = scene.entry_at(text, line, key)
+    if way := signs.way_of_line(scene, text, line) if signs.ODD.search(key) else None:
+        out = (blanks(text, line, scene.blocks(text).end_of(line)),)
+        return Cure(ways=(way, Way(out, way.write, way.why)), out=out)
     if entry is None:
         return Cure()
     has = profile.sections()
@@ -63,7 +76,7 @@ def of_section(scene: Scenery, complaint: Complaint) -> Cure:
     if key in SECTIONS:
         return of_section_of_mpf(scene, text, entry)
     here = [name for name, whose in has.items() if whose in (kind, "both")]
-    if near := nearest(key, [*here, *profile.skipped()]):
+    if near := nearest(key, [*here, *profile.skipped()]) or first_words_of(key, here):
         edit = rename(scene.texts, text, entry, near)
         out = (take_out(scene.texts, text, entry),)
         twin = next((it for it in scene.outlines[text].entries or [] if it.key == near), None)
@@ -74,10 +87,31 @@ def of_section(scene: Scenery, complaint: Complaint) -> Cure:
         return Cure(ways=(*ways, Way(out, "Take it out.", near=near)), out=out, mark=(entry.start, entry.end))
     settings = {name for section in profile.TABLES for name in profile.settings(section)} | profile.of_other_tools()
     if key in settings:
-        return taken_out(scene, text, entry, "Indent it with spaces, below the entry that it belongs to.",
-                         f"`{key}` is a setting, and begins at the left edge.")
-    return taken_out(scene, text, entry, "Take it out of a copy of the folder, and check the copy.",
-                     "No section of this name is read here.")
+        return of_left_edge(scene, text, entry)
+    write = "Look for a slip in its name. If MPF needs it, take it out of a copy of the folder, and check the copy."
+    return taken_out(scene, text, entry, write, "No section of this name is read here.")
+
+
+def of_left_edge(scene: Scenery, text: str, entry: Entry) -> Cure:
+    """A setting that begins at the left edge: it may belong to the section above it."""
+    why = f"`{entry.key}` is a setting, and begins at the left edge."
+    cure = taken_out(scene, text, entry, "Indent it with spaces, below the entry that it belongs to.", why)
+    known = {name: {*profile.settings(name), *profile.of_other_tools()} for name in profile.SINGLE}
+    above = [it for it in scene.outlines[text].entries or [] if it.line < entry.line and it.key in profile.sections()]
+    if not above or entry.key not in known.get(above[-1].key, ()) or above[-1].value.text:
+        return cure
+    inner = above[-1].value.entries
+    column = inner[0].start if inner else 2
+    edit = reindented(scene, text, entry.line, column)
+    way = Way((edit,), f"Indent it by {column} spaces, below `{above[-1].key}`.", why)
+    return replace(cure, ways=(way, *cure.ways))
+
+
+def first_words_of(key: str, sections: list[str]) -> str:
+    """The section whose name begins with this one, as `autofire_coils` with `autofire`, if there is one alone."""
+    words = words_of(key)
+    found = [it for it in longer(key, sections) if words_of(it)[: len(words)] == words]
+    return found[0] if len(found) == 1 else ""
 
 
 def of_section_of_mpf(scene: Scenery, text: str, entry: Entry) -> Cure:
@@ -99,6 +133,8 @@ def of_setting(scene: Scenery, complaint: Complaint) -> Cure:
     entry = scene.entry_at(text, complaint.line - 1, key)
     if entry is None:
         return Cure()
+    if cure := signs.cure_of(scene, text, entry, of_key=True):
+        return cure
     table = setting_table(entry)
     called = profile.CALLED.get(table, f"an entry of `{table}`")
     says = (f"{called[0].upper()}{called[1:]} has no setting `{key}`.",)
@@ -114,7 +150,7 @@ def of_setting(scene: Scenery, complaint: Complaint) -> Cure:
         write = f"Indent it by {column} spaces, as `{entry.path[-1].key}`."
         return Cure(says, True, (Way((edit,), write, "It has settings of its own."), Way(out)), out, mark)
     near = nearest(key, [*profile.settings(table), *profile.of_other_tools()])
-    if near and near not in siblings:
+    if near := near if near and near not in siblings else longer_name(entry, siblings):
         edit, named, reason = as_setting(scene, text, entry, near)
         way = Way((edit,), f"Write `{named}`.", reason, near)
         return Cure(says, True, (way, Way(out, near=near)), out, mark, stays=powers.is_power(near))
@@ -124,6 +160,20 @@ def of_setting(scene: Scenery, complaint: Complaint) -> Cure:
         )
     others = ", ".join(f"`{name}`" for name in profile.settings(table))
     return Cure(says, True, (Way(out, f"Take it out. The settings are {others}."),), out, mark)
+
+
+def longer_name(entry: Entry, siblings: set[str]) -> str:
+    """The setting that a shorter name stands for, as `activation_switch` for `switch`, if one alone can be meant.
+
+    That is no list of events, where any value would do, and no power of a coil."""
+    table = setting_table(entry)
+    if table in ("coils", "coil_player"):
+        return ""
+    if table == "variable_player" and entry.key in ("value", "amount", "points", "number"):
+        return "int" if "int" not in siblings else ""
+    found = [it for it in longer(entry.key, profile.settings(table)) if it not in siblings and "event" not in it]
+    required = [it for it in found if profile.settings(table)[it].default == "required"]
+    return found[0] if len(found) == 1 else required[0] if len(required) == 1 else ""
 
 
 def is_too_deep(entry: Entry, table: str) -> bool:
@@ -181,14 +231,15 @@ def of_missing(scene: Scenery, complaint: Complaint) -> Cure:
     called = profile.CALLED.get(table, "It")
     stand_in = "start" if (table, key) == ("control_events", "action") else STAND_INS.get(key, f"a_{key}")
     near = nearest(key, [it.key for it in entry.value.entries or []])
-    where = f"an item of `{entry.key}`" if in_item else f"`{entry.key}`"
+    where = "this one" if in_item else f"`{entry.key}`"
     says = (f"{called[0].upper()}{called[1:]} has to have `{key}`, and {where} has none.",)
     setting = f"{key}: {stand_in}"
     edit = add_to_item(scene.texts, text, items[0][1], setting) if in_item else add(scene.texts, text, entry, setting)
     shown = edit.lines[0].strip() if len(edit.lines) == 1 else setting
     way = Way((edit,), f"Write `{key}:` there, as `{shown}`. {EXAMPLE}", f"It has `{near}`." if near else "")
     out = (take_out(scene.texts, text, entry),)
-    return Cure(says, True, (way, Way(out, way.write, way.why)), out, (entry.start, entry.end))
+    mark = (items[0][1].start, len(line_of(scene.texts, text, line))) if in_item else (entry.start, entry.end)
+    return Cure(says, True, (way, Way(out, way.write, way.why)), out, mark)
 
 
 def requires(entry: Entry, key: str) -> bool:

@@ -2,19 +2,22 @@
 import re
 from dataclasses import replace
 
-from . import events, powers, profile, values
+from . import events, powers, profile, signs, values
 from .answers import Complaint
 from .conditions import NO_CURE, ONLY_VARIABLES, meaning_of
 from .graph import says_yes, setting
 from .idioms_of_values import ACTS_LATER, ANY, DELAY, ENTRY, EVENT, IDIOMS, Idiom
 from .mending import add, blanks, give, line_of, rename, substitute, take_item_out, take_out
+from .mending import replace as replace_in
 from .near import nearest
-from .outline import Entry, Node, unquoted
+from .outline import Entry, Node, unquoted, without_comment
 from .scenery import Scenery, raw, section_of, setting_table, siblings_of
 from .texts import Edit
 from .ways import EXAMPLE, Cure, Way
+from .ways_of_yaml import reindented
 
 PLACEHOLDER = r"\(([^)]*)\)"
+ACTIONS = ("pulse", "enable", "disable")  # of a coil
 
 
 def states_of(value: str) -> str:
@@ -38,7 +41,8 @@ def edits_of(scene: Scenery, text: str, entry: Entry, idiom: Idiom) -> tuple[Edi
     if kind == "boolean":
         return (give(texts, text, entry, "yes" if value == "1" else "no"),)
     if kind == "keys":
-        keys = [it.key for it in entry.value.entries or []] or names
+        items = [it.entries[0].value.text for it in entry.value.items or [] if it.entries]
+        keys = [it.key for it in entry.value.entries or []] or [it for it in items if it] or names
         return (give(texts, text, entry, f"[{', '.join(keys)}]"),)
     if kind == "number":
         number = re.search(r"(?<![\w.])-?\d+(?![\w.])", value)
@@ -47,15 +51,47 @@ def edits_of(scene: Scenery, text: str, entry: Entry, idiom: Idiom) -> tuple[Edi
         return (of_placeholder(scene, text, entry),)
     if kind == "hits":
         return events.hits_way(scene, text, entry, "", "").edits
-    if kind == "coils" and names:
-        return (give(texts, text, entry, "{" + ", ".join(f"{it}: pulse" for it in names) + "}"),)
+    if kind == "coils" and (coils := [it for it in names if it not in ACTIONS]):
+        action = next((it for it in names if it in ACTIONS), "pulse")
+        return (give(texts, text, entry, "{" + ", ".join(f"{it}: {action}" for it in coils) + "}"),)
     if kind == "first" and names:
         return (give(texts, text, entry, names[0]),)
     if kind == "states":
         return (give(texts, text, entry, states_of(value)),)
     if kind == "steps" and names:
         return (give(texts, text, entry, f"[{', '.join(names)}]"),)
+    if kind == "dash":
+        return (as_list(scene, text, entry),)
+    if kind == "blank" and (edit := with_blank(scene, text, entry)):
+        return (edit,)
     return (take_out(texts, text, entry),)
+
+
+def as_list(scene: Scenery, text: str, entry: Entry) -> Edit:
+    """A mapping becomes a list that has it as its one item."""
+    if entry.value.line == entry.line:
+        return give(scene.texts, text, entry, f"[{raw(scene.texts, text, entry)}]")
+    lines = [line_of(scene.texts, text, at) for at in range(entry.value.line, entry.last)]
+    column = entry.value.start
+    new = [f"{line[:column]}  {line[column:]}" if line.strip() else "" for line in lines]
+    new[0] = f"{lines[0][:column]}- {lines[0][column:]}"
+    return Edit(text, entry.value.line, entry.last, tuple(new))
+
+
+def with_blank(scene: Scenery, text: str, entry: Entry) -> Edit | None:
+    """Writes a blank after the `:` of the setting of an entry that has nothing else; or the key `number`, if it has
+    just that."""
+    value, section = raw(scene.texts, text, entry), section_of(entry)
+    if section in ("switches", "coils") and re.fullmatch(r"[0-9][0-9-]*", value):
+        return give(scene.texts, text, entry, f"{{number: {value}}}")
+    at = entry.line + 1
+    line = line_of(scene.texts, text, at)
+    found = re.match(r"(\s*(\w+))\s*[:=]\s*(?=\S)", line)
+    settings = {*profile.settings(section), *profile.of_other_tools()}
+    is_lone = not entry.in_braces and value == without_comment(line).strip()
+    if not found or not is_lone or found[2] not in settings:
+        return None
+    return Edit(text, at, at + 1, (f"{found[1]}: {line[found.end():]}",))
 
 
 def of_placeholder(scene: Scenery, text: str, entry: Entry) -> Edit:
@@ -105,7 +141,12 @@ def of_names(scene: Scenery, text: str, entry: Entry) -> Cure | None:
         return cure_at(scene, text, entry, (f"`{key}` is a name that is there already.",), way, whole=True)
     if re.fullmatch(r"[\w.-]{1,64}", key, re.ASCII) or not entry.path:
         return None
-    if section_of(entry) in profile.PLAYERS and "{" in key:
+    if re.fullmatch(r"[\w.-]+\s*\{\s*[\w.-]+", key, re.ASCII):
+        name = re.split(r"\s*\{", key)[0]
+        edit = replace_in(scene.texts, text, entry.line, entry.start + len(name), entry.start + key.index("{"), ": ")
+        way = Way((edit,), f"Write `{name}: {{..}}`.", "A `:` is missing after the name.")
+        return cure_at(scene, text, entry, (f"`{key}` is no name.",), way, whole=True)
+    if section_of(entry) in profile.PLAYERS and ("{" in key or re.search("[=<>]", key)):
         return None if values.is_event(key) else of_condition(scene, text, entry)
     right = as_name(key.split("|")[0])
     why = "A name has letters without accents, digits, `_`, `-` and `.` alone, at most 64 of them."
@@ -140,12 +181,14 @@ def of_condition(scene: Scenery, text: str, entry: Entry) -> Cure:
 def of_value(scene: Scenery, complaint: Complaint) -> Cure:
     text, line = complaint.text, complaint.line - 1
     entry = scene.entry_at(text, line, complaint.key)
-    if complaint.key == "modes" and (entry is None or entry.key != "modes"):
-        return of_mode_name(scene, text, line)
+    if complaint.key == "modes" and (listed := of_mode_name(scene, text, line)):
+        return listed
     if complaint.key == "start_events" and (held := of_held_end(scene, text, line)):
         return held
     if entry is None:
         return of_no_mapping(scene, text, line)
+    if odd := signs.cure_of(scene, text, entry):
+        return odd
     if named := of_names(scene, text, entry):
         return named
     cure = of_entry(scene, text, entry)
@@ -158,6 +201,8 @@ def of_value(scene: Scenery, complaint: Complaint) -> Cure:
 def of_entry(scene: Scenery, text: str, entry: Entry) -> Cure:
     """Where the value of an entry is at fault."""
     says = takes(entry)
+    if way := below_the_entry_above(scene, text, entry):
+        return replace(cure_at(scene, text, entry, (), way), whole=True)
     idiom = idiom_of(scene, text, entry)
     near = nearest(raw(scene.texts, text, entry), words_of(entry)) if idiom is None or idiom.value == ANY else ""
     if near:
@@ -172,8 +217,7 @@ def of_entry(scene: Scenery, text: str, entry: Entry) -> Cure:
         way = Way(edits_of(scene, text, entry, idiom), idiom.write, why, recipe=idiom.recipe)
         return replace(cure_at(scene, text, entry, says, way), stays=idiom.edit[0] == "power")
     if not entry.path:
-        way = Way((), "Write entries below it: `NAME:`, not `- NAME`.")
-        return cure_at(scene, text, entry, ("A section is a mapping of entries.",), way)
+        return cure_at(scene, text, entry, ("A section is a mapping of entries.",), of_section(scene, text, entry))
     if bad := bad_items(entry):
         write = "Write names of letters, digits, `_`, `-` and `.`, with commas between them."
         way = Way((take_item_out(scene.texts, text, entry, bad[0]),), write)
@@ -182,18 +226,51 @@ def of_entry(scene: Scenery, text: str, entry: Entry) -> Cure:
     return cure_at(scene, text, entry, says, of_kind(scene, text, entry))
 
 
+def of_section(scene: Scenery, text: str, entry: Entry) -> Way:
+    """A section that has no entries below it."""
+    if entry.value.items is None or entry.value.line == entry.line:
+        write = "Write settings below it" if entry.key in profile.SINGLE else "Write entries below it, as `NAME:`"
+        return Way((give(scene.texts, text, entry, ""),), f"{write}; or nothing after the `:`.")
+    lines = [line_of(scene.texts, text, at) for at in range(entry.value.line, entry.last)]
+    margin = "" if entry.value.start else "  "
+    new = [re.sub(r"^(\s*)- +\{ *name: *([\w.-]+),? *", r"\1\2: {", line) for line in lines]
+    new = [re.sub(r"^(\s*)- +(?:name: *)?([\w.-]+)\s*:?\s*$", r"\1\2:", line) for line in new]
+    edit = Edit(text, entry.value.line, entry.last, tuple(margin + line if line.strip() else "" for line in new))
+    is_right = all(line[:1] in ("", " ") and not re.match(r"\s*- ", line) for line in edit.lines)
+    return Way((edit,) if is_right else (), "Write entries below it: `NAME:`, not `- NAME`.")
+
+
+def below_the_entry_above(scene: Scenery, text: str, entry: Entry) -> Way | None:
+    """A setting in the column of the entry above it, to which it belongs."""
+    section = section_of(entry)
+    settings = {*profile.settings(section), *profile.of_other_tools()}
+    if len(entry.path) != 1 or section in (*profile.PLAYERS, *profile.SINGLE) or entry.in_braces:
+        return None
+    above = [it for it in siblings_of(entry) if it.line < entry.line and it.key not in settings]
+    if entry.key not in settings or not above or above[-1].value.text or above[-1].value.items is not None:
+        return None
+    inner = above[-1].value.entries
+    column = inner[0].start if inner else entry.start + 2
+    write = f"Indent it by {column} spaces, below `{above[-1].key}`."
+    return Way((reindented(scene, text, entry.line, column),), write, "It is a setting, in the column of the entries.")
+
+
 def of_kind(scene: Scenery, text: str, entry: Entry) -> Way:
     """What to write for a value, by what its setting takes."""
     found = setting_of(entry)
     if section_of(entry) == "variable_player" and len(entry.path) == 2:
         return Way((give(scene.texts, text, entry, "1"),), f"Write a whole number. {EXAMPLE}")
-    if found is None:
-        return Way((), "Write a value that it takes, or leave it out.")
     names = words_of(entry)
+    if found is None and not names and (way := of_lone_value(scene, text, entry)):
+        return way
+    if found is None:
+        return Way((), f"Write {one_of(names)}." if names else "Write a value that it takes, or leave it out.")
     if found.value.startswith("boolean"):
         names = ["yes", "no"]
     if names:
-        write = f"Write {' or '.join([', '.join(f'`{it}`' for it in names[:-1]), f'`{names[-1]}`'])}."
+        write = f"Write {one_of(names)}."
+    elif number := without_unit(raw(scene.texts, text, entry), found.value):
+        return Way((give(scene.texts, text, entry, number),), f"Write {a(found.value)}, without a unit.")
     elif example := example_of(found.value):
         return Way((give(scene.texts, text, entry, example),), f"Write {a(found.value)}. {EXAMPLE}")
     else:
@@ -202,9 +279,37 @@ def of_kind(scene: Scenery, text: str, entry: Entry) -> Way:
     return Way((), write + (f" The copy goes on without it, so {left_out} holds." if left_out != "required" else ""))
 
 
+def of_lone_value(scene: Scenery, text: str, entry: Entry) -> Way | None:
+    """An entry that has one value in place of settings."""
+    settings = profile.settings(section_of(entry))
+    if len(entry.path) != 1 or not settings or section_of(entry) in (*profile.PLAYERS, *profile.SINGLE):
+        return None
+    required = [name for name, it in settings.items() if it.default == "required"]
+    value = raw(scene.texts, text, entry)
+    shown = (required or [*settings])[:3]
+    write = f"Write its settings below it, as {', '.join(f'`{it}:`' for it in shown)}."
+    is_plain = len(required) == 1 and entry.value.line == entry.line and entry.value.entries is None
+    return Way((give(scene.texts, text, entry, f"{{{required[0]}: {value}}}"),) if is_plain and value else (), write)
+
+
+def one_of(names: list[str]) -> str:
+    return " or ".join([", ".join(f"`{it}`" for it in names[:-1]), f"`{names[-1]}`"])
+
+
 def a(kind: str) -> str:
     article = "" if kind.startswith(("one ", "YAML")) else "an " if kind[:1] in "aeio" else "a "
     return f"{article}{kind}"
+
+
+def without_unit(value: str, kind: str) -> str:
+    """The number of a value such as `5s`, if the setting takes such a number; else nothing."""
+    found = re.fullmatch(r"(-?[0-9]{1,9}) ?[A-Za-z%]+", unquoted(value))
+    limits = re.fullmatch(r"integer(?: from (-?[\d,]+) to ([\d,]+))?.*", kind)
+    if not found or not limits:
+        return ""
+    least, most = (int(it.replace(",", "")) if it else None for it in limits.groups())
+    is_within = (least is None or int(found[1]) >= least) and (most is None or int(found[1]) <= most)
+    return found[1] if is_within else ""
 
 
 def example_of(kind: str) -> str:
@@ -269,14 +374,16 @@ def words_of(entry: Entry) -> list[str]:
     return profile.names(found.value) if found else []
 
 
-def of_mode_name(scene: Scenery, text: str, line: int) -> Cure:
-    """A mode that is listed under what is no name."""
+def of_mode_name(scene: Scenery, text: str, line: int) -> Cure | None:
+    """A mode that is listed under what is no name, in this line or below it."""
     listed = scene.outlines[text].entries or []
     entry = next((it for it in listed if it.key == "modes"), None)
-    items = [it for it in entry.value.texts() if it.line == line] if entry else []
-    item = next((it for it in items if it.text == "machine" or not re.fullmatch(r"[\w.-]+", it.text, re.ASCII)), None)
+    items = [it for it in entry.value.texts() if line in (it.line, entry.line)] if entry else []
+    names = "[\\w.-]{1,64}" if entry and line == entry.line else "(?!machine$)[\\w.-]{1,64}"
+    item = next((it for it in items if not re.fullmatch(names, it.text, re.ASCII)), None)
     if entry is None or item is None:
-        return Cure()
+        return None
     out = (take_item_out(scene.texts, text, entry, item),)
-    way = Way(out, "Write the name of the mode's folder: letters, digits, `_`, `-` and `.`; and not `machine`.")
-    return Cure((f"`{item.text}` is no name of a mode.",), True, (way,), out, (item.start, item.end))
+    way = Way(out, "Give the mode's folder and its text a name of letters, digits, `_`, `-` and `.`, and list that.")
+    mark = (item.start, item.end) if item.line == line else (entry.start, entry.end)
+    return Cure((f"`{item.text}` is no name of a mode.",), True, (way,), out, mark)

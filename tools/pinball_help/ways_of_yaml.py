@@ -1,8 +1,9 @@
 """The ways to mend a text that is not in the subset of YAML that is read."""
 import re
 from bisect import bisect_left
-from dataclasses import dataclass
+from dataclasses import dataclass, replace
 
+from . import signs
 from .blocks import Blocks
 from .mending import blanks, give, line_of, take_out
 from .outline import KEY, Entry, indentation, is_item, without_comment
@@ -24,6 +25,8 @@ class Slip:
 
 CLOSES = {"[": "]", "{": "}"}
 VALUE = r"^(\s*(?:- )?[^\s:#][^:#]*:\s+)"
+PAIRS = r"\w+: +[^\s:,{}\[\]#]+(?:, *\w+: +[^\s:,{}\[\]#]+)+"
+QUOTED = r"(?:\"[^\"]*\"|'[^']*')"
 SLIPS = (
     Slip("NotInSubset", r"^(---|\.\.\.)(\s.*)?$", "", "A text is one document.", "Take the line out."),
     Slip("NotInSubset Flow", r"(?<=[\w}\"'])\s*&\w+\s*|(?<![\w}\"'])&[\w-]+(?:\s+|$)", "", "An anchor is not read.",
@@ -39,6 +42,16 @@ SLIPS = (
     ),
     Slip("NotInSubset Indent", r"^(\s*)-(?=[A-Za-z_])", r"\1- ", "A blank is missing after the dash.",
          "Write a blank after the dash."),
+    Slip("NotInSubset", r"^(\s*- )(" + PAIRS + r")\s*$", r"\1{\2}", "Several entries in one line have braces.",
+         "Write braces around them."),
+    Slip("NotInSubset", r"^(\s*[\w.-]+:\s+)(" + PAIRS + r")\s*$", r"\1{\2}",
+         "Several entries in one line have braces.", "Write braces around them."),
+    Slip("NotInSubset", r"^(\s*[\w.{}=<>! -]+:)\s+-\s+([^-\s].*)$", r"\1 \2", "A dash begins a line of its own.",
+         "Take the dash out, or write a line `- ITEM` for each item."),
+    Slip("NotInSubset Indent", r"^(\s*[\w.-]+)\s*[;=]\s*(?=\S)", r"\1: ", "It is no entry, as it has no `:`.",
+         "Write a `:` and a blank after the name."),
+    Slip("NotInSubset Quote", r"^(\s*)[\"']([\w.-]+)(:\s)", r"\1\2\3", "The quote is not closed before the `:`.",
+         "Take the quote out."),
     Slip("NotInSubset", VALUE + r"([\w.]+): +([\w.]+)(\s+#.*)?$", r"\1\2, \3\4",
          "The value has a `:` and a blank after it.",
          "Write a comma between two names, or put quotes around the value."),
@@ -61,6 +74,12 @@ SLIPS = (
         "Write `\\\\` for a backslash.",
     ),
     Slip("Quote", r"([\"'])\s+([\"'])", r"\1, \2", "A comma is missing.", "Write a comma between the two."),
+    Slip("Quote", VALUE + "(" + QUOTED + r"(?:\s*,\s*" + QUOTED + r")+)\s*$", r"\1[\2]",
+         "A list of texts in quotes has brackets.", "Write brackets around them."),
+    Slip("Quote", r"^([^\"]*\"[\w. -]*)(\s*[\]}]+\s*)$", r'\1"\2', "The quote is not closed on its line.",
+         "Close the quote."),
+    Slip("Quote", r"^([^']*'[\w. -]*)(\s*[\]}]+\s*)$", r"\1'\2", "The quote is not closed on its line.",
+         "Close the quote."),
     Slip("Quote", r"([\"'])\s*([^\"'\s,\]}#][^\"']*)$", r"\1 # \2", "Text comes after the closing quote.",
          "Put all of it into the quotes, or take it out."),
     Slip("Quote", r"^([^\"]*\"[^\"]*?)(\s*)$", r'\1"', "The quote is not closed on its line.", "Close the quote."),
@@ -127,6 +146,9 @@ def of_indents(scene: Scenery, text: str, at: int) -> list[Way]:
     found = []
     if not re.search(r":(\s|$)|^\s*-", earlier):
         found += slips(scene, text, before, "Indent")
+    if found and re.fullmatch(r"\s*[\w.]+\s*", line):  # (so it has no `:` either)
+        both = Edit(text, at, at + 1, (f"{line.rstrip()}:",))
+        found = [*(replace(it, edits=(*it.edits, both)) for it in found), *found]
     if indentation(line) > indentation(earlier) and not earlier.endswith(":"):
         joined = Edit(text, before, at + 1, (f"{earlier} {line.strip()}", *[""] * (at - before)))
         found.append(Way((joined,), "Put the whole value on one line; or write a line `- ITEM` for each item.",
@@ -287,6 +309,11 @@ def cure_of(scene: Scenery, text: str, at: int, fault: str) -> Cure:
         ways.append(
             Way((Edit(text, at, at + 1, (readable,)),), f"Save the file as UTF-8. The line may say: {readable.strip()}")
         )
+    if way := signs.way_of_line(scene, text, at):
+        ways.insert(0, way)
+    if fault == "NotInSubset" and not ways and is_item(line_of(scene.texts, text, at)):
+        ways.append(Way((blanks(text, at, at + 1),), "Write an entry, `NAME: VALUE`, as the lines around it.",
+                        "It is an item of a list, and its block has entries."))
     end = scene.blocks(text).end_of(at) if at < len(scene.texts[text]) else at
     out = (blanks(text, at, end),) if end > at else ()
     tabs = re.search(r"\t+", line_of(scene.texts, text, at)) if fault == "Tab" else None

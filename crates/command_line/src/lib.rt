@@ -3,6 +3,8 @@
 
 pub mod ask;
 pub mod live;
+pub mod program;
 
 pub use ask::{Ask, AskFault, command};
 pub use live::live_command;
+pub use program::program_words;

@@ -1,7 +1,6 @@
 -- Steps of slots.
-use Rattle.std.proofs.Common.{rules, ◌≡◌, ℕ, Bool, true, Option, None, Some, List, [], ◌∷◌, length, map, option_map, set, slice_get, if◌then◌else◌, get_or, sym, ap, subst, ◌∙◌, arith}
-use Rattle.std.specs.List.{All}
-use Rattle.std.proofs.lemmas.{List.map-set, Option.{slice_get_within, slice_get-get_or, slice_get-map}}
+use Rattle.std.proofs.Common.{rules, ◌≡◌, ℕ, Bool, true, Option, None, Some, List, [], ◌∷◌, length, slice_get, if◌then◌else◌, get_or, sym, ap, subst, ◌∙◌, arith}
+use Rattle.std.{specs.List.All, proofs.lemmas.Option.{slice_get_within, slice_get-get_or}}
 use Rattle.device_objects.specs.{declared.state.World.World, Slots.{slot_in_use, step_at, step_in_use}}
 
 abbrev value_or : {S : Type 0} → S → Option S → S
@@ -36,13 +35,3 @@ module _ {S : Type 0} (P : List ℕ → Type 0) (step : S → S × List ℕ) (ea
 
   pub in_use-answers : (persist : Bool) (world : World) (slots : List S) → length slots ≡ 4 → (persist ≡ true → P []) → P (step_in_use step slots (slot_in_use persist world)).1
   in_use-answers persist world slots four none = search (rules, of_player, at_first)
-
--- ---- slots that are seen otherwise than they are kept
-
-module _ {S V : Type 0} (seen : S → V) (step : V → V × List ℕ) where
-  -- the slot in use is stepped, and the others stay
-  pub seen-step : (slots : List S) (at : Option ℕ) (i : ℕ) (slot new : S) (lists : List ℕ) → at ≡ Some i
-      → slice_get slots i ≡ Some slot → seen new ≡ (step (seen slot)).0 → lists ≡ (step (seen slot)).1
-      → (map seen (set slots i new) ≡ (step_in_use step (map seen slots) at).0)
-      × (lists ≡ (step_in_use step (map seen slots) at).1)
-  seen-step slots at i slot new lists is here becomes answers = search (rules, slice_get, slice_get-map, option_map, map-set)

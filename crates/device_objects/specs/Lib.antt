@@ -12,6 +12,5 @@ pub mod BallDevice
 pub mod BallSave
 pub mod Multiball
 pub mod DeviceStep
-pub mod Slotted
 pub mod Outcomes
 pub mod Laws

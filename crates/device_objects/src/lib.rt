@@ -11,8 +11,6 @@ pub mod law;
 pub mod outcome;
 pub mod same;
 pub mod shape;
-pub mod slot;
-pub mod slotted;
 pub mod state;
 pub mod values;
 

@@ -4,7 +4,7 @@ use Rattle.machine_settings.specs.declared.settings.{CounterSettings.CounterSett
 use Rattle.plan_tables.specs.declared.devices.Settings.{Settings}
 use Rattle.plan_tables.specs.declared.devices.Settings.TheVariants as kinds
 use Rattle.device_objects.specs.declared.state.DeviceState.TheVariants as states
-use Rattle.device_objects.specs.Slotted.{StepsAreOfSlots}
+use Rattle.slotted_devices.specs.Slotted.{StepsAreOfSlots}
 use Rattle.device_objects.specs.Counter as counter
 use Rattle.device_objects.specs.Accrual as accrual
 use Rattle.device_objects.specs.Sequence as sequence

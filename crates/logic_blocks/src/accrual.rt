@@ -7,10 +7,10 @@ ghost use Rattle.plan_tables.specs.declared.devices.Act.TheVariants as acts;
 ghost use Rattle.plan_tables.specs.declared.devices.Settings.TheVariants as kinds;
 
 use crate::lists::{hit, reset};
-use device_objects::slotted::{SlotKind, Slotted};
 use device_objects::{AccrualSlot, DeviceState, Outcome};
 use machine_settings::StepSettings;
 use plan_tables::{Act, DeviceRow, Settings};
+use slotted_devices::{SlotKind, Slotted};
 
 /// An accrual: it completes when all its steps are done, in any order.
 pub type Accrual = Slotted<AccrualKind>;

@@ -6,11 +6,11 @@ ghost use Rattle.plan_tables.specs.declared.devices.Act.TheVariants as acts;
 ghost use Rattle.plan_tables.specs.declared.devices.Settings.TheVariants as kinds;
 
 use crate::lists::{hit, reset};
-use device_objects::slotted::{SlotKind, Slotted};
 use device_objects::values::moved;
 use device_objects::{CounterSlot, DeviceState, Outcome};
 use machine_settings::CounterSettings;
 use plan_tables::{Act, DeviceRow, Settings};
+use slotted_devices::{SlotKind, Slotted};
 
 /// A counter: it counts hits, and completes when its value reaches or passes the one that is set.
 pub type Counter = Slotted<CounterKind>;

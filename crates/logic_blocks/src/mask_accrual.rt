@@ -9,10 +9,10 @@ ghost use Rattle.plan_tables.specs.declared.devices.Settings.TheVariants as kind
 
 use crate::lists::{hit, reset};
 use device_objects::flags::{are_set, flags_of, is_set, mask_of, with_flag};
-use device_objects::slotted::{Resume, SlotKind, Slotted};
 use device_objects::{AccrualSlot, DeviceState, Outcome};
 use machine_settings::StepSettings;
 use plan_tables::{Act, DeviceRow, Settings};
+use slotted_devices::{Resume, SlotKind, Slotted};
 
 /// An accrual that keeps which steps are done as bits. Its row and its calls are those of
 /// [`Accrual`](crate::Accrual), and it can take the place of one in any state.

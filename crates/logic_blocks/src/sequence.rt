@@ -6,10 +6,10 @@ ghost use Rattle.plan_tables.specs.declared.devices.Act.TheVariants as acts;
 ghost use Rattle.plan_tables.specs.declared.devices.Settings.TheVariants as kinds;
 
 use crate::lists::{hit, reset};
-use device_objects::slotted::{SlotKind, Slotted};
 use device_objects::{DeviceState, Outcome, SequenceSlot};
 use machine_settings::StepSettings;
 use plan_tables::{Act, DeviceRow, Settings};
+use slotted_devices::{SlotKind, Slotted};
 
 /// A sequence: it completes when all its steps are done, each after the one before.
 pub type Sequence = Slotted<SequenceKind>;

@@ -4,7 +4,7 @@ use Rattle.std.specs.{List.{filter_map, flat_map, list_any}, Str.bytes_eq, HashM
 use Rattle.std.specs.{Borrow.Bor, HashSet.HashSet, Map.lookup}
 use Rattle.mpf_sections.specs.{Rows.{Coil, SectionRows, Shot, BallDevice}, declared.section.Section.Section}
 use Rattle.section_tables.specs.declared.rows.Entry as entry_rows
-use Rattle.section_tables.specs.declared.rows.Fields as field_rows
+use Rattle.setting_values.specs.declared.values.Fields as field_rows
 use Rattle.mpf_sections.specs.{View.{entry_view, fields_view, section_view}, Typed.switch_of, TypedBalls.ball_device_of}
 use Rattle.mpf_sections.specs.TypedCoils.{coil_of, names_at, quick_switches}
 use Rattle.mpf_sections.specs.TypedShots.{shot_of, state_of, shot_profile_of, shots_in, shot_profiles_in}

@@ -6,7 +6,7 @@ use Rattle.yaml_bytes.{specs.Scanning.{behind_blanks, trimmed}, proofs.Steps.{bi
 use Rattle.yaml_bytes.proofs.PlainTexts.{trimmed_parts, trimmed_ends, trimmed_is, is_behind_blanks, no_blanks, in_front}
 use Rattle.mpf_config.specs.BundleText.{Text, first_line, behind_first_line, name_in, pieces_of, line_ends, numbered}
 use Rattle.mpf_config.specs.RowsOf.{IsFirstLine, IsBare, IsPiece, EndsLine, AreTexts}
-use Rattle.section_tables.specs.Reading.{◌>>=◌, each_read}
+use Rattle.setting_values.specs.Reading.{◌>>=◌, each_read}
 use Rattle.mpf_config.{specs.Reading.{text_from, text_at, texts_at}, proofs.FirstLines.{splitting, begins_is}}
 use Rattle.mpf_config.proofs.Pieces.{piece_sound, none_is_empty, BeginsAt, piece_complete}
 

@@ -2,7 +2,7 @@
 use Rattle.std.proofs.Common.{rules, ◌≡◌, List, [], ◌∷◌, ◌++◌, Result, Ok, Err, refl, ap, append_assoc}
 use Rattle.config_faults.specs.declared.fault.ConfigFault.{ConfigFault}
 use Rattle.mpf_config.specs.{Rows.RowsFault, View.FailsRows}
-use Rattle.section_tables.specs.Reading.{◌>>=◌, each_read}
+use Rattle.setting_values.specs.Reading.{◌>>=◌, each_read}
 
 -- what was read before, and what is still read
 abbrev pub with_front : {B : Type 0} → List B → Result (List B) RowsFault → Result (List B) RowsFault

@@ -2,7 +2,7 @@
 use Rattle.std.proofs.Common.{rules, ◌≡◌, ℕ, ◌+◌, ◌<◌, Bool, if◌then◌else◌, not, ◌||◌, List, [], ◌∷◌, length, drop, get_or, map, Option, Some, refl, sym, ap, ◌∙◌}
 use Rattle.std.{specs.{Borrow.Bor, Option.is_some}, proofs.lemmas.List.drop_more}
 use Rattle.yaml_subset.specs.Keys.{is_among}
-use Rattle.section_tables.specs.{Tables.{behind_one, found_in}, View.found_view}
+use Rattle.setting_values.specs.{KeyRules.{behind_one, found_in}, View.found_view}
 
 pub mapped_at : {A B : Type 0} (f : A → B) (xs : List A) (i : ℕ) (x : A) → i < length xs → x ≡ get_or xs i x → map f (drop i xs) ≡ f x ∷ map f (drop (i + 1) xs)
 mapped_at f xs i x lt is = ap (map f) (drop_more xs i x lt) ∙ ap (λ y. f y ∷ map f (drop (i + 1) xs)) (sym is)

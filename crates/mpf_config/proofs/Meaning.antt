@@ -5,10 +5,11 @@ use Rattle.std.proofs.lemmas.List.Elements.{All-nil, All-cons, All-head, All-tai
 use Rattle.yaml_subset.specs.{Keys.is_among, Node.{Node, Pair}, View.{line_of, pairs_in}}
 use Rattle.config_faults.specs.declared.fault.FaultKind.TheVariants.{BadValue, Duplicate}
 use Rattle.mpf_tables.specs.{declared.tables.TextKind.TextKind, SectionTables.shape_of}
-use Rattle.section_tables.specs.Kinds.{Shape, by_entries, by_players, by_entry, by_names}
-use Rattle.section_tables.specs.Reading.{IsReadOr, ◌>>=◌, key_spot, entry_at, entries_at, players_at, names_at}
+use Rattle.section_tables.specs.Shapes.{Shape, by_entries, by_players, by_entry, by_names}
+use Rattle.setting_values.specs.Reading.{IsReadOr, ◌>>=◌, key_spot}
+use Rattle.section_tables.specs.Reading.{entry_at, entries_at, players_at, names_at}
 use Rattle.config_faults.specs.Faults.{Spot, refused, rows_fault_at}
-use Rattle.section_tables.proofs.{Steps.expected, Outcomes.{each_sound, weaker, then_or, each_or}}
+use Rattle.setting_values.proofs.{Steps.expected, Outcomes.{each_sound, weaker, then_or, each_or}}
 use Rattle.section_tables.proofs.EntriesRead.{entry_sound, entry_complete, entries_sound, entries_complete, players_sound, players_complete, names_sound, names_complete}
 use Rattle.mpf_sections.specs.Rows.{Written, Content, entries, players, entry, listed, SectionRows}
 use Rattle.mpf_config.{specs.{BundleText.machine_owner, Unread.read_of}, proofs.BallEnds.{keeps_sound, keeps_complete}}

@@ -1,7 +1,7 @@
 -- The names of modes that are read from a machine text are those that it lists.
 use Rattle.std.proofs.Common.{◌≡◌, ℕ, List, map, Ok, sym, inl, ap}
 use Rattle.mpf_tables.specs.declared.tables.TextKind.TheVariants.{Machine}
-use Rattle.section_tables.{specs.Reading.IsReadOr, proofs.Outcomes.then_or}
+use Rattle.setting_values.{specs.Reading.IsReadOr, proofs.Outcomes.then_or}
 use Rattle.mpf_config.specs.{BundleText.machine_name, Reading.{TextRows, text_rows_at, mode_names_at}}
 use Rattle.mpf_sections.specs.{Rows.SectionRows, Typed.listed_modes}
 use Rattle.mpf_config.specs.RowsOf.{Sizes, within_limits, AreModesOf, IsTextOver}

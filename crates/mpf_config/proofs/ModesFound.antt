@@ -7,8 +7,8 @@ use Rattle.std.proofs.lemmas.List.{append_cancel_left, length-append, length-map
 use Rattle.yaml_subset.{specs.Keys.is_among, proofs.KeySets.{fresh_sound, fresh_complete}}
 use Rattle.config_faults.specs.{declared.fault.FaultKind.TheVariants.Duplicate, Faults.{RowsFault, rows_fault_at}}
 use Rattle.mpf_tables.specs.declared.tables.TextKind.TheVariants.{Mode}
-use Rattle.section_tables.specs.{Tables.{behind_one, found_in}, Reading.{IsReadOr, ◌>>=◌}}
-use Rattle.section_tables.proofs.Outcomes.{weaker, then_or}
+use Rattle.setting_values.specs.{KeyRules.{behind_one, found_in}, Reading.{IsReadOr, ◌>>=◌}}
+use Rattle.setting_values.proofs.Outcomes.{weaker, then_or}
 use Rattle.mpf_sections.specs.Rows.{Written, SectionRows}
 use Rattle.mpf_config.specs.{BundleText.{Text, mode_text_name}, ModeReads.ModeRead, Apart.entry_keys}
 use Rattle.mpf_config.specs.Unread.{mode_text_of, has_text, present_of, mode_notes}

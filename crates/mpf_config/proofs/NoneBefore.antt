@@ -3,7 +3,7 @@ use Rattle.std.proofs.Common.{rules, ◌≡◌, ℕ, suc, Bool, true, false, con
 use Rattle.std.specs.{List.flat_map, Str.bytes_eq, Option.option_map}
 use Rattle.std.proofs.lemmas.{Bool.{both_ways, or_parts}, List.{append-nil, length-map}, Slice.Eq.bytes_eq-Decides}
 use Rattle.yaml_subset.{specs.Keys.is_among, proofs.KeySets.or_swap}
-use Rattle.section_tables.specs.Tables.{behind_one, found_in}
+use Rattle.setting_values.specs.KeyRules.{behind_one, found_in}
 use Rattle.mpf_config.specs.declared.modes.ModeRead as modes
 use Rattle.mpf_config.specs.{declared.listed_mode.ListedMode.ListedMode, Apart.entry_keys, ModeReads.ModeRead}
 use Rattle.mpf_config.{specs.{Rows.Written, BundleText.Text, Unread.mode_text_of}, proofs.TakenEntries.among_append}

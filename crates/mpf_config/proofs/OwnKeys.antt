@@ -6,7 +6,8 @@ use Rattle.yaml_subset.specs.{View.{pairs_in, text_in}, TextLines.Line, Values.{
 use Rattle.yaml_subset.specs.Flow.{keys_of, ArePartsTo, IsFlowPair, IsFlowValue, IsFlow}
 use Rattle.yaml_subset.{specs.TreeOf.{Group, IsEntryValue, ArePairs, IsTree}, proofs.Views.list_pairs-pairs_of}
 use Rattle.mpf_tables.specs.declared.tables.TextKind.{TextKind}
-use Rattle.section_tables.specs.{Kinds.Setting, Entries.{or_none, pairs_below}, EntryOf.IsOtherEntry}
+use Rattle.section_tables.specs.{Shapes.Setting, EntryOf.IsOtherEntry}
+use Rattle.setting_values.specs.Below.{or_none, pairs_below}
 use Rattle.mpf_sections.specs.Rows.{Entry, Content, entries, SectionRows}
 use Rattle.mpf_config.specs.{Unread.{is_skipped, read_of}, RowsOf.{Sizes, AreNew, IsContent, IsSection, AreRowsOf}}
 use Rattle.mpf_config.specs.Apart.{EntryName, Differ, AreDistinct, named_entry, entries_named, entry_names}

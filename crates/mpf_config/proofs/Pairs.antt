@@ -2,7 +2,7 @@
 use Rattle.std.proofs.Common.{◌≡◌, ℕ, ◌+◌, ◌≤◌, ◌<◌, List, [], ◌∷◌, length, drop, get_or, add-one, ap, sym, ◌∙◌}
 use Rattle.std.proofs.{Math.Seq.drop-cons, lemmas.List.drop_all}
 use Rattle.yaml_subset.specs.{declared.tree.{Key.Key, Tree.Tree}, View.pair_view}
-use Rattle.section_tables.specs.View.{pairs_view}
+use Rattle.setting_values.specs.View.{pairs_view}
 
 pub pairs_at : (entries : List (Key × Tree)) (i : ℕ) (entry : Key × Tree) → i < length entries → entry ≡ get_or entries i entry
     → pairs_view (drop i entries) ≡ pair_view entry ∷ pairs_view (drop (i + 1) entries)

@@ -3,7 +3,7 @@ use Rattle.std.{proofs.Common.{rules, ◌≡◌, ℕ, map, List, [], ◌∷◌, 
 use Rattle.std.proofs.lemmas.List.Elements.{All-nil, All-cons, All-head, All-tail, All-filter, All-from_recursion}
 use Rattle.yaml_subset.specs.Node.{Pair}
 use Rattle.mpf_values.specs.Names.{IsName}
-use Rattle.section_tables.specs.{Named.{IsNamedEntry, IsNamedPlayer}, Kinds.{by_entries, by_players, by_entry}}
+use Rattle.section_tables.specs.{Named.{IsNamedEntry, IsNamedPlayer}, Shapes.{by_entries, by_players, by_entry}}
 use Rattle.section_tables.proofs.RowNames.{entry_named, entries_named, players_named}
 use Rattle.section_tables.proofs.RowNames as lists
 use Rattle.mpf_tables.specs.declared.tables.TextKind.{TextKind, TheVariants.{Machine, Mode}}

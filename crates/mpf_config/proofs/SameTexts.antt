@@ -3,7 +3,7 @@ use Rattle.std.proofs.Common.{rules, ◌≡◌, ℕ, ◌+◌, ◌<◌, Bool, tru
 use Rattle.std.{specs.Str.bytes_eq, proofs.{Math.Seq.drop-cons, lemmas.Bool.not-true}}
 use Rattle.yaml_subset.specs.Keys.{is_among}
 use Rattle.config_faults.specs.declared.fault.{FaultKind.TheVariants.Duplicate, ConfigFault.ConfigFault}
-use Rattle.section_tables.specs.{Tables.found_in, Reading.◌>>=◌}
+use Rattle.setting_values.specs.{KeyRules.found_in, Reading.◌>>=◌}
 use Rattle.config_faults.specs.Faults.{refused}
 use Rattle.mpf_config.specs.declared.texts.Text as texts
 use Rattle.mpf_sections.specs.Rows.{Written, SectionRows}

@@ -3,7 +3,7 @@ use Rattle.std.proofs.Common.{◌≡◌, ◌≢◌, ℕ, ◌≤◌, not, List, [
 use Rattle.std.specs.List.{All, AllPairs, AllZip}
 use Rattle.std.proofs.lemmas.List.{length-map, Elements.{All-nil, All-cons, All-map}, Filters.length-filter_both}
 use Rattle.yaml_subset.specs.Node.{Pair}
-use Rattle.section_tables.specs.{Kinds.{by_entries, by_entry}, Named.{IsShortEntry, IsShortPlayer}}
+use Rattle.section_tables.specs.{Shapes.{by_entries, by_entry}, Named.{IsShortEntry, IsShortPlayer}}
 use Rattle.section_tables.proofs.RowNames.{entry_short, entries_short, players_short}
 use Rattle.section_tables.proofs.RowNames as lists
 use Rattle.mpf_tables.specs.declared.tables.TextKind.{TextKind, TheVariants.{Machine, Mode}}

@@ -6,7 +6,7 @@ use Rattle.yaml_subset.specs.{Node.{Node, Pair}, TreeOf.{IsTree, IsTreeOf}, Read
 use Rattle.yaml_bytes.{specs.Lines.lines_of, proofs.Steps.{bind_ok, ok_is}}
 use Rattle.yaml_subset.proofs.{LineContents.one_content, Levels.one_tree, Theorem.{read_sound, is_refused as no_tree}}
 use Rattle.mpf_tables.specs.declared.tables.TextKind.{TextKind}
-use Rattle.section_tables.{specs.Reading.{IsReadOr, ◌>>=◌}, proofs.Outcomes.{weaker, then_or}}
+use Rattle.setting_values.{specs.Reading.{IsReadOr, ◌>>=◌}, proofs.Outcomes.{weaker, then_or}}
 use Rattle.mpf_sections.specs.Rows.{SectionRows}
 use Rattle.mpf_config.specs.BundleText.{behind_first_line, has_version}
 use Rattle.mpf_config.specs.RowsOf.{Sizes, within_limits, AreRowsOf, AreManyItems, IsTextOver}

@@ -2,7 +2,7 @@
 use Rattle.std.proofs.Common.{rules, ◌≡◌, ℕ, ◌≤◌, ◌^◌, List, [], length, Option, Result, Ok, refl, sym, ap, subst, inl, inr}
 use Rattle.std.proofs.lemmas.Bool.{cases_lt, le-ltb, lt-ltb}
 use Rattle.mpf_tables.specs.declared.tables.TextKind.TheVariants.{Machine}
-use Rattle.section_tables.{specs.Reading.{IsReadOr, ◌>>=◌}, proofs.Outcomes.{weaker, then_or}}
+use Rattle.setting_values.{specs.Reading.{IsReadOr, ◌>>=◌}, proofs.Outcomes.{weaker, then_or}}
 use Rattle.mpf_sections.specs.{Rows.{Written, SectionRows}, Typed.listed_modes}
 use Rattle.mpf_config.specs.{Rows.{Rows, RowsFault}, BundleText.{Text, machine_name}}
 use Rattle.mpf_config.specs.{Unread.{read_of, machine_notes}, ModeReads.{MachineRead, ModeRead}}

@@ -6,12 +6,12 @@ use Rattle.std.specs.{HashSet.HashSet, Global.{Vec, Global}}
 use Rattle.yaml_subset.specs.{declared.tree.{Key.Key, Tree.Tree}, Keys.{is_among, copies_view}}
 use Rattle.yaml_subset.specs.{Node.{Node, Pair}, View.{node_view, pair_view}}
 use Rattle.mpf_tables.specs.declared.tables.TextKind.{TextKind}
-use Rattle.section_tables.specs.declared.{rows.Name.Name, nodes.MapPairs.MapPairs}
+use Rattle.setting_values.specs.{declared.{values.Name.Name, nodes.MapPairs.MapPairs}, KeyRules.found_in}
 use Rattle.config_faults.specs.{declared.fault.ConfigFault.ConfigFault, Faults.spot_view}
 use Rattle.config_faults.specs.declared.spot.Spot as spots
 use Rattle.section_tables.specs.declared.table.Shape as shapes
-use Rattle.section_tables.specs.{Tables.found_in, TableView.shape_view}
-use Rattle.section_tables.specs.View.{names_view, pairs_view, pairs_in_view, found_view}
+use Rattle.section_tables.specs.TableView.{shape_view}
+use Rattle.setting_values.specs.View.{names_view, pairs_view, pairs_in_view, found_view}
 use Rattle.mpf_sections.specs.declared.section.Content as contents
 use Rattle.mpf_sections.specs.{declared.section.Section.Section, View.{content_view, section_view}}
 use Rattle.mpf_sections.specs.Rows.{Written, Content, SectionRows}

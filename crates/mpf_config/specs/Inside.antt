@@ -9,7 +9,7 @@ use Rattle.mpf_config.specs.declared.bundle.MachineRead as bundles
 use Rattle.mpf_config.specs.declared.modes.ModeRead as modes
 use Rattle.mpf_config.specs.{Rows.Note, BundleText.Text, Apart.entry_keys, declared.listed_mode.ListedMode.ListedMode}
 use Rattle.mpf_config.specs.{ModeReads.{MachineRead, ModeRead}, View.{name_view, mode_view, note_view}}
-use Rattle.section_tables.specs.Rows.{Written}
+use Rattle.setting_values.specs.Values.{Written}
 
 abbrev pub bytes_view : Bor (List ℕ) → List ℕ
 bytes_view bytes = bytes.now

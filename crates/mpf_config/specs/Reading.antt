@@ -6,9 +6,10 @@ use Rattle.yaml_subset.specs.declared.fault.Fault as yaml
 use Rattle.yaml_subset.specs.{Node.{Node, Pair}, Reading.read_at, Keys.is_among, View.{line_of, pairs_in}}
 use Rattle.config_faults.specs.declared.fault.FaultKind.TheVariants.{Bundle, Version, Yaml, UnknownSection, BadValue, Duplicate, Limit}
 use Rattle.mpf_tables.specs.declared.tables.TextKind.{TextKind, TheVariants.{Machine, Mode}}
-use Rattle.section_tables.specs.{Kinds.{Shape, by_entries, by_players, by_entry, by_names}, Tables.found_in}
+use Rattle.section_tables.specs.Shapes.{Shape, by_entries, by_players, by_entry, by_names}
+use Rattle.setting_values.specs.{KeyRules.found_in, Reading.{key_spot, expect, each_read}}
 use Rattle.mpf_tables.specs.SectionTables.{mode_name, shape_of}
-use Rattle.section_tables.specs.Reading.{key_spot, expect, each_read, entry_at, entries_at, players_at, names_at}
+use Rattle.section_tables.specs.Reading.{entry_at, entries_at, players_at, names_at}
 use Rattle.config_faults.specs.Faults.{Spot, refused}
 use Rattle.mpf_sections.specs.Rows.{Written, Content, entries, players, entry, listed, SectionRows, ModeSettings}
 use Rattle.mpf_config.specs.{Rows.{Rows, RowsFault}, FaultLine.yaml_kind_name, ModeReads.{MachineRead, ModeRead}}

@@ -4,7 +4,7 @@ use Rattle.std.specs.List.{Contains, All, AllZip}
 use Rattle.yaml_bytes.specs.{Bytes.begins_blank, Plain.{AreBlank, EndsInNoBlank}, Lines.ends_line}
 use Rattle.yaml_subset.specs.{Node.{Node, Pair}, View.pairs_in, TreeOf.{IsTreeOf, IsTextAbove}}
 use Rattle.mpf_tables.specs.declared.tables.TextKind.{TextKind, TheVariants.{Machine, Mode}}
-use Rattle.section_tables.specs.Kinds.{Setting, PlayerKinds, by_entries, by_players, by_entry, by_names}
+use Rattle.section_tables.specs.Shapes.{Setting, PlayerKinds, by_entries, by_players, by_entry, by_names}
 use Rattle.mpf_tables.specs.SectionTables.{mode_name, shape_of}
 use Rattle.section_tables.specs.EntryOf.{IsEntry, AreEntries, ArePlayers, AreNamesListed}
 use Rattle.mpf_sections.specs.Rows.{Written, Content, entries, players, entry, listed, SectionRows, ModeSettings}

@@ -4,7 +4,7 @@ use Rattle.mpf_sections.specs.SectionView.{section_view}
 use Rattle.mpf_config.specs.declared.config.Note as notes
 use Rattle.mpf_config.specs.{declared.config.Config.Config, Rows.{Note, Rows}}
 pub use Rattle.mpf_config.specs.ModeView.{mode_view}
-pub use Rattle.section_tables.specs.View.{name_view}
+pub use Rattle.setting_values.specs.View.{name_view}
 pub use Rattle.config_faults.specs.Faults.{rows_fault_view, FailsRows, GivesRows}
 
 abbrev pub note_view : notes.Note → Note

@@ -21,7 +21,7 @@ use crate::unread::{add_unlisted, machine_notes};
 use crate::version::tree_of;
 use mpf_sections::listed_modes as modes_in;
 use mpf_tables::TextKind;
-use section_tables::rows::Name;
+use setting_values::values::Name;
 use std::alloc::{AllocError, Global};
 use yaml_subset::keys::{KeyHashing, no_keys};
 

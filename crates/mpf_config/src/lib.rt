@@ -42,5 +42,6 @@ pub use mpf_tables::tables::{
     VARIABLE_PLAYER_NAME,
 };
 pub use notes::write_note;
-pub use section_tables::rows::{Entry, Fields, Guard, Handler, Keyed, Name, Plain, Player, Value};
+pub use section_tables::rows::{Entry, Player};
+pub use setting_values::values::{Fields, Guard, Handler, Keyed, Name, Plain, Value};
 pub use texts::{MACHINE_NAME, mode_text_name};

@@ -5,7 +5,7 @@ ghost use Rattle.mpf_config.specs.Gives.{AreListed, IsModeOfText};
 
 use crate::listed_mode::ListedMode;
 use crate::texts::mode_text_name;
-use section_tables::rows::Name;
+use setting_values::values::Name;
 use std::alloc::{AllocError, Global};
 
 /// The modes of these names, in order, each with the name of its text.

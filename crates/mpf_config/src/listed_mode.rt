@@ -3,7 +3,7 @@
 ghost use Rattle.std.specs.Prelude.{◌≡◌};
 ghost use Rattle.mpf_config.specs.BundleText.{mode_text_name};
 
-use section_tables::rows::Name;
+use setting_values::values::Name;
 
 /// A mode that is listed, with the name of its text.
 #[derive(Drop)]

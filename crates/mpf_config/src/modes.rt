@@ -15,7 +15,7 @@ use crate::texts::Text;
 use crate::unread::mode_notes;
 use crate::version::tree_of;
 use mpf_tables::TextKind;
-use section_tables::rows::Name;
+use setting_values::values::Name;
 use std::alloc::{AllocError, Global};
 use std::borrow::CowSlice;
 use yaml_subset::keys::{KeyHashing, KeySet, no_keys, take_key};

@@ -2,7 +2,7 @@
 
 ghost use Rattle.std.specs.Prelude.{◌≡◌};
 ghost use Rattle.yaml_subset.specs.View.{pair_view};
-ghost use Rattle.section_tables.specs.View.{pairs_view};
+ghost use Rattle.setting_values.specs.View.{pairs_view};
 ghost use Rattle.config_faults.specs.Faults.{spot_view};
 ghost use Rattle.mpf_config.specs.Reading.{has_right_starts, keeps_to_ball_end, line_of_key, starts_spot};
 ghost use Rattle.mpf_sections.specs.View.{content_view, mode_settings_view};
@@ -16,9 +16,10 @@ use config_faults::{Spot, spot_of};
 use mpf_sections::{ModeSettings, as_mode_settings};
 use mpf_tables::tables::MODE_NAME;
 use mpf_tables::{TextKind, shape_of};
-use section_tables::rows::Name;
 use section_tables::table::Shape;
-use section_tables::{MapPairs, entries, entry as read_entry, name_list, players};
+use section_tables::{entries, entry as read_entry, name_list, players};
+use setting_values::MapPairs;
+use setting_values::values::Name;
 use std::alloc::Global;
 use std::borrow::CowSlice;
 use yaml_subset::keys::{KeyHashing, no_keys, take_key};

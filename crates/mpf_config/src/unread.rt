@@ -14,7 +14,7 @@ use crate::listed_mode::ListedMode;
 use crate::texts::{MACHINE_NAME, Text};
 use mpf_tables::tables::MODES_NAME;
 use section_tables::is_one_of;
-use section_tables::rows::Name;
+use setting_values::values::Name;
 use std::alloc::{AllocError, Global};
 use yaml_subset::tree::{Key, Tree};
 

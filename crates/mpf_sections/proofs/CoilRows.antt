@@ -3,8 +3,8 @@
 use Rattle.std.proofs.Common.{rules, ℕ, ◌≤◌, Bool, length, Option, Some, IfSome, unwrap_or, slice_get, arith}
 use Rattle.std.{specs.List.All, proofs.lemmas.List.length-map}
 use Rattle.mpf_values.specs.Names.{IsName}
-use Rattle.section_tables.specs.Rows.{Plain, Keyed, Value, Entry, Player}
-use Rattle.section_tables.specs.Named.{IsNamedEntry, IsNamedPlayer, IsShortPlayer}
+use Rattle.setting_values.specs.Values.{Plain, Keyed, Value}
+use Rattle.section_tables.specs.{Rows.{Entry, Player}, Named.{IsNamedEntry, IsNamedPlayer, IsShortPlayer}}
 use Rattle.mpf_sections.specs.{Rows.{Written, SectionRows}, Inside.rule_at}
 use Rattle.mpf_sections.specs.Typed.{text_of, listed_keyed, name_in, pulse_in, power_in, entries_of, players_of}
 use Rattle.mpf_sections.specs.TypedCoils.{coils_name, coil_player_name, max_hold_power, coil_of, coil_item_of, coil_player_of, needed_at, flipper_of, autofire_of, coils_in, coil_players_in}

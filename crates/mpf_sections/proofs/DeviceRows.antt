@@ -3,8 +3,9 @@
 use Rattle.std.proofs.Common.{rules, ℕ, zero, suc, ◌≤◌, nat_le, List, [], ◌∷◌, length, Option, Some, None, slice_get}
 use Rattle.std.{specs.List.{All, AllByRecursion}, proofs.lemmas.List.Elements.{All-nil, All-weaker, All-from_recursion}}
 use Rattle.mpf_values.specs.Names.{IsName}
-use Rattle.section_tables.specs.Rows.{Plain, Fields, Value, steps, maps, Entry}
-use Rattle.section_tables.specs.Named.{IsNamedHandled, IsNamedPlain, AreNamedEvents, AreNamedPlains, IsNamedValue, IsNamedEntry, IsShortValue, IsShortEntry}
+use Rattle.setting_values.specs.Values.{Plain, Fields, Value, steps, maps}
+use Rattle.section_tables.specs.{Rows.Entry, Named.{IsNamedEntry, IsShortEntry}}
+use Rattle.setting_values.specs.NamedValues.{IsNamedHandled, IsNamedPlain, AreNamedEvents, AreNamedPlains, IsNamedValue, IsShortValue}
 use Rattle.mpf_sections.specs.{Rows.{Written, Handled, Control, SectionRows}, Inside.block_at}
 use Rattle.mpf_sections.specs.Typed.{counters_name, timers_name, limit_of, listed_steps, listed_maps, name_in, event_in, control_from, control_of, with_control, controls_of, counter_of, step_block_of, timer_of, counters_in, timers_in, entries_of}
 use Rattle.machine_settings.specs.Limits.{IsEndWithin}

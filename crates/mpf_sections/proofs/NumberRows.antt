@@ -1,8 +1,8 @@
 -- A number or a time of a setting is within the bounds of its table, if its default is.
 use Rattle.std.proofs.Common.{rules, ◌≡◌, ℕ, ◌^◌, ◌≤◌, nat_lt, nat_le, pos, Bool, true, false, ◌&&◌, Option, Some, None}
 use Rattle.std.proofs.lemmas.Bool.{leb-true, and_parts}
-use Rattle.section_tables.specs.{Rows.Value, EntryOf.within}
-use Rattle.section_tables.specs.Kinds.{number_within, time_within, Absent, Kind, single, Setting}
+use Rattle.setting_values.specs.{Values.Value, ValueOf.within, Kinds.{number_within, time_within, Absent, Kind, single}}
+use Rattle.section_tables.specs.Shapes.{Setting}
 use Rattle.mpf_sections.specs.TypedNumbers.{default_number, number_under, natural_from, default_time, time_under}
 
 -- a number or a time within these bounds

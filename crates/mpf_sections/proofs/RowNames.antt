@@ -3,8 +3,9 @@ use Rattle.std.proofs.Common.{rules, ◌≢◌, ℕ, zero, suc, Bool, if◌then�
 use Rattle.std.specs.{List.{All, AllByRecursion}, Str.bytes_eq}
 use Rattle.std.proofs.lemmas.List.Elements.{All-nil, All-map, All-tail, All-weaker, All-from_recursion}
 use Rattle.mpf_values.specs.Names.{IsName}
-use Rattle.section_tables.specs.Rows.{Plain, Keyed, Value, keyed, Entry, Player}
-use Rattle.section_tables.specs.Named.{IsNamedHandled, IsNamedKeyed, IsNamedValue, IsNamedEvent, IsNamedEntry, IsNamedPlayer}
+use Rattle.setting_values.specs.Values.{Plain, Keyed, Value, keyed}
+use Rattle.section_tables.specs.{Rows.{Entry, Player}, Named.{IsNamedEvent, IsNamedEntry, IsNamedPlayer}}
+use Rattle.setting_values.specs.NamedValues.{IsNamedHandled, IsNamedKeyed, IsNamedValue}
 use Rattle.mpf_sections.specs.Rows.{Written, Content, SectionRows}
 use Rattle.mpf_tables.specs.SectionTables.{switches_name}
 use Rattle.mpf_sections.specs.Typed.{content_named, mode_row, mode_name, mode_settings_of, mode_settings, listed_names, listed_keyed, listed_events, listed_posts, handled_in, switch_of, event_player_of, entries_in, entries_of, switches_in}

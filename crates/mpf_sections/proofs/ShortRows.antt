@@ -1,7 +1,8 @@
 -- No list in the rows of a section has more than 1,024 items, by the names of settings either.
 use Rattle.std.proofs.Common.{rules, ℕ, zero, suc, ◌≤◌, List, [], ◌∷◌, length, Option, Some, None, slice_get, arith}
 use Rattle.std.{specs.{List.All, Str.bytes_eq}, proofs.lemmas.List.Elements.{All-head, All-tail}}
-use Rattle.section_tables.specs.{Rows.{Value, Entry, Player}, Named.{IsShortValue, IsShortEntry, IsShortPlayer}}
+use Rattle.setting_values.specs.{Values.Value, NamedValues.IsShortValue}
+use Rattle.section_tables.specs.{Rows.{Entry, Player}, Named.{IsShortEntry, IsShortPlayer}}
 use Rattle.mpf_sections.specs.{Rows.SectionRows, Short.{IsShortSection, IsShortSwitch, IsShortEventPlayer}}
 use Rattle.mpf_tables.specs.SectionTables.{switches_name}
 use Rattle.mpf_sections.specs.Typed.{listed_names, listed_posts, switch_of, event_player_of, entries_in, entries_of, switches_in}

@@ -3,7 +3,8 @@
 use Rattle.std.proofs.Common.{rules, ◌≡◌, ℕ, suc, ◌≤◌, nat_le, Bool, if◌then◌else◌, List, [], ◌∷◌, length, Option, map, slice_get, refl, arith}
 use Rattle.std.specs.List.{All, cons_option, filter_map}
 use Rattle.std.proofs.lemmas.List.Elements.{All-nil, All-head, All-tail, All-from_recursion}
-use Rattle.section_tables.specs.{Rows.{Fields, Value, Entry}, Named.{AreNamedPlains, IsNamedEntry, IsShortEntry}}
+use Rattle.setting_values.specs.{Values.{Fields, Value}, NamedValues.AreNamedPlains}
+use Rattle.section_tables.specs.{Rows.Entry, Named.{IsNamedEntry, IsShortEntry}}
 use Rattle.mpf_sections.{specs.Rows.{Written, SectionRows}, proofs.ShortRows.{value_at_short, entries_of_short}}
 use Rattle.mpf_sections.proofs.CoilRows.{written_named, some_named, either_named}
 use Rattle.mpf_sections.specs.Typed.{listed_names, listed_events, listed_maps, entries_of}

@@ -1,13 +1,14 @@
 -- What contracts of the functions inside this crate see.
 use Rattle.std.specs.Prelude.{◌≡◌, ℕ, ◌+◌, ◌==◌, Bool, List, length, map, Option, Some, option_map, slice_get, unwrap_or}
 use Rattle.std.specs.{List.list_all, Str.bytes_eq, Borrow.Bor, Global.Vec}
-use Rattle.section_tables.specs.{declared.rows.{Name.Name, Handler.Handler}, Rows.{Plain, Value, Entry, name as named}}
-use Rattle.section_tables.specs.declared.rows.Plain as plain_rows
-use Rattle.section_tables.specs.declared.rows.Value as value_rows
-use Rattle.section_tables.specs.declared.rows.Fields as field_rows
-use Rattle.section_tables.specs.declared.rows.Keyed as keyed_rows
+use Rattle.setting_values.specs.{declared.values.{Name.Name, Handler.Handler}, View.{value_view, plains_view}}
+use Rattle.setting_values.specs.Values.{Plain, Value, name as named, written_at}
+use Rattle.section_tables.specs.Rows.{Entry}
+use Rattle.setting_values.specs.declared.values.Plain as plain_rows
+use Rattle.setting_values.specs.declared.values.Value as value_rows
+use Rattle.setting_values.specs.declared.values.Fields as field_rows
+use Rattle.setting_values.specs.declared.values.Keyed as keyed_rows
 use Rattle.section_tables.specs.declared.rows.Entry as entry_rows
-use Rattle.section_tables.specs.{Entries.written_at, View.{value_view, plains_view}}
 use Rattle.mpf_sections.specs.declared.section.Content as contents
 use Rattle.mpf_sections.specs.declared.{section.Section.Section, typed.{NameAt.NameAt, HandledAt.HandledAt}}
 use Rattle.mpf_sections.specs.declared.blocks.BlockEvents as typed_blocks

@@ -1,6 +1,7 @@
 -- What it means that every name in the rows of a section is one: 1 to 64 letters, digits, `_`, `-` and `.`.
 use Rattle.std.specs.{Prelude.{List, IfSome}, List.All}
-pub use Rattle.section_tables.specs.Named.{IsNamedHandled, IsNamedEntry, IsNamedPlayer}
+pub use Rattle.setting_values.specs.NamedValues.{IsNamedHandled}
+pub use Rattle.section_tables.specs.Named.{IsNamedEntry, IsNamedPlayer}
 use Rattle.mpf_sections.specs.Rows.{Written, Handled, Switch, EventPlayer, Coil, CoilPlayer, VariablePlayer, Rule, Flipper, Autofire, Shot, ShotGroup, ShotProfile, BallDevice, BallSave, Multiball, BlockEvents, Counter, StepBlock, Timer, ModeSettings, Content, entries, players, entry, listed, SectionRows}
 pub use Rattle.mpf_values.specs.Names.{IsName}
 

@@ -7,7 +7,8 @@ use Rattle.machine_settings.specs.declared.settings.{BlockSettings.BlockSettings
 use Rattle.machine_settings.specs.declared.settings.CounterSettings.{CounterSettings}
 use Rattle.machine_settings.specs.declared.settings.{TimerSettings.TimerSettings, EjectSettings.EjectSettings}
 use Rattle.machine_settings.specs.declared.settings.MultiballSettings.{MultiballSettings}
-pub use Rattle.section_tables.specs.Rows.{Written, Handled, Entry, Player}
+pub use Rattle.setting_values.specs.Values.{Written, Handled}
+pub use Rattle.section_tables.specs.Rows.{Entry, Player}
 
 -- an entry of `switches`
 pub record Switch : Type 0 where

@@ -2,7 +2,8 @@
 use Rattle.mpf_sections.specs.declared.section.Content as contents
 use Rattle.mpf_sections.specs.declared.section.Content.TheVariants as content
 use Rattle.mpf_sections.specs.declared.section.Section.{Section}
-use Rattle.section_tables.specs.View.{names_view, entry_view, entries_view, players_view}
+use Rattle.setting_values.specs.View.{names_view}
+use Rattle.section_tables.specs.View.{entry_view, entries_view, players_view}
 use Rattle.mpf_sections.specs.Rows.{Content, entries, players, entry, listed, SectionRows}
 
 abbrev pub content_view : contents.Content → Content

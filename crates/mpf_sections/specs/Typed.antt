@@ -7,9 +7,9 @@ use Rattle.machine_settings.specs.declared.words.Direction.{Direction, TheVarian
 use Rattle.machine_settings.specs.declared.settings.BlockSettings.{BlockSettings}
 use Rattle.mpf_sections.specs.declared.words.ControlAction.{ControlAction}
 use Rattle.mpf_sections.specs.declared.words.ControlAction.TheVariants.{Start, Stop, Pause, Reset, Restart, Add, Subtract, Jump}
-use Rattle.section_tables.specs.Rows.{Written, Handled, Plain, flag, number, time, power, word, name, event, Fields, Keyed, Value, one, names, posts, events, steps, maps, keyed, Entry, Player}
-use Rattle.section_tables.specs.{Kinds.{Field, Setting}, Entries.handled_at, EntryOf.within}
-use Rattle.section_tables.specs.Tables.{found_in, field_key, setting_key, setting_default}
+use Rattle.setting_values.specs.Values.{Written, Handled, Plain, flag, number, time, power, word, name, event, Fields, Keyed, Value, one, names, posts, events, steps, maps, keyed}
+use Rattle.section_tables.specs.{Rows.{Entry, Player}, Shapes.Setting, Tables.{setting_key, setting_default}}
+use Rattle.setting_values.specs.{Kinds.Field, Values.handled_at, ValueOf.within, KeyRules.{found_in, field_key}}
 use Rattle.mpf_tables.specs.SectionTables as tables
 pub use Rattle.mpf_tables.specs.SectionTables.{switches_name, event_player_name, counters_name, accruals_name, sequences_name, timers_name, modes_name, mode_name}
 use Rattle.mpf_sections.specs.Rows.{Switch, EventPlayer, BlockEvents, Counter, StepBlock, Control, Timer, ModeSettings, Content, entries, players, entry, listed, SectionRows}

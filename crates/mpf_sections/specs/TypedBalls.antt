@@ -1,7 +1,8 @@
 -- The entries of `ball_devices`, by the names of their settings.
 use Rattle.std.specs.Prelude.{ℕ, zero, suc, Bool, ◌||◌, List, map, Option, Some, None, unwrap_or, codes}
 use Rattle.std.specs.{List.list_any, Str.bytes_eq}
-use Rattle.section_tables.specs.{Rows.Entry, Entries.written_at}
+use Rattle.section_tables.specs.Rows.{Entry}
+use Rattle.setting_values.specs.Values.{written_at}
 use Rattle.mpf_tables.specs.SectionTables as tables
 pub use Rattle.mpf_tables.specs.SectionTables.{ball_devices_name, playfield}
 use Rattle.mpf_sections.specs.Typed.{setting_of, text_of, flag_of, listed_names, name_in, entries_of}

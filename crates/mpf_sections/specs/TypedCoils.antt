@@ -2,7 +2,8 @@
 use Rattle.std.specs.Prelude.{◌∷◌, ℕ, nat_lt, Bool, true, false, ◌||◌, if◌then◌else◌, List, [], map, Option, Some, None, slice_get, unwrap_or, codes}
 use Rattle.std.specs.Str.{bytes_eq}
 use Rattle.mpf_sections.specs.declared.words.CoilAction.{CoilAction, TheVariants.{Pulse, Enable, Disable}}
-use Rattle.section_tables.specs.{Rows.{Written, Plain, Keyed, Entry, Player}, Kinds.Setting}
+use Rattle.setting_values.specs.Values.{Written, Plain, Keyed}
+use Rattle.section_tables.specs.{Rows.{Entry, Player}, Shapes.Setting}
 use Rattle.mpf_tables.specs.SectionTables as tables
 pub use Rattle.mpf_tables.specs.SectionTables.{coils_name, coil_player_name, flippers_name, autofire_coils_name}
 use Rattle.mpf_sections.specs.Typed.{setting_of, field_of, text_of, flag_of, listed_events, listed_keyed, handled_in, name_in, word_in, pulse_in, power_in, place_of, entries_in, entries_of, players_of}

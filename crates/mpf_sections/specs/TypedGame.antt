@@ -1,7 +1,8 @@
 -- The entries of `machine`, `game` and `variable_player`, by the names of their settings.
 use Rattle.std.specs.{Prelude.{ℕ, ℤ, pos, negsuc, if◌then◌else◌, List, map, Option, Some, codes}, Str.bytes_eq}
 use Rattle.machine_settings.specs.declared.words.VariableAction.{VariableAction, TheVariants.{Add, Set}}
-use Rattle.section_tables.specs.{Rows.{Plain, number, Keyed, Entry, Player}, EntryOf.within}
+use Rattle.setting_values.specs.{Values.{Plain, number, Keyed}, ValueOf.within}
+use Rattle.section_tables.specs.Rows.{Entry, Player}
 use Rattle.mpf_tables.specs.SectionTables as tables
 pub use Rattle.mpf_tables.specs.SectionTables.{variable_player_name, machine_section_name, game_name}
 use Rattle.mpf_sections.specs.Typed.{field_of, listed_keyed, handled_in, word_in, players_of, content_named, row_or}

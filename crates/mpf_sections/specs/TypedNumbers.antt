@@ -1,7 +1,8 @@
 -- The numbers and the times of a row, with the bounds and the defaults that its table says.
 use Rattle.std.specs.Prelude.{ℕ, ℤ, pos, ◌^◌, nat_lt, nat_le, ◌&&◌, if◌then◌else◌, List, Option, Some, None, slice_get}
-use Rattle.section_tables.specs.{Rows.{number, time, Value, one}, EntryOf.within}
-use Rattle.section_tables.specs.Kinds.{number_within, time_within, Absent, default, Kind, single, Setting}
+use Rattle.setting_values.specs.{Values.{number, time, Value, one}, ValueOf.within}
+use Rattle.setting_values.specs.Kinds.{number_within, time_within, Absent, default, Kind, single}
+use Rattle.section_tables.specs.Shapes.{Setting}
 use Rattle.mpf_sections.specs.Typed.{place_of}
 
 -- ---- numbers

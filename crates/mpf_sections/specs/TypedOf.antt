@@ -1,8 +1,8 @@
 -- What is read of entries and sections, as the program has them: each entry by the names of its settings.
 use Rattle.std.specs.Prelude.{◌≡◌, ℕ, List, map, Option, option_map}
-use Rattle.section_tables.specs.declared.rows.{Name.Name, Handler.Handler}
-use Rattle.section_tables.specs.declared.rows.Fields as field_rows
-use Rattle.section_tables.specs.declared.rows.Keyed as keyed_rows
+use Rattle.setting_values.specs.declared.values.{Name.Name, Handler.Handler}
+use Rattle.setting_values.specs.declared.values.Fields as field_rows
+use Rattle.setting_values.specs.declared.values.Keyed as keyed_rows
 use Rattle.section_tables.specs.declared.rows.Entry as entry_rows
 use Rattle.section_tables.specs.declared.rows.Player as player_rows
 use Rattle.mpf_sections.specs.declared.section.Content as contents

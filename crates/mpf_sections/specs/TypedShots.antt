@@ -1,7 +1,8 @@
 -- The entries of `shots`, `shot_groups` and `shot_profiles`, by the names of their settings.
 use Rattle.std.specs.Prelude.{ℕ, nat_le, if◌then◌else◌, List, [], length, map, Option, unwrap_or, codes}
 use Rattle.std.specs.List.{filter_map}
-use Rattle.section_tables.specs.{Rows.{Written, Handled, Fields, Entry}, Entries.written_at}
+use Rattle.setting_values.specs.Values.{Written, Handled, Fields, written_at}
+use Rattle.section_tables.specs.Rows.{Entry}
 use Rattle.mpf_tables.specs.SectionTables as tables
 pub use Rattle.mpf_tables.specs.SectionTables.{shots_name, shot_groups_name, shot_profiles_name, default_profile}
 use Rattle.mpf_sections.specs.Typed.{setting_of, field_of, text_of, flag_of, listed_names, listed_events, listed_maps, name_in, entries_of}

@@ -1,7 +1,7 @@
 -- What contracts see of entries by the names of their settings.
 use Rattle.std.specs.{Prelude.{map, option_map, Option}, List.filter_map, Borrow.Bor}
-use Rattle.section_tables.specs.declared.rows.Plain as plains
-use Rattle.section_tables.specs.{Rows.Plain, View.guard_view}
+use Rattle.setting_values.specs.declared.values.Plain as plains
+use Rattle.setting_values.specs.{Values.Plain, View.guard_view}
 use Rattle.mpf_sections.specs.declared.typed.{NameAt.NameAt, HandledAt.HandledAt}
 use Rattle.mpf_sections.specs.declared.typed.Switch as typed_switches
 use Rattle.mpf_sections.specs.declared.typed.EventPlayer as typed_players
@@ -32,7 +32,8 @@ use Rattle.mpf_sections.specs.Rows.{Written, Handled, Switch, EventPlayer, Coil,
 use Rattle.mpf_sections.specs.{Typed.controls_of, TypedShots.state_of}
 use Rattle.mpf_sections.specs.{TypedCoils.coil_item_of, TypedGame.variable_item_of}
 pub use Rattle.mpf_sections.specs.SectionView.{content_view, section_view}
-pub use Rattle.section_tables.specs.View.{name_view, names_view, handler_view, handlers_view, plain_view, fields_view, keyed_view, entry_view, player_view}
+pub use Rattle.setting_values.specs.View.{name_view, names_view, handler_view, handlers_view, plain_view, fields_view, keyed_view}
+pub use Rattle.section_tables.specs.View.{entry_view, player_view}
 
 abbrev pub name_at_view : NameAt → Written
 name_at_view n = record { line = n.line; text = n.text.now }

@@ -10,7 +10,8 @@ use crate::typed::NameAt;
 use crate::values::{few_names, flag, name, name_or, names, text};
 use machine_settings::EjectSettings;
 use mpf_tables::tables::{BALL_DEVICES, PLAYFIELD};
-use section_tables::rows::{Entry, Name};
+use section_tables::rows::Entry;
+use setting_values::values::Name;
 
 /// An entry of `ball_devices`.
 #[derive(Clone, Copy)]

@@ -7,7 +7,8 @@ ghost use Rattle.mpf_sections.specs.TypedOf.{IsCounterOf, IsStepBlockOf};
 
 use crate::values::{direction, flag, handlers, limit, milliseconds, number, posts_at, steps};
 use machine_settings::{BlockSettings, CounterSettings};
-use section_tables::rows::{Entry, Handler, Name};
+use section_tables::rows::Entry;
+use setting_values::values::{Handler, Name};
 
 /// The events that all logic blocks have.
 #[derive(Clone, Copy)]

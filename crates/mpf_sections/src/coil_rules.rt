@@ -8,7 +8,8 @@ ghost use Rattle.mpf_sections.specs.TypedOf.{IsNeededAt, IsFlipperOf, IsAutofire
 use crate::typed::NameAt;
 use crate::values::{handlers, name, text};
 use mpf_tables::tables::{AUTOFIRE_COILS_NAME, FLIPPERS_NAME};
-use section_tables::rows::{Entry, Handler, Name};
+use section_tables::rows::Entry;
+use setting_values::values::{Handler, Name};
 
 /// What flippers and autofire coils have in common: the switch, and the events that enable and
 /// disable it.

@@ -9,7 +9,8 @@ use crate::typed::HandledAt;
 use crate::values::{field, flag, handled, keyed, power, pulse, text, word_field};
 use crate::words::CoilAction;
 use mpf_tables::tables::COILS;
-use section_tables::rows::{Entry, Keyed, Name, Player};
+use section_tables::rows::{Entry, Player};
+use setting_values::values::{Keyed, Name};
 
 /// An entry of `coils`. Powers are in thousandths of full power.
 #[derive(Clone, Copy)]

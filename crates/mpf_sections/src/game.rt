@@ -10,7 +10,8 @@ use crate::typed::{HandledAt, section_named};
 use crate::values::{change, handled, keyed, word_field};
 use machine_settings::VariableAction;
 use mpf_tables::tables::{GAME, MACHINE, MACHINE_SECTION_NAME};
-use section_tables::rows::{Entry, Keyed, Name, Player};
+use section_tables::rows::{Entry, Player};
+use setting_values::values::{Keyed, Name};
 
 /// What is done with a variable when an event is handled.
 #[derive(Clone, Copy)]

@@ -1,12 +1,15 @@
 //! Numbers and times of an entry, with the bounds and the defaults that its table says.
 
 ghost use Rattle.std.specs.Prelude.{◌≡◌, slice_get, None};
-ghost use Rattle.section_tables.specs.TableView.{kind_view, without_view, table_view};
+ghost use Rattle.setting_values.specs.KindView.{kind_view};
+ghost use Rattle.section_tables.specs.TableView.{without_view, table_view};
 ghost use Rattle.section_tables.specs.View.{value_option_view, entry_view};
 ghost use Rattle.mpf_sections.specs.TypedNumbers.{default_number, bounded_number, number_by, number_under, number_at, natural_from, default_time, bounded_time, time_by, time_at};
 
-use section_tables::rows::{Entry, Plain, Value};
-use section_tables::table::{Absent, Kind, Scalar, Setting, Without};
+use section_tables::rows::Entry;
+use section_tables::table::{Setting, Without};
+use setting_values::kinds::{Absent, Kind, Scalar};
+use setting_values::values::{Plain, Value};
 
 // ---- numbers
 

@@ -7,7 +7,8 @@ use crate::numbers::natural;
 use crate::values::{handlers, milliseconds};
 use machine_settings::{MultiballSettings, SaveSettings};
 use mpf_tables::tables::{BALL_SAVES, MULTIBALLS};
-use section_tables::rows::{Entry, Handler, Name};
+use section_tables::rows::Entry;
+use setting_values::values::{Handler, Name};
 
 /// An entry of `ball_saves`.
 #[derive(Clone, Copy)]

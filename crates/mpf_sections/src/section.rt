@@ -1,6 +1,7 @@
 //! Sections by name, as written.
 
-use section_tables::rows::{Entry, Name, Player};
+use section_tables::rows::{Entry, Player};
+use setting_values::values::Name;
 
 /// The content of a section, as written.
 #[derive(Drop)]

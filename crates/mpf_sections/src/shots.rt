@@ -6,7 +6,8 @@ ghost use Rattle.mpf_sections.specs.Inside.{AreFewMapsAt};
 use crate::typed::NameAt;
 use crate::values::{few_names, field, flag, handlers, maps, name, name_or, text};
 use mpf_tables::tables::DEFAULT_PROFILE;
-use section_tables::rows::{Entry, Fields, Handler, Name};
+use section_tables::rows::Entry;
+use setting_values::values::{Fields, Handler, Name};
 
 /// An entry of `shots`.
 #[derive(Clone, Copy)]

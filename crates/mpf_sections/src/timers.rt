@@ -10,7 +10,8 @@ use crate::values::{
 };
 use crate::words::ControlAction;
 use machine_settings::{Direction, TimerSettings};
-use section_tables::rows::{Entry, Fields, Name};
+use section_tables::rows::Entry;
+use setting_values::values::{Fields, Name};
 
 /// An event that controls a timer.
 #[derive(Clone, Copy)]

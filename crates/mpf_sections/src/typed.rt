@@ -11,7 +11,8 @@ use crate::values::{flag, handled, handlers, names, natural, posts, posts_at, wo
 use crate::words::Debounce;
 use machine_settings::Contact;
 use mpf_tables::tables::{MODE_NAME, MODES_NAME};
-use section_tables::rows::{Entry, Guard, Handler, Name, Player};
+use section_tables::rows::{Entry, Player};
+use setting_values::values::{Guard, Handler, Name};
 
 /// A name where it is written.
 #[derive(Clone, Copy)]

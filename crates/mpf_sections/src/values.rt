@@ -1,14 +1,15 @@
 //! Values of an entry, by their places.
 
 ghost use Rattle.std.specs.Prelude.{◌≡◌, ◌&&◌, nat_le, pos, negsuc};
-ghost use Rattle.section_tables.specs.EntryOf.{within};
+ghost use Rattle.setting_values.specs.ValueOf.{within};
 ghost use Rattle.mpf_sections.specs.Typed.{word_of, flag_of, natural_of, number_of, direction_of, limit_of, time_of, word_in, number_in};
 ghost use Rattle.mpf_sections.specs.TypedGame.{change_in};
 ghost use Rattle.mpf_sections.specs.Inside.{value_at, IsTextAt, AreNamesAt, AreFewNamesAt, AreEventsAt, ArePostsOf, ArePostsAt, AreStepsAt, AreMapsAt, AreKeyedOf, field_at, IsFieldAt, IsAlways, IsHandledIn, IsEventIn, IsNameIn, IsNameOr, pulse_of_text, power_of_text};
 
 use crate::typed::{HandledAt, NameAt, as_handled};
 use machine_settings::Direction;
-use section_tables::rows::{Entry, Fields, Handler, Keyed, Name, Plain, Value};
+use section_tables::rows::Entry;
+use setting_values::values::{Fields, Handler, Keyed, Name, Plain, Value};
 
 // ---- values of settings
 

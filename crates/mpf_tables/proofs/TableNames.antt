@@ -3,7 +3,8 @@ use Rattle.std.proofs.Common.{rules, ◌≡◌, ℕ, ◌≤◌, Bool, cond, List
 use Rattle.std.{specs.{List.AllByRecursion, Str.bytes_eq}, proofs.lemmas.Option.{same_Some, none-some}}
 use Rattle.mpf_tables.specs.{declared.tables.TextKind.{TextKind, TheVariants.{Machine, Mode}}, TableRules.IsRight}
 use Rattle.mpf_values.{specs.Names.IsName, proofs.NameTexts.IsName-from_is_name}
-use Rattle.section_tables.{specs.{Rows.Handled, Kinds.Shape, Entries.handled_at}, proofs.RowNames.{no_items, few_items}}
+use Rattle.setting_values.{specs.Values.{Handled, handled_at}, proofs.ValueNames.{no_items, few_items}}
+use Rattle.section_tables.specs.Shapes.{Shape}
 use Rattle.section_tables.specs.Named.{IsNamedKinds, IsNamedTable, IsNamedShape, IsShortTable, IsShortShape}
 use Rattle.mpf_tables.specs.SectionTables.{switches, coils, rule_events, playfield, ball_devices, ball_saves, multiballs, save_shapes, block, counters, step_blocks, timers, default_profile, shots, shot_groups, shot_profiles, shot_shapes, mode, event_player, coil_player, variable_player, shared_shapes, mode_shapes, named_in, shape_of}
 use Rattle.yaml_bytes.proofs.Words.{word_is}

@@ -1,10 +1,11 @@
 -- The tables of the sections: what settings each has. The order decides which of several missing settings is reported.
 use Rattle.std.specs.Prelude.{ℕ, pos, negsuc, true, false, if◌then◌else◌, List, [], ◌∷◌, Option, Some, None, codes}
 use Rattle.std.specs.Str.{bytes_eq}
-use Rattle.section_tables.specs.Rows.{nothing, flag, number, time, power, word, name, one, names, posts, events, maps}
-use Rattle.section_tables.specs.Entries.{written_at, handled_at}
+use Rattle.setting_values.specs.Values.{nothing, flag, number, time, power, word, name, one, names, posts, events, maps}
+use Rattle.setting_values.specs.Values.{written_at, handled_at}
 use Rattle.mpf_tables.specs.declared.tables.TextKind.{TextKind, TheVariants.{Machine, Mode}}
-use Rattle.section_tables.specs.Kinds.{Scalar, a_flag, number_within, time_within, a_power, one_of, a_name, an_event, at_least, between, Absent, required, default, KeyRule, Field, single, name_list, post_list, event_list, step_list, map_list, named_maps, keyed_maps, Setting, PlayerKinds, Shape, by_entries, by_players, by_entry, by_names}
+use Rattle.setting_values.specs.Kinds.{Scalar, a_flag, number_within, time_within, a_power, one_of, a_name, an_event, at_least, between, Absent, required, default, KeyRule, Field, single, name_list, post_list, event_list, step_list, map_list, named_maps, keyed_maps}
+use Rattle.section_tables.specs.Shapes.{Setting, PlayerKinds, Shape, by_entries, by_players, by_entry, by_names}
 
 abbrev row : {K V : Type 0} → List ℕ → K → Absent V → KeyRule K V
 row key kind absent = record { key = key; kind = kind; absent = absent }

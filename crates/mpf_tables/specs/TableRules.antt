@@ -3,9 +3,11 @@
 use Rattle.std.specs.Prelude.{◌≡◌, nat_le, nat_lt, Bool, true, false, ◌&&◌, List, [], ◌∷◌, length, map, Option, Some, None}
 use Rattle.std.specs.{List.{list_any, list_all}, Str.bytes_eq}
 use Rattle.mpf_values.specs.{Reading.is_name, Events.Condition}
-use Rattle.section_tables.specs.Rows.{Handled, Plain, nothing, flag, number, time, power, word, name, event, Value, one, names, posts, events, maps}
-use Rattle.section_tables.specs.Kinds.{Scalar, a_flag, number_within, time_within, a_power, one_of, a_name, an_event, Absent, required, default, fits, Field, Kind, single, name_list, post_list, event_list, map_list, named_maps, keyed_maps, Setting, PlayerKinds, Shape, by_entries, by_players, by_entry, by_names}
-use Rattle.section_tables.specs.{Tables.{field_key, setting_key}, EntryOf.within, Reading.are_apart}
+use Rattle.setting_values.specs.Values.{Handled, Plain, nothing, flag, number, time, power, word, name, event, Value, one, names, posts, events, maps}
+use Rattle.setting_values.specs.Kinds.{Scalar, a_flag, number_within, time_within, a_power, one_of, a_name, an_event, Absent, required, default, fits, Field, Kind, single, name_list, post_list, event_list, map_list, named_maps, keyed_maps}
+use Rattle.section_tables.specs.Shapes.{Setting, PlayerKinds, Shape, by_entries, by_players, by_entry, by_names}
+use Rattle.setting_values.specs.{KeyRules.field_key, ValueOf.within, Reading.are_apart}
+use Rattle.section_tables.specs.Tables.{setting_key}
 
 -- ---- defaults
 

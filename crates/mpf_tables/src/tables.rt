@@ -4,15 +4,14 @@
 ghost use Rattle.std.specs.Prelude.{◌≡◌, ℕ, List, Some};
 ghost use Rattle.mpf_tables.specs.declared.tables.TextKind.{TextKind as Text};
 ghost use Rattle.mpf_tables.specs.declared.tables.TextKind.TheVariants.{Machine, Mode};
-ghost use Rattle.section_tables.specs.Kinds.{Shape as SectionShape};
+ghost use Rattle.section_tables.specs.Shapes.{Shape as SectionShape};
 ghost use Rattle.mpf_tables.specs.SectionTables.{save_shapes, shot_shapes, block_shapes, shared_shapes, device_shapes, named_in, shape_of};
 ghost use Rattle.mpf_tables.specs.TableRules.{IsRight};
-ghost use Rattle.section_tables.specs.Reading.{give};
+ghost use Rattle.setting_values.specs.Reading.{give};
 ghost use Rattle.section_tables.specs.TableView.{shape_view};
 
-use section_tables::table::{
-    Absent, Barred, Bounds, Field, Kind, Others, PlayerKinds, Scalar, Setting, Shape, Without,
-};
+use section_tables::table::{Barred, PlayerKinds, Setting, Shape, Without};
+use setting_values::kinds::{Absent, Bounds, Field, Kind, Others, Scalar};
 
 macro_rules! setting {
     ($key:expr, $kind:expr, $without:expr) => {

@@ -1,30 +1,22 @@
 //! The program `pinball`: words, files and the exit status. All else is in the libraries.
 #![tactic(auto)]
 
-use ball_devices::{BallDevice, BallSave, Multiball};
 use coil_guard::MemoryBoard;
-use coil_rules::{Autofire, Flipper};
-use command_line::{Ask, AskFault, command};
+use command_line::{Ask, AskFault, command, program_words};
 use config_checker::Checked;
-use device_objects::Device;
-use logic_blocks::{Counter, MaskAccrual, Sequence, Timer};
-use memchr::{memchr, memmem};
-use mpf_config::{ConfigFault, MACHINE_NAME, MODES_NAME, mode_names, mode_text_name};
+use machine_folder::{Disk, folder_bundle};
+use mpf_config::MACHINE_NAME;
 use pinball_shell::{
-    BUNDLE_LIMIT, Failure, ShellFault, Verdict, append_text, check_bundle, join, load_bundle,
-    play_text, read_all, status, verify_bundle,
+    BUNDLE_LIMIT, Failure, ShellFault, Verdict, check_bundle, load_bundle, play_text, read_all,
+    status, verify_bundle,
 };
-use shot_groups::MaskBank;
-use std::alloc::{AllocError, Global};
-use std::io::{self, BufWriter, ErrorKind, Read, Write};
+use row_devices::device_of;
+use std::alloc::Global;
+use std::fs;
+use std::io::{self, BufWriter, Read, Write};
 use std::process::ExitCode;
 use std::rt::{Env, Files};
-use std::{env, fs};
 
-/// The status if the words are not understood.
-const USAGE: u8 = 2;
-/// The status if a file, reading, writing, a size or memory failed.
-const FAULT: u8 = 3;
 /// How many bytes of output are written at once.
 const OUTPUT_ROOM: usize = 65_536;
 /// What is said besides the failure, if the text of the machine in DIR cannot be read.
@@ -43,27 +35,16 @@ fn main(rt: HostRuntime) -> ExitCode {
             }
             ExitCode::from(status(&answer.map_err(|failure| failure.fault)))
         }
-        Err(AskFault::Usage(text)) => {
-            let _ = eprint!(&rt; "{text}");
-            ExitCode::from(USAGE)
-        }
-        Err(AskFault::NoMemory) => {
-            let _ = eprintln!(&rt; "fault: {}", ShellFault::NoMemory.name());
-            ExitCode::from(FAULT)
+        Err(fault) => {
+            let _ = fault.write(&mut io::writer(&rt.stderr()));
+            ExitCode::from(fault.status())
         }
     }
 }
 
 /// What the words after the program's name ask for.
 fn asked<R: Env + AllocGlobal>(rt: &R) -> Result<Ask, AskFault> {
-    match env::args(rt) {
-        Ok(words) => command(rt.alloc(), words.skip(1).collect(rt.alloc())?),
-        Err(error) if error.kind() == ErrorKind::OutOfMemory => Err(AskFault::NoMemory),
-        Err(_) => Err(AskFault::Usage(String::from_str(
-            rt.alloc(),
-            "error: an argument is not UTF-8\n",
-        )?)),
-    }
+    command(rt.alloc(), program_words(rt)?)
 }
 
 /// The folder of the configuration, if one is given.
@@ -151,40 +132,14 @@ fn play_log<L: Read, W: Write>(
     log: &mut L,
     writer: &mut W,
 ) -> Result<Verdict, ShellFault> {
-    let mut devices: Vec<Box<dyn Device>> = Vec::new(alloc);
+    let mut devices = Vec::new(alloc);
     for row in checked.plan().rows() {
-        let device: Box<dyn Device> = if let Some(counter) = Counter::new(row) {
-            boxed(alloc, counter)?
-        } else if let Some(accrual) = MaskAccrual::new(row) {
-            boxed(alloc, accrual)?
-        } else if let Some(sequence) = Sequence::new(row) {
-            boxed(alloc, sequence)?
-        } else if let Some(timer) = Timer::new(row) {
-            boxed(alloc, timer)?
-        } else if let Some(bank) = MaskBank::new(row) {
-            boxed(alloc, bank)?
-        } else if let Some(flipper) = Flipper::new(row) {
-            boxed(alloc, flipper)?
-        } else if let Some(autofire) = Autofire::new(row) {
-            boxed(alloc, autofire)?
-        } else if let Some(device) = BallDevice::new(row) {
-            boxed(alloc, device)?
-        } else if let Some(save) = BallSave::new(row) {
-            boxed(alloc, save)?
-        } else if let Some(multiball) = Multiball::new(row) {
-            boxed(alloc, multiball)?
-        } else {
-            continue;
-        };
-        devices.push(device)?;
+        if let Some(device) = device_of(row) {
+            devices.push(device)?;
+        }
     }
     let board = MemoryBoard::new(alloc)?;
     play_text(alloc, checked, devices, board, log, writer)
-}
-
-/// A box of a device.
-fn boxed<D: Device>(alloc: Global, device: D) -> Result<Box<D>, AllocError> {
-    Ok(Box::new(alloc, device)?)
 }
 
 /// The bundle of the configuration in this folder; or the one on standard input.
@@ -193,92 +148,7 @@ fn bundle_of<R: Files + Input + AllocGlobal>(
     folder: Option<&str>,
 ) -> Result<Vec<u8>, Failure> {
     match folder {
-        Some(folder) => folder_bundle(rt, folder),
+        Some(folder) => folder_bundle(rt.alloc(), &Disk(rt), folder),
         None => Ok(read_all(rt.alloc(), &mut rt.reader(), BUNDLE_LIMIT)?),
     }
-}
-
-/// The bundle of a folder: the machine text, and then the texts of the modes that it lists.
-fn folder_bundle<R: Files + AllocGlobal>(rt: &R, folder: &str) -> Result<Vec<u8>, Failure> {
-    let path = path_in(rt.alloc(), folder, MACHINE_NAME)?;
-    let read = read_machine(rt, &path);
-    let (mut bundle, modes) = read.map_err(|fault| Failure::at(fault, path))?;
-    for mode in modes {
-        append_mode(rt, folder, &mut bundle, &mode)?;
-    }
-    Ok(bundle)
-}
-
-/// The bundle of the machine text in this file alone, and the names of the modes that the text
-/// lists.
-fn read_machine<R: Files + AllocGlobal>(
-    rt: &R,
-    path: &str,
-) -> Result<(Vec<u8>, Vec<Vec<u8>>), ShellFault> {
-    let Ok(mut file) = fs::open(rt, path) else {
-        return Err(ShellFault::Read);
-    };
-    let text = read_all(rt.alloc(), &mut file, BUNDLE_LIMIT)?;
-    let modes = modes_of(rt.alloc(), &text)?;
-    let bundle = join(rt.alloc(), b"", MACHINE_NAME, &text)?;
-    Ok((bundle, modes))
-}
-
-/// The names of the modes that a machine text lists. None if it has a fault: what reads the
-/// bundle reports that.
-fn modes_of(alloc: Global, text: &[u8]) -> Result<Vec<Vec<u8>>, ShellFault> {
-    if !may_list_modes(text) {
-        return Ok(Vec::new(alloc));
-    }
-    match mode_names(alloc, text) {
-        Ok(modes) => Ok(modes),
-        Err(ConfigFault::Bundle(_fault)) => Ok(Vec::new(alloc)),
-        Err(ConfigFault::NoMemory) => Err(ShellFault::NoMemory),
-    }
-}
-
-/// Whether a machine text may list modes, which saves reading it twice if it does not. Without
-/// the word `modes` it has no such section: only an escape, in double quotes, could write that name
-/// in another way.
-fn may_list_modes(text: &[u8]) -> bool {
-    memmem::find(text, MODES_NAME).is_some() || memchr(b'\\', text).is_some()
-}
-
-/// Adds the text of this mode to the bundle, unless the folder does not have it.
-fn append_mode<R: Files + AllocGlobal>(
-    rt: &R,
-    folder: &str,
-    bundle: &mut Vec<u8>,
-    mode: &[u8],
-) -> Result<(), Failure> {
-    let name = mode_text_name(rt.alloc(), mode)?;
-    let path = path_in(rt.alloc(), folder, &name)?;
-    let appended = match fs::open(rt, &path) {
-        Ok(mut file) => append_file(rt.alloc(), bundle, &name, &mut file),
-        Err(error) if is_not_there(error.kind()) => Ok(()),
-        Err(_) => Err(ShellFault::Read),
-    };
-    appended.map_err(|fault| Failure::at(fault, path))
-}
-
-/// Whether there is no file of a path: none of its name, or no folder on the way to it.
-fn is_not_there(kind: ErrorKind) -> bool {
-    kind == ErrorKind::NotFound || kind == ErrorKind::NotADirectory
-}
-
-/// Adds the text of this name and file to the bundle.
-fn append_file<F: Read>(
-    alloc: Global,
-    bundle: &mut Vec<u8>,
-    name: &[u8],
-    file: &mut F,
-) -> Result<(), ShellFault> {
-    let text = read_all(alloc, file, BUNDLE_LIMIT)?;
-    append_text(bundle, name, &text)
-}
-
-/// The path of a text of a folder. All bytes of the text's name are ASCII.
-fn path_in(alloc: Global, folder: &str, text: &[u8]) -> Result<String, AllocError> {
-    let text = String::from_utf8_lossy(alloc, text)?;
-    format!(in alloc; "{folder}/{text}")
 }

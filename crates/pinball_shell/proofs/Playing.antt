@@ -140,6 +140,18 @@ module _ (plan : PlanView) (bound : ℕ) where
     pub verdict_is : verdict ≡ log_verdict (printed_for_lines plan bound 1 earlier (initial plan))
     pub few : number + length rest ≤ 1 + length log
 
+  -- none at first
+  pub lines-start : (log : List ℕ) (s : RigView) (a : Option (List ℕ)) → s.faulted ≡ None → s.machine ≡ initial plan → AreLinesGoing log s a 1 log s a verdicts.Yes
+  lines-start log s a running rest = record {
+    earlier = [];
+    log_is = refl;
+    number_is = refl;
+    state = rest;
+    printed = (played-none plan bound s a running).printed;
+    verdict_is = refl;
+    few = omega arith;
+  }
+
   module _ (log : List ℕ) (old : RigView) (number : ℕ) (rest line left : List ℕ) (s t : RigView) (a b c : Option (List ℕ)) (v : Verdict) (h : AreLinesGoing log old a number rest s b v) (is : lines rest ≡ line ∷ lines left) where
     abbrev push : List (List ℕ)
     push = h.earlier ++ line ∷ []

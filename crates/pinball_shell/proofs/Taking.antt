@@ -1,24 +1,24 @@
 -- What a line gives is taken by the rig, once no alarm is due by its moment.
-use Rattle.std.proofs.Common.{rules, ◌≡◌, ℕ, ◌<◌, ◌≤◌, ◌^◌, false, Option, None, Some, Result, Ok, Err, IsOk, OnOk, IfOk, List, [], ◌∷◌, refl, ap, sym, ◌∙◌, subst, arith, append-nil}
+use Rattle.std.proofs.Common.{rules, ◌≡◌, ℕ, ◌<◌, ◌≤◌, ◌^◌, Bool, false, true, Option, None, Some, Result, Ok, Err, IsOk, OnOk, IfOk, List, [], ◌∷◌, refl, ap, sym, ◌∙◌, subst, arith, append-nil}
+use Rattle.std.{specs.Result.is_err, proofs.KnownBytes.Appends-trans}
 use Rattle.plan_tables.specs.{PlanView.PlanView, Valid.IsValid, declared.devices.DeviceRow.DeviceRow}
-use Rattle.written_machine.specs.{CheckedView.CheckedView, Machine.Machine, NextAlarm.is_due_by}
-use Rattle.written_machine.{specs.Run.{Stimulus, Alarm, moment_of, IsReached}, proofs.NextAlarms.not_due-nothing}
+use Rattle.written_machine.specs.{Accepted.IsAccepted, Machine.Machine, Run.{Stimulus, Alarm, moment_of, IsReached}}
+use Rattle.written_machine.{specs.{CheckedView.CheckedView, NextAlarm.is_due_by}, proofs.NextAlarms.not_due-nothing}
 use Rattle.coil_driver.specs.Board.{BoardView, commands_of, TellsMore}
 use Rattle.machine_core.specs.{declared.fault.CoreFault.CoreFault, Fit.{IsFit, IsFirstWrong}}
 use Rattle.machine_core.specs.declared.fault.CoreFault.TheVariants as core_faults
-use Rattle.std.proofs.KnownBytes.{Appends-trans}
 use Rattle.pin_rig.{specs.declared.input.{Input.Input, StepFault.StepFault}, proofs.Judging.allowed-judged}
 use Rattle.pin_rig.specs.declared.input.Input.TheVariants as inputs
 use Rattle.pin_rig.specs.{Rig.{RigView, stimulus_at, IsOfRun}, Steps.at_rest}
 use Rattle.device_objects.specs.declared.state.DeviceState.{DeviceState}
 use Rattle.pinball_shell.specs.declared.fault.{ShellFault.ShellFault, Verdict.Verdict}
 use Rattle.pinball_shell.specs.declared.fault.ShellFault.TheVariants as faults
-use Rattle.pinball_shell.specs.{Status.fault_of_rig, LogText.{Said, said}, Ends.{IsServed, IsEnd, IsPlayOn}}
+use Rattle.pinball_shell.specs.{Status.fault_of_rig, LogText.{Said, said}, RunOfLog.{given_by_line, Printed, traced}}
+use Rattle.pinball_shell.specs.{Ends.{IsServed, IsEnd, IsPlayOn}, LogPlayers.RunsUnlessStopped}
 use Rattle.pinball_shell.specs.declared.{play.Stop.Stop, refusal.Refusal.Refusal}
 use Rattle.pinball_shell.specs.declared.play.Stop.TheVariants as stops
 use Rattle.pinball_shell.specs.declared.fault.Verdict.TheVariants as verdicts
-use Rattle.pinball_shell.specs.RunOfLog.{given_by_line, Printed, traced}
-use Rattle.pinball_shell.specs.Played.{input_of, GivesInput, GoesOrHalts, IsPlayed, IsPlayedToFault, IsRigOf, IsInputPlayed, IsInputPlayedToFault, AreAlarmsPlayed, AreAlarmsPlayedToFault, IsLinePlayed, IsLinePlayedToFault, IsLogPlayed, IsShutDown}
+use Rattle.pinball_shell.specs.Played.{input_of, GivesInput, GoesOrHalts, IsPlayed, IsPlayedToFault, IsRigOf, IsInputPlayed, IsInputPlayedToFault, AreAlarmsPlayed, AreAlarmsPlayedToFault, IsLinePlayed, IsLinePlayedToFault, PlaysLine, IsLogPlayed, IsShutDown}
 use Rattle.pinball_shell.proofs.{Alarms.{ComesBy, alarm-taken}, Playing.{line-played, line-fault, line-alarm_fault}}
 use Rattle.pinball_shell.proofs.LogRuns.{IsGivenInTime, given-in_time, in_time-early, may_come}
 use Rattle.pinball_shell.proofs.Serving.{served-tells, halted-tells, end-tells, traced-append}
@@ -48,18 +48,39 @@ halts-in {T} r goes halts is = subst (λ (q : Result T Stop). GoesOrHalts q goes
 pub ok-both : {T E : Type 0} (r : Result T E) (A : Type 0) (B P : T → Type 0) → ((x : T) → A → B x → P x) → OnOk r A → IfOk r B → IfOk r P
 ok-both x1 A B P both a b = search rules
 
+-- an error is the same one, whatever there would be without it
+pub err-as : {T U E : Type 0} (e x : E) → ◌≡◌ {A = Result T E} (Err e) (Err x) → ◌≡◌ {A = Result U E} (Err e) (Err x)
+err-as e x is = let same : e ≡ x = cc in ap Err same
+
 is_ok : (a b : Stimulus) (r : Result Stimulus StepFault) → r ≡ Ok a → r ≡ Ok b → a ≡ b
 is_ok a b r h k = let same : ◌≡◌ {A = Result Stimulus StepFault} (Ok a) (Ok b) = sym h ∙ k in cc
 
 pub rig_of-served : (plan : PlanView) (printed : List Printed) (old now : RigView) → IsServed printed old now → IsRigOf plan old → IsRigOf plan now
 rig_of-served plan printed old now served h = search rules
 
-module _ (plan : PlanView) (old now : RigView) (is : now.checked ≡ old.checked) (number : ℕ) (line : List ℕ) (t : RigView) (a b : Option (List ℕ)) where
-  pub line-same : (v : Verdict) → IsLinePlayed plan now.checked.bound number line now t a b v → IsLinePlayed plan old.checked.bound number line now t a b v
-  line-same v = subst (λ (c : CheckedView). IsLinePlayed plan c.bound number line now t a b v) is
+module _ (plan : PlanView) (old now : RigView) (p : PlanView) (same : p ≡ plan) (is : now.checked ≡ old.checked) (number : ℕ) (line : List ℕ) (t : RigView) (a b : Option (List ℕ)) where
+  pub line-same : (v : Verdict) → IsLinePlayed p now.checked.bound number line now t a b v → IsLinePlayed plan old.checked.bound number line now t a b v
+  line-same v h = subst (λ (c : CheckedView). IsLinePlayed plan c.bound number line now t a b v) is (subst (λ (q : PlanView). IsLinePlayed q now.checked.bound number line now t a b v) same h)
 
-  pub fault-same : IsLinePlayedToFault plan now.checked.bound number line now t a b → IsLinePlayedToFault plan old.checked.bound number line now t a b
-  fault-same = subst (λ (c : CheckedView). IsLinePlayedToFault plan c.bound number line now t a b) is
+  pub fault-same : IsLinePlayedToFault p now.checked.bound number line now t a b → IsLinePlayedToFault plan old.checked.bound number line now t a b
+  fault-same h = subst (λ (c : CheckedView). IsLinePlayedToFault plan c.bound number line now t a b) is (subst (λ (q : PlanView). IsLinePlayedToFault q now.checked.bound number line now t a b) same h)
+
+-- ---- as long as each line is played to its end
+
+pub runs-ready : (c : CheckedView) (plan : PlanView) (rig : RigView) (board : BoardView) → plan ≡ c.plan → rig ≡ at_rest c board → IsAccepted c → RunsUnlessStopped plan rig false
+runs-ready c plan rig board plan_is rest accepted going = record {
+  plan_is = ap (λ (r : RigView). r.checked.plan) rest ∙ sym plan_is;
+  accepted = subst (λ (r : RigView). IsAccepted r.checked) (sym rest) accepted;
+  running = ap (λ (r : RigView). r.faulted) rest;
+}
+
+pub runs-on : (plan : PlanView) (number : ℕ) (line : List ℕ) (old new : RigView) (a b : Option (List ℕ)) (r : Result Verdict Stop) → IsRigOf plan old → PlaysLine plan number line old new a b r → RunsUnlessStopped plan new (is_err r)
+runs-on plan number line old new a b (Ok v) h played going = rig_of-served plan _ old new played.printed.served h
+runs-on plan number line old new a b (Err stop) h played going = cc
+
+pub runs-ok : {T E : Type 0} (r : Result T E) (b : Bool) → b ≡ is_err r → OnOk r (b ≡ false)
+runs-ok (Ok x) b is = is
+runs-ok (Err e) b is = tt
 
 -- the plan is valid
 pub valid-of : (plan : PlanView) (rig : RigView) → IsRigOf plan rig → IsValid plan

@@ -11,7 +11,8 @@ pub mod SamePlay
 pub mod TraceText
 pub mod Ends
 pub mod FixedPlay
+pub mod Played
+pub mod LogPlayers
 -- what the contracts of private functions cite, and no public one
 pub mod ReplyView
 pub mod LogView
-pub mod Played

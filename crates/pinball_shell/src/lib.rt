@@ -5,6 +5,7 @@ pub mod check;
 pub mod fault;
 pub mod law;
 mod log_line;
+pub mod log_player;
 pub mod play;
 mod refusal;
 mod reply;
@@ -18,5 +19,6 @@ pub use law::{
     answers_fix_the_play, any_certificate_plays_the_same, log_gives_one_play,
     printed_certificate_is_verified,
 };
-pub use play::play_text;
+pub use log_player::LogPlayer;
+pub use play::{Stop, play_text, worse};
 pub use text::{append_text, join, read_all};

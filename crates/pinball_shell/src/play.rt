@@ -1,6 +1,6 @@
 //! A log is read and played.
 
-ghost use Rattle.std.specs.Prelude.{◌≡◌, ◌≢◌, ◌^◌, ◌<◌, ◌≤◌, ◌⊎◌, false, IfOk, IfErr, IsTrue, IsOk, OnOk, IfSome, IsErrOf, length, map};
+ghost use Rattle.std.specs.Prelude.{◌≡◌, ◌≢◌, ◌^◌, ◌<◌, ◌≤◌, ◌⊎◌, false, None, IfOk, IfErr, IsTrue, IsOk, OnOk, IfSome, IsErrOf, length, map};
 ghost use Rattle.std.specs.Io.KnownBytes.{IsAtEnd, Keeps, append_known};
 ghost use Rattle.written_machine.specs.Machine.{initial};
 ghost use Rattle.written_machine.specs.NextAlarm.{is_due_by};
@@ -8,17 +8,16 @@ ghost use Rattle.coil_driver.specs.Board.{board_view};
 ghost use Rattle.machine_core.specs.Fit.{IsFit};
 ghost use Rattle.pin_rig.specs.Refused.{admitted};
 ghost use Rattle.pin_rig.specs.Rig.{stimulus_at, IsOfRun, RigStep, RigHalt};
-ghost use Rattle.trace_lines.specs.Pages.{Puts};
 ghost use Rattle.pinball_shell.specs.LogView.{given_by_said};
 ghost use Rattle.pinball_shell.specs.RunOfLog.{if_admitted};
 ghost use Rattle.pinball_shell.specs.RunGiven.{PrintsPlayOf};
 ghost use Rattle.pinball_shell.specs.Ends.{IsTextPlayedOn};
 ghost use Rattle.pinball_shell.specs.TextRead.{HasAtMost, HasMoreThan};
-ghost use Rattle.pinball_shell.specs.TraceText.{refused_text};
-ghost use Rattle.pinball_shell.specs.Played.{worse_of, GivesInput, IsRigOf, PlaysInput, PlaysAlarms, PlaysLine, IsLogPlayed, IsShutDown, GivesBack};
+ghost use Rattle.pinball_shell.specs.Played.{worse_of, GivesInput, IsRigOf, PlaysInput, PlaysAlarms, PlaysLine, IsLogPlayed, GivesBack};
 
 use crate::fault::{ShellFault, Verdict};
 use crate::log_line::{Said, first_line, read_line};
+use crate::log_player::LogPlayer;
 use crate::refusal::{Refusal, put_refused};
 use crate::text::read_all;
 use coil_guard::Board;
@@ -28,7 +27,7 @@ use pin_rig::{Input, Rig, StepFault, check_moment};
 use plan_tables::Plan;
 use std::alloc::Global;
 use std::io::{Read, Write};
-use trace_lines::{Page, PrintedPlan, WriteFailed, put_trace, write_off};
+use trace_lines::{Page, PrintedPlan, WriteFailed, put_trace};
 
 /// The most bytes that a log may have: 16 MiB.
 pub const LOG_LIMIT: usize = 16_777_216;
@@ -123,47 +122,26 @@ fn play_log<D: Device, B: Board, W: Write>(
     ensures fit { OnOk result (IsFit checked.now.plan (map D.row_of devices.items) (map D.state_of devices.items)) }
     ensures wrong { IsErrOf result ShellFault.WrongDevice → ¬ (IsFit checked.now.plan (map D.row_of devices.items) (map D.state_of devices.items)) }
 {
-    let plan = checked.plan();
-    let printed = PrintedPlan::new(alloc, plan)?;
-    let mut page = Page::new(alloc)?;
-    let mut rig = Rig::new(alloc, checked, devices, board)?;
-    let verdict = play_lines(&printed, &mut rig, log, &mut page, writer)?;
-    page.write_out(writer)?;
-    let board = shut_down(&printed, rig, writer)?;
+    let mut player = LogPlayer::new(alloc, checked, devices, board)?;
+    let verdict = play_lines(&mut player, log, writer)?;
+    player.write_out(writer)?;
+    let board = player.shut_down(writer)?;
     Ok((verdict, board))
 }
 
-/// Shuts the rig of a plan down, and writes which coils were turned off. Gives the board back.
-/// Fails only by the writer.
-pub fn shut_down<D: Device, B: Board, W: Write>(
-    plan: &PrintedPlan<'_>,
-    rig: Rig<'_, D, B>,
-    writer: &mut W,
-) -> Result<B, ShellFault>
-    ensures done { IfOk result (λ b. IsShutDown plan.now rig.entry (board_view B.told B.fault_count B.answers b) (W.contents writer.old) (W.contents writer.new)) }
-    ensures failed { IfErr result (λ e. e ≡ ShellFault.Write) }
-{
-    let now = rig.now();
-    let (board, report) = rig.shut_down();
-    match write_off(plan.tables(), now, &report.off, writer) {
-        Ok(()) => Ok(board),
-        Err(_) => Err(ShellFault::Write),
-    }
-}
-
-/// Plays the lines of a log on a rig at rest of a plan, until the board has not taken a command. What
-/// is on the page at the end is still to be written. Fails only by the writer.
+/// Plays the lines of a log on a rig at rest, until the board has not taken a command. What is on the
+/// page at the end is still to be written. Fails only by the writer.
 fn play_lines<D: Device, B: Board, W: Write>(
-    plan: &PrintedPlan<'_>,
-    rig: &mut Rig<'_, D, B>,
+    player: &mut LogPlayer<'_, D, B>,
     log: &[u8],
-    page: &mut Page,
     writer: &mut W,
 ) -> Result<Verdict, ShellFault>
     requires log { length log.now ≤ 2 ^ 24 }
-    requires rig { IsRigOf plan.now rig.old }
-    requires rest { rig.old.machine ≡ initial plan.now }
-    ensures played { IfOk result (λ v. IsLogPlayed plan.now rig.old.checked.bound log.now rig.old rig.new (append_known (W.contents writer.old) page.old) (append_known (W.contents writer.new) page.new) v) }
+    requires rest { player.old.rig.machine ≡ initial player.old.plan }
+    requires running { player.old.rig.faulted ≡ None }
+    requires going { player.old.has_stopped ≡ false }
+    ensures played { IfOk result (λ v. IsLogPlayed player.old.plan player.old.rig.checked.bound log.now player.old.rig player.new.rig (append_known (W.contents writer.old) player.old.page) (append_known (W.contents writer.new) player.new.page) v) }
+    ensures plan { player.new.plan ≡ player.old.plan }
     ensures failed { IfErr result (λ e. e ≡ ShellFault.Write) }
 {
     let mut verdict = Verdict::Yes;
@@ -171,30 +149,15 @@ fn play_lines<D: Device, B: Board, W: Write>(
     let mut rest = log;
     while !rest.is_empty() {
         let (line, after) = first_line(rest);
-        match play_line(plan, rig, number, line, page, writer) {
+        match player.play(number, line, writer) {
             Ok(found) => verdict = worse(verdict, found),
-            Err(Stop::Board) => return refuse_for_board(number, page, writer),
+            Err(Stop::Board) => return player.refuse_for_board(number, writer),
             Err(Stop::Write) => return Err(ShellFault::Write),
         }
         number += 1;
         rest = after;
     }
     Ok(verdict)
-}
-
-/// Puts on the page that the line of this number is refused, since the board has not taken a command.
-/// Fails only by the writer.
-pub fn refuse_for_board<W: Write>(
-    number: usize,
-    page: &mut Page,
-    writer: &mut W,
-) -> Result<Verdict, ShellFault>
-    ensures written { OnOk result (Puts (W.contents writer.old) page.old (W.contents writer.new) page.new (refused_text number (Refusal.Step StepFault.BoardFault))) }
-    ensures verdict { IfOk result (λ v. v ≡ Verdict.Refused) }
-    ensures failed { IfErr result (λ e. e ≡ ShellFault.Write) }
-{
-    put_refused(number, Refusal::Step(StepFault::BoardFault), page, writer)?;
-    Ok(Verdict::Refused)
 }
 
 /// Refused if either is.
@@ -208,7 +171,7 @@ pub fn worse(before: Verdict, line: Verdict) -> Verdict
 }
 
 /// Plays a line that has this number, unless it is refused.
-pub fn play_line<D: Device, B: Board, W: Write>(
+pub(crate) fn play_line<D: Device, B: Board, W: Write>(
     plan: &PrintedPlan<'_>,
     rig: &mut Rig<'_, D, B>,
     number: usize,

@@ -1,7 +1,7 @@
 -- What other entries say of the shots of a group.
 use Rattle.std.specs.{Prelude.{is_some, not}, List.list_all}
 use Rattle.std.proofs.Common.{rules, ◌≡◌, true, false, ◌&&◌, ℕ, ◌+◌, ◌<◌, Bool, List, length, map, drop, get_or, Option, option_map, sym, ap, ◌∙◌}
-use Rattle.section_tables.specs.declared.rows.Name.{Name}
+use Rattle.setting_values.specs.declared.values.Name.{Name}
 use Rattle.mpf_sections.specs.{Rows.Written, View.name_view}
 use Rattle.machine_definitions.proofs.Finding.{next-is}
 

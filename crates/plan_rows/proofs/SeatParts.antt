@@ -2,7 +2,7 @@
 use Rattle.std.proofs.{Common.rules, lemmas.{List.{append_assoc, drop_more}, Grind.fold-append}}
 use Rattle.std.proofs.Common.{◌≡◌, ℕ, ◌+◌, ◌<◌, Bool, List, [], ◌∷◌, ◌++◌, length, map, fold, drop, get_or, Option, refl, sym, ◌∙◌, ap}
 use Rattle.std.specs.{Prelude.{true, not, if◌then◌else◌}, Str.bytes_eq}
-use Rattle.section_tables.specs.declared.rows.Name.{Name}
+use Rattle.setting_values.specs.declared.values.Name.{Name}
 use Rattle.section_tables.specs.declared.rows.Entry as rows
 use Rattle.mpf_sections.specs.{declared.section.Section.Section, Rows.Entry, TypedShots.shots_name}
 use Rattle.mpf_sections.specs.View.{name_view, entry_view, section_view}

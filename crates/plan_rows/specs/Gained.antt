@@ -2,7 +2,7 @@
 use Rattle.std.specs.{Prelude.{◌≡◌, ℕ, Bool, List, ◌++◌, fold, map}, HashMap.HashMap, HashSet.HashSet}
 use Rattle.std.specs.{List.list_any, Str.bytes_eq, Borrow.Bor, Global.Vec}
 use Rattle.section_tables.specs.declared.rows.Entry as written_entries
-use Rattle.section_tables.specs.declared.rows.Name.{Name}
+use Rattle.setting_values.specs.declared.values.Name.{Name}
 use Rattle.section_tables.specs.declared.rows.Player as written_players
 use Rattle.mpf_sections.specs.{declared.section.Section.Section, TypedShots.{shot_of, shot_group_of}}
 use Rattle.mpf_sections.specs.{Rows.{Written, Entry}, TypedBalls.ball_device_of}

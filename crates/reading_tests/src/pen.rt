@@ -1,7 +1,7 @@
 //! How answers are written.
 
 use mpf_sections::{HandledAt, NameAt, as_handled};
-use section_tables::rows::{Handler, Name};
+use setting_values::values::{Handler, Name};
 use std::alloc::Global;
 use std::fmt::{Debug, Display};
 

@@ -7,11 +7,11 @@ use crate::{balls, saves, shots};
 use config_faults::ConfigFault;
 use mpf_sections::as_handled;
 use mpf_tables::{TextKind, shape_of};
-use section_tables::rows::{Entry, Fields, Keyed, Plain, Player, Value};
-use section_tables::table::{
-    Absent, Barred, Bounds, Field, Kind, Others, PlayerKinds, Scalar, Setting, Shape, Without,
-};
+use section_tables::rows::{Entry, Player};
+use section_tables::table::{Barred, PlayerKinds, Setting, Shape, Without};
 use section_tables::{entries, entry, name_list, players};
+use setting_values::kinds::{Absent, Bounds, Field, Kind, Others, Scalar};
+use setting_values::values::{Fields, Keyed, Plain, Value};
 use yaml_subset::{Key, Tree};
 
 macro_rules! setting {

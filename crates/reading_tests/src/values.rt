@@ -4,9 +4,9 @@ use crate::cases::{Subject, assert_rows};
 use crate::pen::Pen;
 use crate::yaml::tree_of;
 use mpf_values::{BadValue, Item, ListFault, boolean, event, integer, list, name, power, time};
-use std::borrow::CowSlice;
 use std::fmt::Display;
 use yaml_subset::Tree;
+use yaml_subset::tree::Word;
 
 // Each row of a table is a text in brackets and the value that it has, or `none`.
 
@@ -358,7 +358,7 @@ fn show_list(pen: &mut Pen, tree: &Tree) {
 }
 
 fn show_scalar_list(pen: &mut Pen, text: &[u8]) {
-    show_list(pen, &Tree::Scalar(7, CowSlice::Borrowed(text)));
+    show_list(pen, &Tree::Scalar(7, Word::Borrowed(text)));
 }
 
 /// Adds the value of a text that stands in brackets, or `none`.

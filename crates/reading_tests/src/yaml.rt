@@ -13,7 +13,7 @@ use yaml_subset::{Key, Tree, YamlFault, read};
 #[cycle(show)]
 fn show(pen: &mut Pen, tree: &Tree) {
     match tree {
-        Tree::Scalar(line, text) => pen.quoted(text, *line),
+        Tree::Scalar(line, text) => pen.quoted(text.as_slice(), *line),
         Tree::List(line, items) => {
             pen.value(*line);
             pen.put("[");

@@ -11,7 +11,7 @@ use Rattle.plan_tables.specs.declared.table.Table.TheVariants.{Events}
 use Rattle.plan_contributions.specs.declared.contribution.Contribution as contributions
 use Rattle.plan_contributions.specs.declared.contribution.Contribution.TheVariants as contribution
 use Rattle.plan_rows.specs.declared.place.Place.{Place}
-use Rattle.section_tables.specs.declared.rows.Name.{Name}
+use Rattle.setting_values.specs.declared.values.Name.{Name}
 use Rattle.row_contributions.specs.DeviceEntries.{texts, device_of, step_settings, step_device, timer_device, acts, step_acts, controlled}
 use Rattle.plan_contributions.specs.{Effects.Effect, View.contributions_view}
 use Rattle.row_contributions.specs.SaveEntries.{save_device_of}

@@ -1,7 +1,7 @@
 -- What is collected of the entries of shots and of their groups, part after part.
 use Rattle.std.proofs.Common.{rules, ◌≡◌, ℕ, suc, ◌+◌, ◌*◌, ◌<◌, List, [], ◌∷◌, ◌++◌, length, map, drop, get_or, sym, ◌∙◌, ap, arith}
 use Rattle.std.{specs.{List.flat_map, Borrow.Bor}, proofs.lemmas.List.{append_assoc, drop_more, length-append}}
-use Rattle.section_tables.specs.declared.rows.Name.{Name}
+use Rattle.setting_values.specs.declared.values.Name.{Name}
 use Rattle.mpf_sections.specs.View.{name_view}
 use Rattle.machine_definitions.{specs.Found.names_view, proofs.Finding.next-is}
 use Rattle.row_contributions.specs.{DeviceEntries.texts, Contributions.effects_from}

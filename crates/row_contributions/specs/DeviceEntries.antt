@@ -4,7 +4,7 @@ use Rattle.std.specs.Str.{bytes_eq}
 use Rattle.mpf_sections.specs.declared.words.ControlAction.{ControlAction}
 use Rattle.mpf_sections.specs.declared.words.ControlAction.TheVariants as actions
 use Rattle.mpf_values.specs.Events.{Event}
-use Rattle.section_tables.specs.Rows.{Handled}
+use Rattle.setting_values.specs.Values.{Handled}
 use Rattle.mpf_sections.specs.Rows.{Written, Entry, BlockEvents, Counter, StepBlock, Control, Timer}
 use Rattle.mpf_sections.specs.Typed.{counters_name, accruals_name, sequences_name, timers_name, counter_of, step_block_of, timer_of}
 use Rattle.machine_settings.specs.declared.settings.StepSettings.{StepSettings}

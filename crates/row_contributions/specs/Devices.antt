@@ -1,7 +1,7 @@
 -- What the entry of a device says.
 use Rattle.std.specs.Prelude.{ℕ, List, map, None}
 use Rattle.mpf_values.specs.Events.{Event}
-use Rattle.section_tables.specs.Rows.{Handled}
+use Rattle.setting_values.specs.Values.{Handled}
 use Rattle.mpf_sections.specs.Rows.{Written}
 use Rattle.plan_tables.specs.declared.devices.{Settings.Settings, Act.Act}
 use Rattle.plan_contributions.specs.Effects.{Effect}

@@ -1,10 +1,10 @@
 -- What rows give to a plan, as the program has them.
 use Rattle.std.specs.{Prelude.{ℕ, Bool, List, [], ◌∷◌, ◌++◌, map, Option, option_map}, List.flat_map, Global.Vec}
-use Rattle.section_tables.specs.declared.rows.{Name.Name, Handler.Handler}
+use Rattle.setting_values.specs.declared.values.{Name.Name, Handler.Handler}
 use Rattle.section_tables.specs.declared.rows.Entry as entry_rows
 use Rattle.section_tables.specs.declared.rows.Player as player_rows
-use Rattle.section_tables.specs.declared.rows.Keyed as keyed_rows
-use Rattle.section_tables.specs.declared.rows.Fields as field_rows
+use Rattle.setting_values.specs.declared.values.Keyed as keyed_rows
+use Rattle.setting_values.specs.declared.values.Fields as field_rows
 use Rattle.mpf_sections.specs.declared.typed.{NameAt.NameAt, HandledAt.HandledAt}
 use Rattle.mpf_sections.specs.declared.typed.Switch as typed_switches
 use Rattle.mpf_sections.specs.declared.typed.EventPlayer as typed_players

@@ -1,7 +1,7 @@
 -- What settings have, in the order in which they are written.
 use Rattle.std.proofs.Common.{◌≡◌, ◌==◌, ℕ, true, List, length, [], ◌∷◌, ◌++◌, map, codes, refl, ap, sym, ◌∙◌, arith}
 use Rattle.std.{specs.List.{All, flat_map}, proofs.lemmas.Bool.eqb-true}
-use Rattle.section_tables.specs.Kinds.{Setting}
+use Rattle.section_tables.specs.Shapes.{Setting}
 use Rattle.mpf_tables.specs.SectionTables as tables
 use Rattle.mpf_sections.specs.{Rows.{Written, Switch, BlockEvents, Counter, StepBlock}, Typed.place_of}
 use Rattle.row_faults.specs.AsWritten.{put_by, ordered_by, written_before, in_order, as_written}

@@ -1,7 +1,7 @@
 -- What the settings of an entry have, in the order in which the settings are written.
 use Rattle.std.specs.Prelude.{ℕ, ◌==◌, nat_lt, if◌then◌else◌, List, [], ◌∷◌, length, map, position, unwrap_or}
 use Rattle.std.specs.List.{flat_map}
-use Rattle.section_tables.specs.Kinds.{Setting}
+use Rattle.section_tables.specs.Shapes.{Setting}
 use Rattle.mpf_sections.specs.Typed.{place_of}
 
 -- ---- lists in order

@@ -3,9 +3,9 @@ use Rattle.std.specs.Prelude.{◌≡◌, ◌⊎◌, ◌||◌, ℕ, Bool, List, [
 use Rattle.std.specs.{List.{flat_map, list_any}, Str.bytes_eq, Borrow.Bor, Global.{Vec, Global}, BTreeSet.BTreeSet}
 use Rattle.std.specs.{HashMap.HashMap, HashSet.HashSet, declared.borrow.CowSlice.CowSlice}
 use Rattle.yaml_subset.specs.Keys.{is_among, copies_view}
-use Rattle.section_tables.specs.declared.rows.Name.{Name}
+use Rattle.setting_values.specs.declared.values.Name.{Name}
 use Rattle.section_tables.specs.declared.rows.Entry as entry_rows
-use Rattle.section_tables.specs.declared.rows.Keyed as keyed_rows
+use Rattle.setting_values.specs.declared.values.Keyed as keyed_rows
 use Rattle.mpf_sections.specs.declared.{section.Section.Section, typed.NameAt.NameAt}
 use Rattle.mpf_sections.specs.declared.coils.Coil as typed_coils
 use Rattle.mpf_sections.specs.declared.coils.CoilItem as typed_coil_items

@@ -1,7 +1,7 @@
 -- Events that no row may post, and what rows post.
 use Rattle.std.specs.{Prelude.{ℕ, Bool, ◌||◌, List, [], ◌∷◌, ◌++◌, map, filter, codes}, List.flat_map}
 use Rattle.yaml_subset.specs.Keys.{is_among}
-use Rattle.section_tables.specs.Kinds.{Setting}
+use Rattle.section_tables.specs.Shapes.{Setting}
 use Rattle.mpf_tables.specs.SectionTables as tables
 use Rattle.mpf_sections.specs.Rows.{Written, Switch, EventPlayer, BlockEvents, Counter, StepBlock, SectionRows}
 use Rattle.mpf_config.specs.Rows.{Rows}

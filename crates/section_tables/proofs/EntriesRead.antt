@@ -3,15 +3,17 @@ use Rattle.std.proofs.Common.{rules, ◌≡◌, ◌<◌, ℕ, Bool, false, List,
 use Rattle.yaml_subset.specs.Node.{Node, Pair}
 use Rattle.mpf_values.{specs.Reading.is_name, proofs.NameTexts.{IsName-from_is_name, is_name-from_IsName}}
 use Rattle.config_faults.specs.{declared.fault.FaultKind.TheVariants.BadValue, Faults.{Spot, rows_fault_at}}
-use Rattle.section_tables.specs.{Rows.{Written, Plain, Value, Entry, Player}, Kinds.{at_least, Setting, PlayerKinds}}
-use Rattle.section_tables.specs.Entries.{pairs_below, is_ignored, written_at}
+use Rattle.setting_values.specs.Values.{Written, Plain, Value, written_at}
+use Rattle.setting_values.specs.{Kinds.at_least, Below.pairs_below, ValueOf.{IsWritten, IsOneOf}}
+use Rattle.section_tables.specs.{Rows.{Entry, Player}, Shapes.{Setting, PlayerKinds}, Keys.is_ignored}
 use Rattle.section_tables.specs.Tables.{setting_key, setting_default, setting_lacks}
-use Rattle.section_tables.specs.EntryOf.{IsWritten, IsSetting, IsOneOf, places_written, IsEntry, IsOtherEntry, AreEntries, IsPlayer, ArePlayers, AreNamesListed}
-use Rattle.section_tables.specs.Reading.{most_items, IsReadOr, IsReadOrLong, ◌>>=◌, key_spot, expect, each_read, setting_at, values_at, is_one_of, entry_at, other_entry_at, entries_at, player_at, players_at, written_in, names_at}
-use Rattle.section_tables.proofs.{Steps.expected, RowsRead.{row_sound, row_complete}}
-use Rattle.section_tables.proofs.{Outcomes.{then_or, each_sound, each_or}, ValuesRead.{value_sound, value_complete}}
-use Rattle.section_tables.proofs.ScalarTexts.{among_sound, among_complete, scalar_sound, scalar_complete}
-use Rattle.section_tables.proofs.ListValues.{name_sound, name_complete, listed_sound, listed_complete}
+use Rattle.section_tables.specs.EntryOf.{IsSetting, places_written, IsEntry, IsOtherEntry, AreEntries, IsPlayer, ArePlayers, AreNamesListed}
+use Rattle.setting_values.specs.Reading.{most_items, IsReadOr, IsReadOrLong, ◌>>=◌, key_spot, expect, each_read, is_one_of, written_in}
+use Rattle.section_tables.specs.Reading.{setting_at, values_at, entry_at, other_entry_at, entries_at, player_at, players_at, names_at}
+use Rattle.setting_values.proofs.{Steps.expected, RowsRead.{row_sound, row_complete}}
+use Rattle.setting_values.proofs.{Outcomes.{then_or, each_sound, each_or}, ValuesRead.{value_sound, value_complete}}
+use Rattle.setting_values.proofs.ScalarTexts.{among_sound, among_complete, scalar_sound, scalar_complete}
+use Rattle.setting_values.proofs.ListValues.{name_sound, name_complete, listed_sound, listed_complete}
 use Rattle.yaml_bytes.proofs.Steps.{bind_ok, guard_true, guard_false, ok_is}
 
 -- ---- entries

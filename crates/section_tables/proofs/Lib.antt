@@ -1,17 +1,3 @@
-pub mod Steps
-pub mod Outcomes
-pub mod Finding
 pub mod WrittenRows
-pub mod EachGiven
-pub mod Options
-pub mod ScalarTexts
-pub mod Counting
-pub mod ListValues
-pub mod NameLists
-pub mod NodeLists
-pub mod RowsRead
-pub mod Apart
-pub mod ValuesRead
 pub mod EntriesRead
-pub mod AnswersOf
 pub mod RowNames

@@ -1,11 +1,11 @@
 -- A row with what is written into it.
 use Rattle.std.proofs.Common.{rules, ◌≡◌, ℕ, zero, suc, ◌+◌, ◌<◌, ◌≤◌, true, false, List, [], ◌∷◌, ◌++◌, length, set, take, drop, map, get_or, slice_get, Option, Some, None, Result, option_map, refl, sym, ap, ◌∙◌, arith, add-one}
 use Rattle.std.{specs.{Borrow.Bor, Slice.IsItemAt}, proofs.lemmas.Option.slice_get-map}
-use Rattle.section_tables.specs.declared.{rows.Value.Value, table.Setting.Setting}
-use Rattle.section_tables.specs.{Rows.Value as Seen, TableView.{setting_view, without_view}, Reading.{◌>>=◌, lacking}}
-use Rattle.section_tables.{specs.Tables.{setting_key, setting_lacks, lacks_if}, proofs.Finding.lacking_at}
+use Rattle.setting_values.specs.{declared.values.Value.Value, View.{value_view, values_view}}
+use Rattle.section_tables.specs.{declared.table.Setting.Setting, TableView.{setting_view, without_view}}
+use Rattle.setting_values.{specs.{Values.Value as Seen, Reading.{◌>>=◌, lacking}}, proofs.Finding.lacking_at}
+use Rattle.section_tables.specs.{Tables.{setting_key, setting_lacks, lacks_if}, View.{value_option_view, with_written}}
 use Rattle.config_faults.specs.{declared.fault.ConfigFault.ConfigFault, Faults.{RowsFault, FailsRows}}
-use Rattle.section_tables.specs.View.{value_view, values_view, value_option_view, with_written}
 
 module _ {V : Type 0} where
   set-long : (row : List V) (p : ℕ) (v : V) → length (set row p v) ≡ length row

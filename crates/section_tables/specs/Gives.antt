@@ -1,7 +1,8 @@
 -- What the readers of sections answer, by the tables of the program.
 use Rattle.std.specs.{Prelude.{ℕ, List, Result}, Global.Vec}
 use Rattle.yaml_subset.specs.{declared.tree.{Key.Key, Tree.Tree}, View.pair_view}
-use Rattle.section_tables.specs.{declared.rows.Name.Name, Rows.{Written, Entry, Player}}
+use Rattle.setting_values.specs.Values.{Written}
+use Rattle.section_tables.specs.{Rows.{Entry, Player}, View.{entry_view, entries_view, players_view}}
 use Rattle.section_tables.specs.declared.rows.Entry as entries
 use Rattle.section_tables.specs.declared.rows.Player as players
 use Rattle.section_tables.specs.declared.table.{Barred.Barred, PlayerKinds.PlayerKinds, Setting.Setting}
@@ -9,7 +10,6 @@ use Rattle.config_faults.specs.{declared.fault.ConfigFault.ConfigFault, Faults.{
 use Rattle.section_tables.specs.EntryOf.{IsEntry, AreEntries, ArePlayers, AreNamesListed}
 use Rattle.section_tables.specs.Reading.{entry_at, entries_at, players_at, names_at}
 use Rattle.section_tables.specs.TableView.{barred_view, table_view, player_kinds_view}
-use Rattle.section_tables.specs.View.{names_view, entry_view, entries_view, players_view}
 
 -- ---- what a pair is, with at most so many items in each list
 
@@ -60,7 +60,3 @@ GivesEntries answer read = GivesRows entries_view answer read
 -- the answer is the entries of a player that are read
 abbrev pub GivesPlayers : Result (Vec players.Player) ConfigFault → Result (List Player) RowsFault → Type 0
 GivesPlayers answer read = GivesRows players_view answer read
-
--- the answer is the names that are read
-abbrev pub GivesNames : Result (Vec Name) ConfigFault → Result (List Written) RowsFault → Type 0
-GivesNames answer read = GivesRows names_view answer read

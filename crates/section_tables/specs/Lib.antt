@@ -1,6 +1,6 @@
 pub mod Rows
-pub mod Entries
-pub mod Kinds
+pub mod Keys
+pub mod Shapes
 pub mod Tables
 pub mod EntryOf
 pub mod Named
@@ -8,6 +8,5 @@ pub mod Reading
 pub mod View
 pub mod TableView
 pub mod Gives
-pub mod GivenEach
 -- what contracts of the functions inside this crate see
 pub mod Inside

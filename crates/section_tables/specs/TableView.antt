@@ -1,16 +1,5 @@
 -- What contracts see of the code's tables.
-use Rattle.std.specs.Prelude.{ℕ, Bool, true, false, List, [], ◌∷◌, None, map}
-use Rattle.section_tables.specs.declared.table.Scalar as scalars
-use Rattle.section_tables.specs.declared.table.Scalar.TheVariants as scalar
-use Rattle.section_tables.specs.declared.table.Bounds as bounds_of
-use Rattle.section_tables.specs.declared.table.Bounds.TheVariants as bounds
-use Rattle.section_tables.specs.declared.table.Others as others_of
-use Rattle.section_tables.specs.declared.table.Others.TheVariants as others
-use Rattle.section_tables.specs.declared.table.Absent as absents
-use Rattle.section_tables.specs.declared.table.Absent.TheVariants as absent
-use Rattle.section_tables.specs.declared.table.Field as fields
-use Rattle.section_tables.specs.declared.table.Kind as kinds
-use Rattle.section_tables.specs.declared.table.Kind.TheVariants as kind
+use Rattle.std.specs.Prelude.{ℕ, List, [], ◌∷◌, None, map}
 use Rattle.section_tables.specs.declared.table.Without as withouts
 use Rattle.section_tables.specs.declared.table.Without.TheVariants as without
 use Rattle.section_tables.specs.declared.table.Setting as settings
@@ -18,53 +7,13 @@ use Rattle.section_tables.specs.declared.table.PlayerKinds as players
 use Rattle.section_tables.specs.declared.table.Barred as barreds
 use Rattle.section_tables.specs.declared.table.Shape as shapes
 use Rattle.section_tables.specs.declared.table.Shape.TheVariants as shape
-use Rattle.section_tables.specs.Rows.{Plain, nothing, flag, number, time, power, word, name, Value, one, names, posts, events, maps}
-use Rattle.section_tables.specs.Kinds.{Scalar, a_flag, number_within, time_within, a_power, one_of, a_name, an_event, Bounds, at_least, between, Absent, required, default, Field, Kind, single, name_list, post_list, event_list, step_list, map_list, named_maps, keyed_maps, Setting, PlayerKinds, Shape, by_entries, by_players, by_entry, by_names}
-use Rattle.section_tables.specs.Entries.{written_at, handled_at}
-
-abbrev pub scalar_view : scalars.Scalar → Scalar
-scalar_view scalar.Flag = a_flag
-scalar_view (scalar.Number least greatest) = number_within least greatest
-scalar_view (scalar.Time least greatest) = time_within least greatest
-scalar_view scalar.Power = a_power
-scalar_view (scalar.Word words) = one_of (map (λ w. w.now) words.now)
-scalar_view scalar.Name = a_name
-scalar_view scalar.Event = an_event
-
-abbrev pub bounds_view : bounds_of.Bounds → Bounds
-bounds_view (bounds.AtLeast least) = at_least least
-bounds_view (bounds.Between least greatest) = between least greatest
-
-abbrev pub others_view : others_of.Others → Bool
-others_view others.Refused = false
-others_view others.Ignored = true
-
-abbrev pub absent_view : absents.Absent → Absent Plain
-absent_view absent.Required = required
-absent_view absent.Nothing = default nothing
-absent_view (absent.Flag b) = default (flag b)
-absent_view (absent.Number n) = default (number n)
-absent_view (absent.Time ms) = default (time ms)
-absent_view (absent.Power n) = default (power n)
-absent_view (absent.Word w) = default (word w.now)
-absent_view (absent.Name n) = default (name (written_at 0 n.now))
+use Rattle.setting_values.specs.Values.{Plain, Value, one, names, posts, events, maps, written_at, handled_at}
+use Rattle.setting_values.specs.{Kinds.{Absent, required, default}, KindView.{scalar_view, absent_view, kind_view}}
+use Rattle.section_tables.specs.Shapes.{Setting, PlayerKinds, Shape, by_entries, by_players, by_entry, by_names}
 
 abbrev pub as_value : Absent Plain → Absent Value
 as_value required = required
 as_value (default x) = default (one x)
-
-abbrev pub field_view : fields.Field → Field
-field_view f = record { key = f.key.now; kind = scalar_view f.kind; absent = absent_view f.absent }
-
-abbrev pub kind_view : kinds.Kind → Kind
-kind_view (kind.One k) = single (scalar_view k)
-kind_view (kind.Names b) = name_list (bounds_view b)
-kind_view (kind.Posts b) = post_list (bounds_view b)
-kind_view (kind.Events b) = event_list (bounds_view b)
-kind_view (kind.Steps b) = step_list (bounds_view b)
-kind_view (kind.Maps table o b) = map_list (map field_view table.now) (others_view o) (bounds_view b)
-kind_view (kind.NamedMaps table o b) = named_maps (map field_view table.now) (others_view o) (bounds_view b)
-kind_view (kind.Keyed table place short) = keyed_maps (map field_view table.now) place (scalar_view short)
 
 abbrev pub without_view : withouts.Without → Absent Value
 without_view (without.One a) = as_value (absent_view a)

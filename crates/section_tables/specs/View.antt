@@ -1,80 +1,12 @@
--- What contracts see of the rows, and of an answer.
-use Rattle.std.specs.{Prelude.{ℕ, map, set, List, ◌∷◌, Option, Some, None}, Borrow.Bor, Global.{Box, Vec}}
-use Rattle.yaml_subset.specs.{declared.tree.{Key.Key, Tree.Tree}, Node.{Node, Pair}, View.{node_view, pair_view}}
-use Rattle.section_tables.specs.{declared.nodes.{MapPairs.MapPairs, ListNodes.ListNodes}, Entries.written_at}
-use Rattle.mpf_values.specs.Events.{Condition}
-use Rattle.section_tables.specs.declared.rows.{Name.Name, Guard.Guard, Handler.Handler, EntryRow.EntryRow}
-use Rattle.section_tables.specs.declared.rows.Plain as plains
-use Rattle.section_tables.specs.declared.rows.Plain.TheVariants as plain
-use Rattle.section_tables.specs.declared.rows.Fields as fields
-use Rattle.section_tables.specs.declared.rows.Keyed as keyed_rows
+-- What contracts see of the rows.
+use Rattle.std.specs.{Prelude.{ℕ, map, set, List, ◌∷◌, Option, Some, None}, Borrow.Bor, Global.Vec}
+use Rattle.section_tables.specs.{declared.rows.EntryRow.EntryRow, Rows.{Entry, Player}}
 use Rattle.section_tables.specs.declared.rows.Player as players
-use Rattle.section_tables.specs.declared.rows.Value as values
-use Rattle.section_tables.specs.declared.rows.Value.TheVariants as value
+use Rattle.setting_values.specs.declared.values.Value as values
 use Rattle.section_tables.specs.declared.rows.Entry as entries
-use Rattle.section_tables.specs.Rows.{Written, Handled, Plain, nothing, flag, number, time, power, word, name, event, Fields, Keyed, Value, one, names, posts, events, steps, maps, keyed, Entry, Player}
+use Rattle.setting_values.specs.{Values.Value, View.{name_view, plain_view, value_view, values_view}}
 
 -- ---- values
-
-abbrev pub name_view : Name → Written
-name_view n = record { line = n.line; text = n.text.items }
-
-abbrev pub guard_view : Guard → Condition
-guard_view c = record { variable = c.variable.items; comparison = c.comparison; number = c.number }
-
-abbrev pub guard_option_view : Option (Box Guard) → Option Condition
-guard_option_view None = None
-guard_option_view (Some c) = Some (guard_view c.value)
-
-abbrev pub handler_view : Handler → Handled
-handler_view h = record { line = h.line; event = record { name = h.name.items; condition = guard_option_view h.condition } }
-
-abbrev pub plain_view : plains.Plain → Plain
-plain_view plain.Nothing = nothing
-plain_view (plain.Flag b) = flag b
-plain_view (plain.Number n) = number n
-plain_view (plain.Time ms) = time ms
-plain_view (plain.Power n) = power n
-plain_view (plain.Word w) = word w.now
-plain_view (plain.Name n) = name (name_view n.value)
-plain_view (plain.DefaultName w) = name (written_at 0 w.now)
-plain_view (plain.Event h) = event (handler_view h.value)
-
-abbrev pub plains_view : List plains.Plain → List Plain
-plains_view = map plain_view
-
-abbrev pub names_view : Vec Name → List Written
-names_view xs = map name_view xs.items
-
-abbrev pub handlers_view : Vec Handler → List Handled
-handlers_view xs = map handler_view xs.items
-
-abbrev pub steps_view : Vec (Vec Handler) → List (List Handled)
-steps_view xs = map handlers_view xs.items
-
-abbrev pub fields_view : fields.Fields → Fields
-fields_view m = record { line = m.line; values = plains_view m.values.items }
-
-abbrev pub maps_view : Vec fields.Fields → List Fields
-maps_view xs = map fields_view xs.items
-
-abbrev pub keyed_view : keyed_rows.Keyed → Keyed
-keyed_view k = record { name = name_view k.name; values = plains_view k.values.items }
-
-abbrev pub keyed_list_view : Vec keyed_rows.Keyed → List Keyed
-keyed_list_view xs = map keyed_view xs.items
-
-abbrev pub value_view : values.Value → Value
-value_view (value.One x) = one (plain_view x)
-value_view (value.Names xs) = names (names_view xs)
-value_view (value.Posts xs) = posts (names_view xs)
-value_view (value.Events xs) = events (handlers_view xs)
-value_view (value.Steps xs) = steps (steps_view xs)
-value_view (value.Maps xs) = maps (maps_view xs)
-value_view (value.Keyed xs) = keyed (keyed_list_view xs)
-
-abbrev pub values_view : List values.Value → List Value
-values_view = map value_view
 
 abbrev pub value_option_view : Option (Bor values.Value) → Option Value
 value_option_view None = None
@@ -102,19 +34,3 @@ player_view p = record { event = plain_view p.event; value = value_view p.value 
 
 abbrev pub players_view : Vec players.Player → List Player
 players_view xs = map player_view xs.items
-
--- ---- nodes
-
-abbrev pub pairs_view : List (Key × Tree) → List Pair
-pairs_view = map pair_view
-
-abbrev pub pairs_in_view : MapPairs → List Pair
-pairs_in_view below = pairs_view below.pairs.now
-
-abbrev pub nodes_in_view : ListNodes → List Node
-nodes_in_view listed = map node_view listed.nodes.now
-
--- the place and the element that were found
-abbrev pub found_view : {T R : Type 0} → (T → R) → Option (ℕ × Bor T) → Option (ℕ × R)
-found_view view None = None
-found_view view (Some p) = Some (p.0, view p.1.now)

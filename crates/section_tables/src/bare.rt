@@ -3,9 +3,10 @@
 ghost use Rattle.std.specs.Prelude.{◌≡◌, IfOk};
 ghost use Rattle.section_tables.specs.Inside.{AreSettingDefaults, IsBareRow};
 
-use crate::rows::{EntryRow, Value};
+use crate::rows::EntryRow;
 use crate::settings::{bare_row, first_lacking};
 use crate::table::Setting;
+use setting_values::values::Value;
 use std::alloc::{AllocError, Global};
 use std::rc::Rc;
 

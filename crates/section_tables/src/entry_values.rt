@@ -4,7 +4,8 @@ ghost use Rattle.std.specs.Prelude.{◌≡◌, slice_get};
 ghost use Rattle.section_tables.specs.View.{entry_view, value_option_view};
 ghost use Rattle.section_tables.specs.Inside.{IsValueAt};
 
-use crate::rows::{Entry, EntryRow, Value};
+use crate::rows::{Entry, EntryRow};
+use setting_values::values::Value;
 
 impl EntryRow {
     /// The value of the setting at this place in the table.

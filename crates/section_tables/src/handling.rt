@@ -6,13 +6,10 @@ ghost use Rattle.section_tables.specs.View.{players_view};
 ghost use Rattle.section_tables.specs.Gives.{ArePlayersOf, read_players, GivesPlayers};
 ghost use Rattle.section_tables.specs.Inside.{GivesPlayer, read_player};
 
-use crate::each::each;
-use crate::nodes::pairs;
 use crate::rows::Player;
-use crate::scalars::scalar;
-use crate::settings::value;
 use crate::table::PlayerKinds;
 use config_faults::{ConfigFault, FaultKind, spot_of};
+use setting_values::{each, pairs, scalar, value};
 use std::alloc::Global;
 use yaml_subset::tree::{Key, Tree};
 

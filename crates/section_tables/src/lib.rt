@@ -7,19 +7,13 @@
 #![tactic(auto)]
 
 mod bare;
-mod each;
 mod entry_values;
-mod fields;
 mod handling;
-mod lists;
-mod nodes;
 pub mod rows;
-mod scalars;
 mod sections;
 mod settings;
 pub mod table;
 
 pub use handling::players;
-pub use nodes::MapPairs;
 pub use sections::{entries, entry, name_list};
 pub use settings::is_one_of;

@@ -2,20 +2,22 @@
 
 ghost use Rattle.std.specs.Prelude.{◌≡◌, ◌≢◌, ℕ, ◌<◌, List, [], IfOk, IfErr};
 ghost use Rattle.std.specs.Rc.{rc_value};
-ghost use Rattle.section_tables.specs.Rows.{Entry as Row, Written};
-ghost use Rattle.section_tables.specs.View.{names_view, entry_view, entries_view};
-ghost use Rattle.section_tables.specs.Gives.{IsEntryOf, AreEntriesOf, AreNamesOf, read_entry, read_entries, read_names, GivesEntry, GivesEntries, GivesNames};
+ghost use Rattle.section_tables.specs.Rows.{Entry as Row};
+ghost use Rattle.setting_values.specs.Values.{Written};
+ghost use Rattle.setting_values.specs.View.{names_view};
+ghost use Rattle.section_tables.specs.View.{entry_view, entries_view};
+ghost use Rattle.section_tables.specs.Gives.{IsEntryOf, AreEntriesOf, AreNamesOf, read_entry, read_entries, read_names, GivesEntry, GivesEntries};
+ghost use Rattle.setting_values.specs.Gives.{GivesNames};
 ghost use Rattle.section_tables.specs.Inside.{GivesRow, read_row, places_of_pairs, read_other_entry};
 
 use crate::bare::{Bare, bare_of};
-use crate::each::each;
-use crate::lists::names;
-use crate::nodes::pairs;
-use crate::rows::{Entry, EntryRow, Name};
-use crate::scalars::{is_name, name_of, word_in};
+use crate::rows::{Entry, EntryRow};
 use crate::settings::row_of;
-use crate::table::{Barred, Bounds, Setting};
+use crate::table::{Barred, Setting};
 use config_faults::{ConfigFault, FaultKind, Spot, spot_of};
+use setting_values::kinds::Bounds;
+use setting_values::values::Name;
+use setting_values::{each, is_name, name_of, names, pairs, word_in};
 use std::alloc::Global;
 use std::rc::Rc;
 use yaml_subset::tree::{Key, Tree};
@@ -35,7 +37,7 @@ fn own_row(
 }
 
 // The row of an entry in which nothing is written. The fault is Missing at the spot.
-#[tactic(auto, unfolding(crate::specs::Reading::row_at))]
+#[tactic(auto, unfolding(setting_values::specs::Reading::row_at))]
 fn shared_row(alloc: Global, spot: Spot<'_>, bare: &Bare) -> Result<Rc<EntryRow>, ConfigFault>
     ensures order { IfOk result (λ row. (rc_value row).order.items ≡ []) }
     ensures row { GivesRow rc_value result (read_row spot.entry bare.now.table.now []) }

@@ -2,24 +2,23 @@
 
 ghost use Rattle.std.specs.Prelude.{◌≡◌, ◌<◌, List, [], ◌∷◌, length, None, IfOk, IfSome, OnOk};
 ghost use Rattle.std.specs.Rc.{rc_value};
-ghost use Rattle.section_tables.specs.declared.rows.Value.{Value};
+ghost use Rattle.setting_values.specs.declared.values.Value.{Value};
 ghost use Rattle.std.specs.List.{list_any};
 ghost use Rattle.std.specs.Str.{bytes_eq};
 ghost use Rattle.yaml_subset.specs.View.{option_slice};
-ghost use Rattle.section_tables.specs.Entries.{is_ignored, written_at, handled_at};
+ghost use Rattle.section_tables.specs.Keys.{is_ignored};
+ghost use Rattle.setting_values.specs.Values.{written_at, handled_at};
 ghost use Rattle.section_tables.specs.Tables.{value_default, value_lacks, lacks_if};
 ghost use Rattle.section_tables.specs.TableView.{without_view};
-ghost use Rattle.section_tables.specs.View.{names_view, handlers_view, value_view, value_option_view, with_written, row_values};
-ghost use Rattle.section_tables.specs.Inside.{GivesHandlers, GivesSteps, GivesValue, GivesRow, WritesValues, FindsSetting, AreSettingDefaults, lacking_setting, read_step, read_steps, read_value, put_setting, overwrite_settings, read_row, GainsPlaces, place_of_key, places_of_pairs};
+ghost use Rattle.setting_values.specs.View.{names_view, handlers_view, value_view};
+ghost use Rattle.section_tables.specs.View.{value_option_view, with_written, row_values};
+ghost use Rattle.section_tables.specs.Inside.{GivesRow, WritesValues, FindsSetting, AreSettingDefaults, lacking_setting, put_setting, overwrite_settings, read_row, GainsPlaces, place_of_key, places_of_pairs};
 
-use crate::each::each;
-use crate::fields::{default_plain, keyed_list, lacks as plain_lacks, maps, named_maps};
-use crate::lists::{MAX_ITEMS, handlers, names};
-use crate::nodes::nodes;
-use crate::rows::{EntryRow, Handler, Name, NameText, Value};
-use crate::scalars::plain;
-use crate::table::{Bounds, Kind, Setting, Without};
+use crate::rows::EntryRow;
+use crate::table::{Setting, Without};
 use config_faults::{ConfigFault, FaultKind, Spot, spot_of};
+use setting_values::values::{Handler, Name, NameText, Value};
+use setting_values::{default_plain, plain_lacks, value};
 use std::alloc::{AllocError, Global};
 use std::rc::Rc;
 use yaml_subset::tree::{Key, Tree};
@@ -49,7 +48,7 @@ pub fn is_one_of(names: &[&[u8]], name: &[u8]) -> bool
     names.iter().any(|n| *n == name)
 }
 
-#[tactic(auto, unfolding(crate::specs::Entries::is_ignored))]
+#[tactic(auto, unfolding(crate::specs::Keys::is_ignored))]
 fn is_ignored(key: &[u8]) -> bool
     ensures { result ≡ is_ignored key.now }
 {
@@ -165,66 +164,6 @@ pub fn first_lacking(table: &[Setting], row: &EntryRow) -> Option<&'static [u8]>
 
 // ---- what is written
 
-// The steps in a list, each a list of handled events that is not empty; or the first fault.
-fn steps(
-    alloc: Global,
-    spot: Spot<'_>,
-    bounds: Bounds,
-    tree: &Tree,
-) -> Result<Vec<Vec<Handler>>, ConfigFault>
-    ensures { GivesSteps result (read_steps spot.entry bounds tree.now) }
-{
-    let listed = nodes(alloc, spot, bounds, tree)?;
-    each(
-        alloc,
-        listed.nodes,
-        |node|
-            ensures { GivesHandlers result (read_step spot.entry node.now) }
-        { handlers(alloc, spot, Bounds::AtLeast(1), node) },
-    )
-}
-
-/// The value of a setting of this kind; or its first fault.
-#[tactic(auto, unfolding(crate::specs::Reading::value_at))]
-pub fn value(alloc: Global, spot: Spot<'_>, kind: Kind, tree: &Tree) -> Result<Value, ConfigFault>
-    ensures { GivesValue result (read_value spot.entry kind tree.now) }
-{
-    match kind {
-        Kind::One(scalar) => {
-            let value = plain(alloc, spot, scalar, tree)?;
-            Ok(Value::One(value))
-        }
-        Kind::Names(bounds) => {
-            let names = names(alloc, spot, MAX_ITEMS, bounds, tree)?;
-            Ok(Value::Names(names))
-        }
-        Kind::Posts(bounds) => {
-            let posts = names(alloc, spot, MAX_ITEMS, bounds, tree)?;
-            Ok(Value::Posts(posts))
-        }
-        Kind::Events(bounds) => {
-            let handlers = handlers(alloc, spot, bounds, tree)?;
-            Ok(Value::Events(handlers))
-        }
-        Kind::Steps(bounds) => {
-            let steps = steps(alloc, spot, bounds, tree)?;
-            Ok(Value::Steps(steps))
-        }
-        Kind::Maps(table, others, bounds) => {
-            let maps = maps(alloc, spot, table, others, bounds, tree)?;
-            Ok(Value::Maps(maps))
-        }
-        Kind::NamedMaps(table, others, bounds) => {
-            let maps = named_maps(alloc, spot, table, others, bounds, tree)?;
-            Ok(Value::Maps(maps))
-        }
-        Kind::Keyed(table, at, short) => {
-            let keyed = keyed_list(alloc, spot, table, at, short, tree)?;
-            Ok(Value::Keyed(keyed))
-        }
-    }
-}
-
 // Adds the value of a pair and its place in the table to what is written. The fault is UnknownSetting,
 // or that of the value.
 fn put(
@@ -282,7 +221,7 @@ fn overwrite(
 /// The row of the pairs of an entry, with these values for what is not written. Or the first fault:
 /// those of the settings as they are written, and then `Missing` at the spot, with the first key of
 /// the table that is required and not written.
-#[tactic(auto, unfolding(crate::specs::Reading::row_at, crate::specs::View::row_values))]
+#[tactic(auto, unfolding(setting_values::specs::Reading::row_at, crate::specs::View::row_values))]
 pub fn row_of(
     alloc: Global,
     spot: Spot<'_>,

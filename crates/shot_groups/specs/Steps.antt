@@ -3,7 +3,8 @@ use Rattle.std.{specs.Prelude.◌≡◌, proofs.Common.{refl, subst, sym}}
 use Rattle.plan_tables.specs.declared.devices.{BankSettings.BankSettings, Settings.Settings}
 use Rattle.plan_tables.specs.declared.devices.Settings.TheVariants as kinds
 use Rattle.device_objects.specs.declared.state.DeviceState.TheVariants as states
-use Rattle.device_objects.specs.{Bank.slots, Slotted.StepsAreOfSlots}
+use Rattle.device_objects.specs.Bank.{slots}
+use Rattle.slotted_devices.specs.Slotted.{StepsAreOfSlots}
 
 pub bank_steps : (s : Settings) (b : BankSettings) → s ≡ kinds.Bank b → StepsAreOfSlots s states.Bank (slots b)
 bank_steps s b is =

@@ -7,9 +7,9 @@ ghost use Rattle.plan_tables.specs.declared.devices.Settings.TheVariants as kind
 ghost use Rattle.device_objects.specs.Bank.{advance_where, slot_step};
 
 use crate::shots::{go_on, hit, rotate_left, rotate_right};
-use device_objects::slotted::{SlotKind, Slotted};
 use device_objects::{BankSlot, DeviceState, Outcome};
 use plan_tables::{Act, BankSettings, DeviceRow, Settings};
+use slotted_devices::{SlotKind, Slotted};
 
 /// A bank of shots: each hit of a shot runs the lists of its state, and can move the shot on. A group
 /// is complete when a hit brings its last shot to the state that the others have.

@@ -11,9 +11,9 @@ ghost use Rattle.shot_groups.specs.Mask.{slot_of};
 use crate::bank::is_within;
 use crate::shots::{go_on, hit, rotate_left, rotate_right};
 use device_objects::flags::{flags_of, is_set, mask_of, with_flag};
-use device_objects::slotted::{Resume, SlotKind, Slotted};
 use device_objects::{BankSlot, DeviceState, Outcome};
 use plan_tables::{Act, BankSettings, DeviceRow, Settings};
+use slotted_devices::{Resume, SlotKind, Slotted};
 
 /// A bank of shots that keeps as bits which shots are enabled. Its row and its calls are those of
 /// [`ShotBank`](crate::ShotBank), and it can take the place of one in any state.

@@ -3,15 +3,21 @@ use Rattle.std.specs.{Prelude.{◌≡◌, ℕ, List, map, Option, Some, None, Re
 pub use Rattle.yaml_bytes.specs.View.{option_slice}
 use Rattle.yaml_subset.specs.declared.fault.{Fault.Fault, YamlFault.YamlFault}
 use Rattle.yaml_subset.specs.declared.fault.YamlFault.TheVariants as faults
-use Rattle.yaml_subset.specs.declared.tree.{Key.Key, Tree.{Tree, fold-Tree, TheOpen.Tree-F}}
+use Rattle.yaml_subset.specs.declared.tree.{Key.Key, Tree.{Tree, fold-Tree, TheOpen.Tree-F}, Word.Word}
+use Rattle.yaml_subset.specs.declared.tree.Word.TheVariants as words
 use Rattle.yaml_subset.specs.Node.{Node, scalar, sequence, mapping, Pair, nodes_of, list_nodes, pairs_of, list_pairs}
+
+-- the bytes of a word
+abbrev pub word_bytes : Word → List ℕ
+word_bytes (words.Borrowed text) = text.now
+word_bytes (words.Owned text) = text.value.items
 
 -- one level of a tree, each value in it seen already
 abbrev pub pair_step : (Key × Node) → Pair
 pair_step p = record { line = p.0.line; key = cow_slice_items p.0.text; value = p.1 }
 
 abbrev pub node_step : Tree-F Node → Node
-node_step (Tree-F.Scalar n text) = scalar n (cow_slice_items text)
+node_step (Tree-F.Scalar n text) = scalar n (word_bytes text)
 node_step (Tree-F.List n items) = sequence n (nodes_of items.items)
 node_step (Tree-F.Map n pairs) = mapping n (pairs_of (map pair_step pairs.items))
 

@@ -14,9 +14,8 @@ use crate::fault::FaultKind;
 use crate::keys::{KeyHashing, KeySet, is_too_long, no_keys, take_next};
 use crate::line::Line;
 use crate::place::Halt;
-use crate::tree::{Key, Tree};
+use crate::tree::{Key, Tree, Word};
 use std::alloc::Global;
-use std::borrow::CowSlice;
 use yaml_bytes::{
     before_colon, begins_blank, begins_item, behind_blanks, behind_dash, behind_spaces, is_over,
     spaces_len,
@@ -107,7 +106,7 @@ fn closed<'a>(around: Option<usize>, value: Tree<'a>, below: &[Line]) -> Result<
 fn empty<'a>(number: u32) -> Tree<'a>
     ensures { node_view result ≡ scalar number [] }
 {
-    Tree::Scalar(number, CowSlice::Borrowed(&[]))
+    Tree::Scalar(number, Word::Borrowed(&[]))
 }
 
 // The value of an entry or item at an indentation: on its line, or the block below it, or the empty

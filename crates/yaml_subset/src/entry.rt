@@ -44,7 +44,7 @@ fn text_head(alloc: Global, hashing: KeyHashing, number: u32, text: &[u8]) -> Re
     let (value, rest) = word(alloc, number, false, text)?;
     match rest {
         [b':', after @ ..] => Ok(Head::Entry(value, after)),
-        _ => Ok(Head::Alone(Tree::Scalar(number, value))),
+        _ => Ok(Head::Alone(Tree::scalar(alloc, number, value)?)),
     }
 }
 

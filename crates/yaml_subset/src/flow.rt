@@ -140,7 +140,7 @@ fn value(
         return flow(alloc, hashing, levels, number, text);
     }
     let (text, rest) = word(alloc, number, true, text)?;
-    Ok((Tree::Scalar(number, text), rest))
+    Ok((Tree::scalar(alloc, number, text)?, rest))
 }
 
 // The pair at the front, in a mapping with these pairs before it. The set has their keys, or none.

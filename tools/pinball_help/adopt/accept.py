@@ -8,8 +8,9 @@ from ..outline import Entry
 from ..program import NoAnswer, Program
 from ..scenery import Scenery, section_of
 from ..texts import MACHINE, TEXT_LIMIT, Line, plain
-from .context import Context
+from .context import MOST_GUESSES, Context
 from .draft import SINGLE, Written, entry_lines
+from .settings import FIRED
 from .source import Place
 
 ROUNDS = 1_000
@@ -17,14 +18,15 @@ ANSWERS = 60  # for which there is always time: an unproved program is slow
 FEW = 4  # rounds in which cycles are broken one by one
 MUCH = 16  # times as many entries are taken out at once, if all else takes too long
 TOO_LONG = "error 3 Yaml TooLong"
-LISTS = ("shots", "ball_switches")  # settings that lose one name
 INNER = ("coil_player", "variable_player")
 FEATURE_OF = {
     "Name": "name not there", "PulseLimit": "lowest power or time", "PowerLimit": "lowest power or time",
     "HoldNotAllowed": "hold not allowed", "Limit": "too many",
 }
 SAID = {
-    "Name": "nothing defines `{}`, or it may not be used so", "TimerAtEnd": "the timer is at its end before it runs",
+    "Name": "nothing defines `{}`, or it may not be used so", "HoldNotAllowed": "`{}` may not be held",
+    "PulseLimit": "`{}` is above a limit of the coil", "PowerLimit": "`{}` is above a limit of the coil",
+    "TimerAtEnd": "the timer is at its end before it runs",
     "BallRoute": "balls do not come through the device", "Cycle": "its events lead to each other without end",
     "Bound": "it may cause more than 100,000 lines", "Limit": "the machine has too many `{}`",
 }
@@ -146,9 +148,10 @@ def drop_inner(ctx: Context, inside: dict[str, Written], key: str, inner: str, c
     """Takes a setting, a coil or a variable out of an entry, or one name out of a list of it."""
     written = inside[key]
     assert isinstance(written.value, dict)
-    say(ctx, written, "" if inner in REQUIRED and inner not in LISTS else inner, complaint)
     value = written.value[inner]
-    if inner in LISTS and isinstance(value, list) and complaint.key in value and len(value) > 1:
+    is_part = isinstance(value, list) and complaint.key in value and len(value) > 1
+    say(ctx, written, "" if inner in REQUIRED and not is_part else inner, complaint)
+    if is_part:
         written.value[inner] = [it for it in value if it != complaint.key]
         return True
     del written.value[inner]
@@ -159,7 +162,6 @@ def drop_inner(ctx: Context, inside: dict[str, Written], key: str, inner: str, c
 
 DRIVES = ("default_pulse_ms", "max_pulse_ms", "default_pulse_power", "max_pulse_power", "default_hold_power",
           "max_hold_power", "allow_enable")
-FIRED = ("flippers", "autofire_coils")
 REQUIRED = ("main_coil", "activation_switch", "coil", "switch", "ball_switches", "shots", "events", "states",
             "count_events",
             "ball_count")
@@ -171,6 +173,8 @@ def say(ctx: Context, written: Written, inner: str, complaint: Complaint) -> Non
     key = (complaint.key or " ".join(complaint.words[:6]))[:60]
     refused = f"`{key}`: {complaint.message or complaint.said}"
     says = SAID[complaint.name].format(key) if complaint.name in SAID else refused
+    if complaint.name == "Name" and ctx.guesses < MOST_GUESSES:
+        says += ctx.near(key, [name for _, name in ctx.draft.known])
     for it in [place] if place else written.places or [Place(ctx.source.files[0].name, 1, 1)]:
         ctx.log(FEATURE_OF.get(complaint.name, "refused"), it, says, "lost")
 
@@ -280,7 +284,7 @@ def drop_long(ctx: Context, complaint: Complaint) -> bool:
     while size > TEXT_LIMIT and any(sections.values()):
         inside = max(sections.values(), key=len)
         key, written = inside.popitem()
-        size -= sum(len(line.encode()) + 1 for line in entry_lines(key, written))
+        size -= sum(len(line.encode()) + 1 for line in entry_lines(key, written, ""))
         say(ctx, written, "", complaint)
     return size < before
 

@@ -4,7 +4,7 @@ from .context import Context
 from .delays import written
 from .draft import Value, Written, sections
 from .playfield import NO_CALL, events_of, rest, time_of
-from .source import Given
+from .source import Given, Place
 
 Out = dict[str, Value]
 EXTRA = "adopted_extra_balls"
@@ -21,6 +21,7 @@ def of_save(ctx: Context, mode: str, entry: Given, out: Out) -> None:
         active, more = ctx.time(str(out.get("active_time", "0"))), time_of(ctx, entry, "grace_period", 0)
         if active and more:
             out["active_time"] = written(active + more)
+            ctx.why(entry, "active_time", grace, f"grace_period: {grace.text}")
             for it in (grace, entry.at("active_time") or grace):
                 ctx.log("ball_saves.grace_period", it.place, f"`active_time: {out['active_time']}`")
         else:
@@ -39,6 +40,7 @@ def of_save(ctx: Context, mode: str, entry: Given, out: Out) -> None:
         assert isinstance(here, list)
         here += [it for it in ctx.tilt_events if it not in here]
         ctx.log("tilt", (entry.at("disable_events") or entry).place, "`tilt` disables it")
+        ctx.why(entry, "disable_events", ctx.tilt_given or entry, "a tilt disables it")
 
 
 def from_then(ctx: Context, mode: str, entry: Given, start: Given, out: Out) -> None:
@@ -47,6 +49,7 @@ def from_then(ctx: Context, mode: str, entry: Given, start: Given, out: Out) -> 
     enables = [str(it) for it in out.get("enable_events", [])]
     if not events:
         return
+    ctx.why(entry, "enable_events", start, f"timer_start_events: {', '.join(events[:4])}")
     for it in (start, entry.at("enable_events") or start):
         ctx.log("ball_saves.timer_start_events", it.place)
     if not enables:
@@ -65,6 +68,7 @@ def ball_count(ctx: Context, mode: str, entry: Given, given: Given, out: Out) ->
     count = ctx.number(given.text)
     if entry.says("ball_count_type").lower() == "add" and count is not None:
         out["ball_count"] = str(min(max(1, count), MOST_BALLS - 1) + 1)
+        ctx.why(entry, "ball_count", entry.at("ball_count_type") or given, "ball_count_type: add")
         ctx.log("multiballs.ball_count_type", given.place, f"`ball_count: {out['ball_count']}`")
         return
     setting = next(it for it in sections(False)["multiballs"].settings if it.key == "ball_count")
@@ -125,17 +129,19 @@ def launch(ctx: Context, name: str, written_device: Written, coil: str, given: G
         return
     for event in events:
         ctx.drive("", event, {coil: "pulse"}, given, f"launches a ball from {name}")
-    by_hand(ctx, written_device, "ball_devices.player_controlled_eject_event")
+    by_hand(ctx, written_device, "ball_devices.player_controlled_eject_event", given)
     written_device.says.append(f"the player fires `{coil}`, so the device does not")
     if ctx.auto_launch or ctx.multiballs:
         auto_launch(ctx, name, coil, given)
 
 
-def by_hand(ctx: Context, written_device: Written, feature: str) -> None:
+def by_hand(ctx: Context, written_device: Written, feature: str, given: Given) -> None:
     """A ball device that ejects no ball by itself."""
     assert isinstance(written_device.value, dict)
     del written_device.value["eject_coil"]
     written_device.value["mechanical_eject"] = "yes"
+    for it in written_device.sources:
+        ctx.why(it, "mechanical_eject", given, "no coil ejects by itself")
     for key in ("eject_coil", "mechanical_eject"):
         if place := written_device.lines.get(key):
             ctx.log(feature, place, "`mechanical_eject: yes`, and no `eject_coil`")
@@ -204,7 +210,7 @@ def held(ctx: Context, name: str, some: list[tuple[str, Given]]) -> None:
     if not_held:
         ctx.post("", not_held, [go], first, "while no hold is enabled, a ball goes at once")
     written_device = ctx.draft.section("", "ball_devices")[name]
-    by_hand(ctx, written_device, "ball_holds")
+    by_hand(ctx, written_device, "ball_holds", first)
     written_device.says.append(f"it holds its balls for {', '.join(f'{it.key}: {it.place}' for _, it in some)}")
 
 
@@ -384,6 +390,8 @@ def tilted(ctx: Context) -> None:
                 here += [it for it in ctx.tilt_events if it not in here]
                 place = written_device.lines.get("disable_events", written_device.places[0])
                 ctx.log("tilt", place, "`tilt` disables it")
+                for it in written_device.sources:
+                    ctx.why(it, "disable_events", ctx.tilt_given or it, "a tilt disables it")
     for mode in sorted(ctx.listed):
         sections = ctx.draft.texts.get(mode, {})
         single = sections.get("mode", {})
@@ -393,12 +401,23 @@ def tilted(ctx: Context) -> None:
         if str(value.get("use_wait_queue", "no")).lower() in values.YES:
             not_after_a_tilt(ctx, single)
         elif "variable_player" in sections and str(value.get("stop_on_ball_end", "yes")).lower() in values.YES:
-            written_stops = single.setdefault("stop_events", Written([]))
-            stops = written_stops.value
-            assert isinstance(stops, list)
-            for place in written_stops.places:
-                ctx.log("tilt", place, "`tilt` stops the mode, since it scores")
-            stops += [it for it in ctx.tilt_events if it not in stops]
+            stopped_by_a_tilt(ctx, single)
+
+
+def stopped_by_a_tilt(ctx: Context, single: dict[str, Written]) -> None:
+    """A mode that scores stops at a tilt."""
+    says, given = "a tilt stops the mode, since it scores", ctx.tilt_given
+    assert given
+    if "stop_events" not in single:
+        for it in [it for other in single.values() for it in other.sources][:1]:
+            ctx.log("tilt", Place(it.file.name, it.line + 1), says)
+        single["stop_events"] = Written([], [given.place], [says])
+    stops = single["stop_events"]
+    assert isinstance(stops.value, list)
+    for it in stops.sources:
+        ctx.log("tilt", (it.at("stop_events") or it).place, says)
+        ctx.why(it, "stop_events", given, says)
+    stops.value += [it for it in ctx.tilt_events if it not in stops.value]
 
 
 def not_after_a_tilt(ctx: Context, single: dict[str, Written]) -> None:
@@ -408,6 +427,8 @@ def not_after_a_tilt(ctx: Context, single: dict[str, Written]) -> None:
         return
     for place in starts.places:
         ctx.log("tilt", place, "the mode does not start after a tilt")
+    for it in starts.sources:
+        ctx.why(it, "start_events", ctx.tilt_given, "not after a tilt")
     starts.value = [f"ball_ending{{current_player.{TILTED} == 0}}"]
     if TILTED not in ctx.names:
         ctx.names[TILTED] = TILTED

@@ -2,17 +2,19 @@
 import re
 from contextlib import contextmanager
 from dataclasses import dataclass, field
-from typing import Iterator
+from typing import Collection, Iterator
 
+from ..near import nearest
 from ..schema import NAME
 from ..values import is_event
-from .draft import Draft, NoName, NotWritten, Taken, Value, Written, shortened
+from .draft import LONGEST_NAME, Draft, NoName, NotWritten, Taken, Value, Written, shortened
 from .expressions import Comparison, InMode, Known, NotSaid, Way, number, ways_of
 from .features import EFFECTS, FEATURES, REWRITTEN
 from .source import Given, Place, Source
 
 GREATEST_TIME = (1 << 32) - 1
 LONGEST_PULSE = 5_000
+MOST_GUESSES, MOST_NEAR = 50, 500  # of what was meant with a name: how often, and among how many names
 ALWAYS: dict[str, Value] = {"game_mode": "no", "stop_on_ball_end": "no"}  # of a mode that no game and no ball ends
 TIMES = re.compile(r"(\d{1,10}(?:\.\d{1,6})?)\s*"
                    r"(ms|msec|millisecs?|s|sec|secs|seconds?|m|min|mins|minutes?|h|hours?|d|days?|)")
@@ -77,7 +79,10 @@ class Context:
     game_modes: set[str] = field(default_factory=set)
     tilt_events: list[str] = field(default_factory=list)  # that a tilt posts
     pulse_ms: str = ""  # of each coil without one, if the section `mpf` says so
+    pulse_given: Given | None = None
+    guesses: int = 0
     start_tag: str = "start"
+    start_given: Given | None = None
     groups: set[str] = field(default_factory=set)  # of extra balls
     not_held: set[str] = field(default_factory=set)  # coils whose hold would not end by itself
     lowered: list[tuple[str, str, Given]] = field(default_factory=list)  # overwrites: coil, setting
@@ -94,6 +99,8 @@ class Context:
     dual: dict[str, tuple[str, str]] = field(default_factory=dict)  # coils of two windings
     main_coils: set[str] = field(default_factory=set)  # of flippers
     more: list["More"] = field(default_factory=list)  # events for shots and groups
+    # why a setting is as it is, beside what it was: by the file, line and key of its entry, and its own key
+    whys: dict[tuple[str, int, str, str], list[str]] = field(default_factory=dict)
 
     # what is said
 
@@ -119,6 +126,18 @@ class Context:
         except NotWritten as why:
             self.lose(why.feature, given, str(why), "lost")
 
+    def why(self, entry: Given, setting: str, given: Given, says: str = "") -> None:
+        """Says in the new folder why a setting of an entry is as it is: what else it comes from."""
+        key = (entry.file.name, entry.line, entry.key, setting)
+        self.whys.setdefault(key, []).append(f"{given.place}: {says or given.key}")
+
+    def near(self, name: str, names: Collection[str]) -> str:
+        """What may have been meant with a name that nothing knows; only for some names, since it takes time."""
+        self.guesses += 1
+        is_quick = self.guesses <= MOST_GUESSES and len(names) <= MOST_NEAR and len(name) <= LONGEST_NAME
+        found = nearest(name, names) if is_quick else ""
+        return f" (near it: `{found}`)" if found else ""
+
     def keep(self, given: Given) -> None:
         self.kept.add((given.file.name, given.line + 1))
 
@@ -129,6 +148,7 @@ class Context:
         if given and not isinstance(value, str):
             written.lines = {it: given.place for it in value if isinstance(it, str)}
             written.lines |= {it.key: it.place for it in given.inside() if it.key in written.lines}
+            written.sources = [given]
         self.draft.put(mode, section, key, written)
 
     def post(self, mode: str, event: str, names: list[str], given: Given, says: str = "") -> None:

@@ -3,12 +3,13 @@ import re
 from collections import Counter
 from dataclasses import dataclass, field
 from functools import cache
+from itertools import groupby
 from typing import Iterator
 
 from .. import tables
 from ..tables import MOST_MODES, Section
 from ..texts import MACHINE, VERSION, mode_text
-from .source import Place
+from .source import Given, Place
 
 Value = str | list | dict
 NAME = re.compile(r"[A-Za-z0-9_.-]{1,64}")
@@ -81,6 +82,8 @@ class Written:
     says: list[str] = field(default_factory=list)  # what rewrote it
     lines: dict[str, Place] = field(default_factory=dict)  # where each setting, coil or variable of it comes from
     notes: "Notes" = field(default_factory=dict)
+    sources: list[Given] = field(default_factory=list)  # of its settings: entries of the MPF folder
+    is_copied: bool = False  # an entry of the same section and name is its source
 
 
 Path = tuple[str | int, ...]  # keys, texts of items, and numbers of items that are no texts, from 0
@@ -183,7 +186,7 @@ class Draft:
         for name in sorted(sections, key=lambda it: FIRST.index(it) if it in FIRST else len(FIRST)):
             if sections[name] or name == "game":
                 yield ""
-                lines = [line for key, it in sections[name].items() for line in entry_lines(key, it)]
+                lines = [line for key, it, head in with_heads(sections[name]) for line in entry_lines(key, it, head)]
                 yield from with_note([f"{name}:", *lines], self.notes.get((mode, name), {}).get(()), 0, 2)
 
 
@@ -202,6 +205,7 @@ def joined(first: Written, other: Written) -> None:
         raise Taken("two entries for one event are of two kinds")
     first.places += other.places
     first.lines.update(other.lines)
+    first.sources += other.sources
     first.says += [it for it in other.says if it not in first.says]
 
 
@@ -213,11 +217,28 @@ def added(one: Value, other: Value) -> Value | None:
     return None
 
 
-def entry_lines(key: str, written: Written) -> Iterator[str]:
+def with_heads(inside: dict[str, Written]) -> Iterator[tuple[str, Written, str]]:
+    """The entries of a section, each with the comment above it: one for all in a row that have the same."""
+    entries = [(key, it, head_of(it)) for key, it in inside.items()]
+    for head, some in groupby(entries, key=lambda it: it[2]):
+        of_one = list(some)
+        for at, (key, it, _) in enumerate(of_one):
+            count = f" ({len(of_one)} entries)" if of_one[1:] and head else ""
+            yield key, it, "" if at else head + count
+
+
+def head_of(written: Written) -> str:
+    """Where an entry comes from, and what rewrote it."""
+    if not written.says:
+        return ""
+    where = ", ".join(dict.fromkeys(map(str, written.places)))
+    return f"# {where}: {'; '.join(written.says)}"
+
+
+def entry_lines(key: str, written: Written, head: str) -> Iterator[str]:
     notes = dict(written.notes)
-    if written.says:
-        where = ", ".join(dict.fromkeys(map(str, written.places)))
-        note = Note([f"# {where}: {'; '.join(written.says)}"])
+    if head:
+        note = Note([head])
         note.add(notes.get((), Note()), in_front=True)
         notes[()] = note
     yield from value_lines(scalar(key), written.value, 2, notes, ())

@@ -3,9 +3,11 @@ import hashlib
 import re
 import textwrap
 
+from ..outline import without_comment
 from .context import Context, Done
 from .draft import clean
 from .features import FEATURES, LOST, REWRITTEN, TABLE, UNSEEN, WEAKENED, Feature
+from .source import File
 
 NAME = "ADOPTED.md"
 HEADS = (
@@ -14,6 +16,12 @@ HEADS = (
     (REWRITTEN, "Rewritten", "These are said in another way, and do what the words say."),
     (UNSEEN, "Unseen", "These are for the eyes and ears, or for other programs. No rule changes."),
 )
+ABOUT = (
+    "`pinball-help adopt` has made this folder of `{}`. `pinball check` accepts it. That answer is about this folder, "
+    "and not about what MPF runs: this page lists all that differs. Places are lines of the MPF folder."
+)
+MOST_LINE = 60  # of a line that is shown
+WIDTH = 110
 SUM = "<!-- written by adopt: {} {} -->"
 SUMS = re.compile(r"^<!-- written by adopt: ([0-9a-f]{64}) (.+) -->$", re.M)
 
@@ -22,10 +30,7 @@ def report(ctx: Context, folder: str, unposted: list[tuple[str, str]], files: di
     lines = [
         "# What became of the MPF folder",
         "",
-        f"`pinball-help adopt` has made this folder of `{clean(folder)}`. `pinball check` accepts it. That answer is "
-        f"about",
-        "this folder, and not about what MPF runs: this page lists all that differs. Places are lines of the MPF "
-        "folder.",
+        *wrapped(ABOUT.format(clean(folder)), ""),
         "",
         counted(ctx),
     ]
@@ -36,7 +41,11 @@ def report(ctx: Context, folder: str, unposted: list[tuple[str, str]], files: di
         lines += ["", "## Handled, and nothing posts it", "",
                   "These entries are written, and never run: nothing here posts the event. Places are lines of this",
                   "folder.", ""]
-        lines += [f"- `{clean(name)}`: {clean(place)}" for name, place in unposted]
+        places: dict[str, list[str]] = {}
+        for name, place in unposted:
+            places.setdefault(name, []).append(place)
+        for name, some in places.items():
+            lines += wrapped(f"- `{clean(name)}`: {clean(', '.join(some))}", "  ")
     body = "\n".join([*lines, "", ""])
     sums = {**{name: sum_of(text) for name, text in files.items()}, NAME: sum_of(body)}
     return body + "".join(f"{SUM.format(check, name)}\n" for name, check in sums.items())
@@ -53,11 +62,11 @@ def sum_of(text: str) -> str:
 
 def counted(ctx: Context) -> str:
     counts = {effect: len({it.place for it in ctx.done if it.effect == effect}) for effect, _, _ in HEADS}
-    kept = f"kept as they are: {len(ctx.kept)} lines, "
-    return kept + ", ".join(f"{effect}: {count} places" for effect, count in counts.items()) + "."
+    return f"Kept: {len(ctx.kept)} lines. Places: " + ", ".join(f"{it} {effect}" for effect, it in counts.items()) + "."
 
 
 def by_feature(ctx: Context, effect: str) -> list[str]:
+    files = {it.name: it for it in ctx.source.files}
     found: dict[str, list[Done]] = {}
     for it in ctx.done:
         if it.effect != effect:
@@ -69,15 +78,31 @@ def by_feature(ctx: Context, effect: str) -> list[str]:
         lines += wrapped(f"- **{plain(title)}**: {plain(here)}", "  ")
         said: dict[str, list[Done]] = {}
         for it in all_of_it:
-            said.setdefault(it.says, []).append(it)
+            words = with_line(files, it, title) if effect in (LOST, WEAKENED) else it.says
+            said.setdefault(words, []).append(it)
         for words, those in said.items():
             places = ", ".join(dict.fromkeys(shown(it) for it in those))
             lines += wrapped(f"  - {places}" + (f": {clean(words)}" if words else ""), "    ")
     return lines
 
 
+def with_line(files: dict[str, File], one: Done, title: str) -> str:
+    """What is said of a place, after what is written there, unless the title or the words have it."""
+    file = files.get(one.place.file)
+    line = without_comment(file.lines[one.place.line - 1]) if file and one.place.line <= len(file.lines) else ""
+    line = line.strip().removesuffix(":")
+    seen = line[:MOST_LINE]
+    named = re.match(r"`([^`]+)`(?:: |$)", one.says)
+    is_seen = named and (seen.startswith(named[1]) or f": {seen}".endswith(f": {named[1]}"))
+    says = one.says[named.end() :] if named and is_seen else one.says
+    short = "" if not line or f"`{line}`" in title else f"`{seen}`" if seen == line else f"`{seen} ..`"
+    return ": ".join(it for it in (short, says) if it)
+
+
 def wrapped(line: str, margin: str) -> list[str]:
-    return textwrap.wrap(line, 110, subsequent_indent=margin, break_long_words=False, break_on_hyphens=False)
+    if len(line) <= WIDTH:  # (most are, and a list may be long)
+        return [line.rstrip()]
+    return textwrap.wrap(line, WIDTH, subsequent_indent=margin, break_long_words=False, break_on_hyphens=False)
 
 
 def plain(cell: str) -> str:

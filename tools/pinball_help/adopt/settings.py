@@ -12,6 +12,8 @@ from .source import Given
 Out = dict[str, Value]
 MACHINE_ONLY = ("switches", "coils", "flippers", "autofire_coils", "ball_devices", "machine", "game")
 NEVER = "adopted_nothing_posts_this"
+ENABLED_AT_FIRST = ("shots", "counters", "accruals", "sequences")  # where no event enables them
+FIRED = ("flippers", "autofire_coils")
 
 
 def of_section(ctx: Context, mode: str, section: Given) -> None:
@@ -39,7 +41,7 @@ def single(ctx: Context, mode: str, section: Given) -> None:
     for key, value in (out or {}).items():
         given = section.at(key) or section
         with ctx.attempt(given):
-            ctx.draft.put(mode, section.key, key, Written(value, [given.place]))
+            ctx.draft.put(mode, section.key, key, Written(value, [given.place], sources=[section]))
     ctx.draft.section(mode, section.key)
 
 
@@ -51,7 +53,7 @@ def of_entry(ctx: Context, mode: str, section: Given, entry: Given) -> None:
     out = settings_of(ctx, mode, section.key, entry)
     if out is None:
         return
-    written = Written(out, [entry.place])
+    written = Written(out, [entry.place], sources=[entry], is_copied=True)
     written.lines = {it.key: it.place for it in entry.inside()}
     try:
         ctx.draft.put(mode, section.key, entry.key, written)
@@ -96,7 +98,7 @@ def settings_of(ctx: Context, mode: str, section: str, entry: Given) -> Out | No
         after(ctx, mode, entry, out)
     for setting in table.values():
         if setting.is_required and setting.key not in out:
-            ctx.lose("missing setting", entry, f"`{setting.key}`")
+            ctx.lose("missing setting", entry, f"it has no `{setting.key}`")
             return None
     return out
 
@@ -113,6 +115,8 @@ def take(ctx: Context, mode: str, section: str, entry: Given, given: Given, tabl
         if value is not None and not (value == [] and section == "switches" and values.items_of(ctx, given)):
             out[key] = value if key not in out else lower(ctx, given, key, out[key], value)
             ctx.keep(given)
+        if value == [] and (given.text or given.is_list or given.is_mapping):
+            without_events(section, key, out)
     elif key in tables.of_other_tools():
         if given.is_mapping or given.is_list and not all(map(values.NAME.fullmatch, given.words())):
             ctx.lose("other tools", given)
@@ -122,7 +126,15 @@ def take(ctx: Context, mode: str, section: str, entry: Given, given: Given, tabl
     elif f"{section}.{key}" in FEATURES:
         ctx.lose(f"{section}.{key}", given)
     else:
-        ctx.lose("unknown setting", given, f"`{key[:60]}`")
+        ctx.lose("unknown setting", given, f"`{key[:60]}`" + ctx.near(key, table))
+
+
+def without_events(section: str, key: str, out: Out) -> None:
+    """A list whose events are all left out: an empty one may mean that a device always works, and that is more."""
+    if key == "enable_events" and section in ENABLED_AT_FIRST:
+        out[key] = [NEVER]
+    elif key == "disable_events" and section in FIRED:
+        del out[key]
 
 
 # settings that have another name in version 6
@@ -185,6 +197,8 @@ def no_hold(ctx: Context, _mode: str, entry: Given, given: Given, out: Out) -> N
 def pulse_default(ctx: Context, _mode: str, entry: Given, out: Out) -> None:
     if "default_pulse_ms" not in out and not entry.at("default_pulse_ms") and not entry.at("pulse_ms") and ctx.pulse_ms:
         out["default_pulse_ms"] = ctx.pulse_ms
+        if ctx.pulse_given:
+            ctx.why(entry, "default_pulse_ms", ctx.pulse_given, "`default_pulse_ms` of `mpf`")
         ctx.log("mpf.default_pulse_ms", entry.place, f"{ctx.pulse_ms} ms")
 
 
@@ -197,6 +211,7 @@ def lowest(ctx: Context, _mode: str, entry: Given, out: Out) -> None:
         most, here = read(str(out.get(limit, ""))), read(str(out.get(default, without(out, default))))
         if most is not None and here is not None and here > most:
             ctx.log("lowest power or time", (entry.at(default) or entry).place, f"`{default}` is `{out[limit]}`")
+            ctx.why(entry, default, entry.at(limit) or entry, f"not above `{limit}`")
             out[default] = out[limit]
     if entry.at("max_hold_duration") or entry.at("default_timed_enable_ms"):
         for key in ("allow_enable", "default_hold_power", "max_hold_power"):
@@ -232,8 +247,10 @@ def lower_coils(ctx: Context) -> None:
         here = str(written.value.get(key, without(written.value, key)))
         if right and values.lowest(key, [here, right]) != here:
             written.value[key] = right
-            written.says.append(f"`{key}` is that of {given.place}")
-            ctx.log("flippers.main_coil_overwrite", written.lines.get(key, written.places[0]), f"`{key}: {right}`")
+            for it in written.sources:
+                ctx.why(it, key, given, f"{given.key}: {given.text}")
+            place = written.lines.get(key, written.places[0])
+            ctx.log("flippers.main_coil_overwrite", place, f"it is `{key}: {right}`")
 
 
 # devices
@@ -257,6 +274,7 @@ def shot_switches(ctx: Context, mode: str, entry: Given, given: Given, out: Out)
     hits = out.setdefault("hit_events", [])
     if isinstance(hits, list):
         hits += [f"{it}_active" for it in words]
+    ctx.why(entry, "hit_events", given, f"{given.key}: {', '.join(words[:4])}")
     ctx.log("shots.switches", given.place)
 
 
@@ -279,6 +297,7 @@ def start_enabled(ctx: Context, mode: str, entry: Given, given: Given, out: Out)
     else:
         if not starts and not enables:
             out["enable_events"] = [NEVER]
+            ctx.why(entry, "enable_events", given, f"{given.key}: {given.text}")
         ctx.log("shots.start_enabled", given.place)
 
 
@@ -337,6 +356,8 @@ def add_more(ctx: Context) -> None:
             here = written.value.setdefault(setting, [])
             assert isinstance(here, list)
             here += [it for it in events if it not in here]
+            for it in written.sources:
+                ctx.why(it, setting, more.given, f"{more.given.key}: {', '.join(events[:4])}")
             if place := written.lines.get(setting):
                 ctx.log(more.feature, place, f"`{', '.join(events)}` too")
 
@@ -364,7 +385,7 @@ def mode_events(event: str) -> Callable:
 
 def tag_of_start(ctx: Context, _mode: str, entry: Given, given: Given, out: Out) -> None:
     if given.text and given.key == "start_game_switch_tag":
-        ctx.start_tag = given.text
+        ctx.start_tag, ctx.start_given = given.text, given
     if given.text not in ctx.tags:
         ctx.log("game.start_game_switch_tag", given.place, f"no switch has the tag `{given.text[:60]}`", "weakened")
     elif given.text != entry.says("start_game_switch_tag", "start"):
@@ -421,12 +442,16 @@ def own_modes(ctx: Context, mode: str, entry: Given, out: Out) -> None:
     """A text of one of MPF's modes has the start of that mode only if it is written."""
     if mode == "attract" and "start_events" not in out:
         out |= {"start_events": ["game_ended"], "stop_events": ["game_will_start"], "game_mode": "no"}
+        for it in "start_events", "stop_events", "game_mode":
+            ctx.why(entry, it, entry, "MPF's own mode runs without a game")
         ctx.log("attract", entry.place)
     elif mode == "tilt" and "start_events" not in out:
         out["start_events"] = ["ball_started"]
+        ctx.why(entry, "start_events", entry, "MPF's own mode starts by itself")
         ctx.log("own mode of MPF", entry.place, "`start_events: ball_started`", "rewritten")
     elif mode == "bonus" and "start_events" not in out:
         out["start_events"] = ["ball_ending"]
+        ctx.why(entry, "start_events", entry, "MPF's own mode starts by itself")
         ctx.log("own mode of MPF", entry.place)
 
 

@@ -291,7 +291,7 @@ def maps(ctx: Context, mode: str, section: str, _kind: Call, _entry: Given, give
     found = [it for item in given.items() for it in control(ctx, mode, item)]
     if given.is_mapping or given.text:
         ctx.lose("bad value", given)
-    return found
+    return found or None
 
 
 ACTIONS = ("start", "stop", "pause", "reset", "restart", "add", "subtract", "jump")

@@ -3,7 +3,7 @@ from typing import Callable
 
 from .. import profile, tables
 from ..outline import Node
-from . import balls, comments, players, playfield, settings, states, values
+from . import balls, comments, players, playfield, remarks, settings, states, values
 from .context import Context
 from .draft import sections
 from .features import FEATURES, LEFT_OUT
@@ -110,7 +110,7 @@ def learn(ctx: Context, part: Part, section: Given, entry: Given) -> None:
             ctx.settings[entry.key] = number
     elif section.key == "mpf" and entry.key == "default_pulse_ms":
         value = ctx.time(entry.text)
-        ctx.pulse_ms = str(value) if value and value <= 5_000 else ""
+        ctx.pulse_ms, ctx.pulse_given = str(value) if value and value <= 5_000 else "", entry
 
 
 def of_files(ctx: Context) -> None:
@@ -206,7 +206,7 @@ def of_section(ctx: Context, mode: str, section: Given) -> None:
     elif key in LEFT_OUT:
         ctx.lose(key, section)
     else:
-        ctx.lose("unknown section", section, f"`{key[:60]}`")
+        ctx.lose("unknown section", section, f"`{key[:60]}`" + ctx.near(key, {*sections(bool(mode)), *FEATURES}))
 
 
 def one_by_one(ctx: Context, mode: str, section: Given) -> None:
@@ -287,6 +287,7 @@ def finish(ctx: Context) -> None:
     players.within_limits(ctx)
     game(ctx)
     comments.keep(ctx)
+    remarks.add(ctx)
 
 
 def dual_wound(ctx: Context) -> None:
@@ -295,7 +296,8 @@ def dual_wound(ctx: Context) -> None:
             main, held = found
             written.value["main_coil"] = main
             written.value.setdefault("hold_coil", held)
-            written.says.append("the two windings of a coil")
+            for it in written.sources:
+                ctx.why(it, "hold_coil", it.at("main_coil") or it, "the other winding of the coil")
 
 
 def one_coil(ctx: Context) -> None:
@@ -316,7 +318,8 @@ def game(ctx: Context) -> None:
                 tags = written.value.setdefault("tags", [])
                 assert isinstance(tags, list)
                 tags += ["start"] if "start" not in tags else []
-                written.says.append("the start button")
+                for it in written.sources:
+                    ctx.why(it, "tags", ctx.start_given or it, "the start button")
                 ctx.log("game.start_game_switch_tag", written.lines.get("tags", written.places[0]), "`start` too")
     if "game" not in sections and (ctx.tags.get("start") or ctx.tags.get(ctx.start_tag)):
         sections["game"] = {}

@@ -1,7 +1,7 @@
 //! Whole games by switch changes alone, beside a plain model of whose turn it is and who has scored what.
 
 use crate::asserts::assert_text;
-use crate::plays::row::Player;
+use crate::plays::row::OF_TEXTS;
 use std::alloc::Global;
 use worked_rows::{Pen, Row, answered};
 
@@ -185,7 +185,7 @@ fn played(alloc: Global, log: &str) -> Pen {
         writer: "",
         wanted: "",
     };
-    answered(alloc, &Player, &row)
+    answered(alloc, &OF_TEXTS, &row)
 }
 
 #[test]

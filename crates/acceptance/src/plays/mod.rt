@@ -3,6 +3,7 @@
 
 mod ball_games;
 mod failures;
+mod live;
 mod machine;
 mod row;
 mod tables;

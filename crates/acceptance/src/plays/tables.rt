@@ -1,11 +1,22 @@
-//! All tables of logs that are played, each log on its bundle.
+//! Logs that are played: each row of the tables, from its text and live.
 
-use crate::plays::row::assert_rows;
+use crate::plays::row::{LIVE, OF_TEXTS, Player, assert_rows_by};
+use std::process::Abort;
 use worked_rows::PLAYS;
+
+/// Each row of each table of logs is printed as it says by this player. (A loop over these tables is slow to prove.)
+fn assert_plays<R: Abort + AllocGlobal>(rt: &R, player: Player) {
+    for table in PLAYS {
+        assert_rows_by(rt, player, table);
+    }
+}
 
 #[test]
 fn logs_are_played(rt: HostRuntime) {
-    for table in PLAYS {
-        assert_rows(&rt, table);
-    }
+    assert_plays(&rt, OF_TEXTS);
+}
+
+#[test]
+fn logs_are_played_live(rt: HostRuntime) {
+    assert_plays(&rt, LIVE);
 }

@@ -1,6 +1,6 @@
 use Rattle.mpf_config.specs.RowsOf.{within_limits, AreModesOf, IsTextOver}
 use Rattle.mpf_config.specs.{Reading.mode_names_at, Inside.names_only_view}
-use Rattle.section_tables.proofs.AnswersOf.{is_found, is_only, is_refused}
+use Rattle.setting_values.proofs.AnswersOf.{is_found, is_only, is_refused}
 use Rattle.mpf_config.proofs.ModeNames.{mode_names_sound, mode_names_or}
 use Rattle.mpf_config.proofs.bundle.mode_names.Goals as goal
 

@@ -1,5 +1,5 @@
 use Rattle.mpf_config.specs.{RowsOf.{within_limits, IsRowsOf, IsAbove}, Reading.rows_at, View.rows_view}
-use Rattle.section_tables.proofs.AnswersOf.{is_found, is_only, is_refused}
+use Rattle.setting_values.proofs.AnswersOf.{is_found, is_only, is_refused}
 use Rattle.mpf_config.proofs.Theorem.{rows_sound, rows_or}
 use Rattle.mpf_config.proofs.bundle.read_bundle.Goals as goal
 

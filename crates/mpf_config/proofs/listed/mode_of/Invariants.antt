@@ -1,5 +1,5 @@
 use Rattle.std.proofs.Common.{◌≡◌, drop}
-use Rattle.section_tables.specs.Tables.{found_in, shifted}
+use Rattle.setting_values.specs.KeyRules.{found_in, shifted}
 use Rattle.mpf_config.specs.{Unread.mode_text_of, Inside.modes_view}
 use Rattle.mpf_config.proofs.listed.mode_of.Given as goal
 

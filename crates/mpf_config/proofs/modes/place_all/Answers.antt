@@ -1,7 +1,7 @@
 use Rattle.std.proofs.{Common.{rules, ◌||◌, [], get_or, ap, ◌∙◌, arith}, lemmas.Result.err_from_is_err_and}
 use Rattle.yaml_subset.specs.Keys.{is_among}
 use Rattle.mpf_config.specs.declared.texts.Text as texts
-use Rattle.section_tables.specs.Tables.{found_in}
+use Rattle.setting_values.specs.KeyRules.{found_in}
 use Rattle.mpf_config.specs.{Unread.mode_text_of, Gives.keys_taken}
 use Rattle.mpf_config.specs.Inside.{copies_view, modes_view, found_modes_view, placed_keys}
 use Rattle.mpf_config.proofs.NoneBefore.{none_before, machine_only, none_long, next_before, next_taken}

@@ -1,5 +1,5 @@
 use Rattle.std.proofs.Common.{◌≡◌, drop}
-use Rattle.section_tables.specs.View.{pairs_view}
+use Rattle.setting_values.specs.View.{pairs_view}
 use Rattle.mpf_config.specs.Reading.{line_of_key}
 use Rattle.mpf_config.proofs.sections.line_of_key.Given as goal
 

@@ -2,7 +2,7 @@ use Rattle.std.proofs.Common.{rules, ◌≡◌, ◌+◌, [], ◌∷◌, ◌++◌
 use Rattle.std.proofs.lemmas.{List.map_push, Result.err_from_is_err_and}
 use Rattle.yaml_subset.specs.View.{pair_view}
 use Rattle.mpf_config.specs.{Unread.{is_skipped, read_of}, Reading.{section_at, sections_at}, Inside.sections_view}
-use Rattle.section_tables.specs.{Reading.each_read, View.pairs_view}
+use Rattle.setting_values.specs.{Reading.each_read, View.pairs_view}
 use Rattle.mpf_sections.specs.View.{section_view}
 use Rattle.mpf_config.proofs.{EachRead.{goes_on, fails, is_done}, Pairs.{pairs_at, none_behind}, Kept.keeps_first}
 use Rattle.mpf_config.proofs.sections.sections.Goals as goal

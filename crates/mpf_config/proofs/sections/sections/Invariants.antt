@@ -1,6 +1,6 @@
 use Rattle.std.proofs.Common.{◌≡◌, drop}
 use Rattle.mpf_config.{specs.{Unread.read_of, Reading.section_at, Inside.sections_view}, proofs.EachRead.with_front}
-use Rattle.section_tables.specs.{Reading.each_read, View.pairs_view}
+use Rattle.setting_values.specs.{Reading.each_read, View.pairs_view}
 use Rattle.mpf_config.proofs.sections.sections.Given as goal
 
 abbrev pub invariant-loop-entry : goal.invariant-loop-entry

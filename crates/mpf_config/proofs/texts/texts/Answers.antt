@@ -1,6 +1,6 @@
 use Rattle.std.proofs.Common.{rules, ◌≡◌, ◌+◌, false, take, drop, ap, ◌∙◌}
 use Rattle.std.proofs.lemmas.{List.map_push, Result.err_from_is_err_and}
-use Rattle.section_tables.specs.Reading.{each_read}
+use Rattle.setting_values.specs.Reading.{each_read}
 use Rattle.mpf_config.specs.BundleText.{pieces_of, piece_len, line_ends, numbered}
 use Rattle.mpf_config.specs.{Reading.{text_at, texts_at}, Inside.texts_view}
 use Rattle.mpf_config.proofs.EachRead.{goes_on, fails, is_done}

@@ -1,5 +1,5 @@
 use Rattle.std.proofs.Common.{◌≡◌, ◌-◌, length}
-use Rattle.section_tables.specs.Reading.{each_read}
+use Rattle.setting_values.specs.Reading.{each_read}
 use Rattle.mpf_config.specs.{BundleText.{pieces_of, numbered}, Reading.text_at, Inside.texts_view}
 use Rattle.mpf_config.proofs.{EachRead.with_front, Pieces.numbered_from}
 use Rattle.mpf_config.proofs.texts.texts.Given as goal

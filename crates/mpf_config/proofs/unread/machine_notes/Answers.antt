@@ -1,6 +1,6 @@
 use Rattle.std.proofs.Common.{◌+◌, [], ◌∷◌, drop, map, sym, ◌∙◌}
 use Rattle.yaml_subset.specs.View.{pair_view}
-use Rattle.section_tables.specs.View.{pairs_view}
+use Rattle.setting_values.specs.View.{pairs_view}
 use Rattle.mpf_config.specs.{BundleText.machine_name, Inside.{texts_view, modes_view, notes_view}}
 use Rattle.mpf_config.specs.Unread.{absent_of, skipped_note, absent_note, section_notes, machine_notes}
 use Rattle.mpf_config.proofs.Pairs.{pairs_at}

@@ -1,5 +1,5 @@
 use Rattle.std.proofs.Common.{◌≡◌, ◌++◌, drop}
-use Rattle.section_tables.specs.View.{pairs_view}
+use Rattle.setting_values.specs.View.{pairs_view}
 use Rattle.mpf_config.specs.{Unread.machine_notes, Inside.{texts_view, modes_view, notes_view}}
 use Rattle.mpf_config.proofs.unread.machine_notes.Given as goal
 

@@ -1,5 +1,5 @@
 use Rattle.std.proofs.Common.{◌≡◌, ◌++◌, drop}
-use Rattle.section_tables.specs.View.{pairs_view}
+use Rattle.setting_values.specs.View.{pairs_view}
 use Rattle.mpf_config.specs.{Unread.mode_notes, Inside.notes_view}
 use Rattle.mpf_config.proofs.unread.mode_notes.Given as goal
 

@@ -1,6 +1,6 @@
 use Rattle.std.{proofs.Common.{sym, ◌∙◌, rules, tests}, specs.Str.bytes_eq}
 use Rattle.std.proofs.lemmas.{Iterator.{YieldsList-from_slice, Search.all_from_yields_List}, List.Folds.list_all-map}
-use Rattle.section_tables.specs.{declared.rows.Handler.Handler, View.handler_view}
+use Rattle.setting_values.specs.{declared.values.Handler.Handler, View.handler_view}
 use Rattle.mpf_sections.specs.Typed.{ball_ending}
 use Rattle.mpf_sections.proofs.typed.are_ball_ending.Goals as goal
 

@@ -1,45 +1,48 @@
-use Rattle.std.proofs.{Common.{Err, IsErrOf, ap, sym, ◌∙◌, map, subst}, lemmas.Result.err_from_is_err_and}
+use Rattle.std.proofs.Common.{◌≡◌, ◌⊎◌, Option, List, ℕ, Err, IfErr, IsErrOf, inl, inr, ap, sym, ◌∙◌, map, subst}
+use Rattle.std.proofs.lemmas.Result.{err_from_is_err_and}
+use Rattle.plan_tables.specs.PlanView.{PlanView}
 use Rattle.coil_driver.specs.Board.{BoardView, board_view}
 use Rattle.machine_core.specs.Fit.{IsFit}
 use Rattle.pinball_shell.specs.declared.fault.ShellFault.TheVariants as faults
-use Rattle.pinball_shell.proofs.{LogRuns.log_is_run, Playing.log-written, Taking.{log-played, wrong-unfit}}
+use Rattle.pinball_shell.specs.{Played.IsShutDown, LogPlayers.PlayerView}
+use Rattle.pinball_shell.proofs.{LogRuns.log_is_run, Playing.log-written, Taking.{log-played, err-as}}
 use Rattle.pinball_shell.proofs.play.play_log.Goals as goal
 
-pub returns-in_err-printed-clause-run : goal.returns-in_err-printed-clause-run
-returns-in_err-printed-clause-run g c = log_is_run c.args.checked.now c.plan-plan.ensures.accepted c.args.log.now
+pub returns-in_err-player-clause-run : goal.returns-in_err-player-clause-run
+returns-in_err-player-clause-run g c = log_is_run c.args.checked.now c.in_err-player.ensures.accepted c.args.log.now
 
-pub returns-in_err-page-clause-run : goal.returns-in_err-page-clause-run
-returns-in_err-page-clause-run g c = log_is_run c.args.checked.now c.plan-plan.ensures.accepted c.args.log.now
-
-pub returns-in_err-rig-clause-run : goal.returns-in_err-rig-clause-run
-returns-in_err-rig-clause-run g c = log_is_run c.args.checked.now c.plan-plan.ensures.accepted c.args.log.now
+pub returns-in_err-player-clause-wrong : goal.returns-in_err-player-clause-wrong
+returns-in_err-player-clause-wrong g c =
+    let p = err_from_is_err_and c.from_residual.result c.from_residual.ensures.1 in
+    subst (λ r. IsErrOf r faults.WrongDevice → IsFit c.args.checked.now.plan (map g.D.Device.row_of c.args.devices.items) (map g.D.Device.state_of c.args.devices.items) → ⊥) (sym (p.1 ∙ ap Err p.2)) (λ is. c.in_err-player.ensures.wrong (err-as c.in_err-player.field-0.0 faults.WrongDevice is))
 
 pub returns-in_err-verdict-clause-run : goal.returns-in_err-verdict-clause-run
-returns-in_err-verdict-clause-run g c = log_is_run c.args.checked.now c.plan-plan.ensures.accepted c.args.log.now
+returns-in_err-verdict-clause-run g c = log_is_run c.args.checked.now c.in_ok-player.ensures.accepted c.args.log.now
 
 pub returns-in_err-write_out-clause-run : goal.returns-in_err-write_out-clause-run
-returns-in_err-write_out-clause-run g c = log_is_run c.args.checked.now c.plan-plan.ensures.accepted c.args.log.now
+returns-in_err-write_out-clause-run g c = log_is_run c.args.checked.now c.in_ok-player.ensures.accepted c.args.log.now
 
 pub returns-in_err-board-clause-run : goal.returns-in_err-board-clause-run
-returns-in_err-board-clause-run g c = log_is_run c.args.checked.now c.plan-plan.ensures.accepted c.args.log.now
+returns-in_err-board-clause-run g c = log_is_run c.args.checked.now c.in_ok-player.ensures.accepted c.args.log.now
 
 pub returns-clause-run : goal.returns-clause-run
-returns-clause-run g c = log_is_run c.args.checked.now c.plan-plan.ensures.accepted c.args.log.now
-
-pub returns-in_err-rig-clause-wrong : goal.returns-in_err-rig-clause-wrong
-returns-in_err-rig-clause-wrong g c =
-    let unfit = wrong-unfit c.args.checked.now.plan (map g.D.Device.row_of c.args.devices.items) (map g.D.Device.state_of c.args.devices.items) c.in_err-rig.field-0.0
-    (λ row is. c.in_err-rig.ensures.wrong row (ap Err is)) in
-    let p = err_from_is_err_and c.from_residual-in_err-rig.result c.from_residual-in_err-rig.ensures.1 in
-    subst (λ r. IsErrOf r faults.WrongDevice → IsFit c.args.checked.now.plan (map g.D.Device.row_of c.args.devices.items) (map g.D.Device.state_of c.args.devices.items) → ⊥) (sym (p.1 ∙ ap Err p.2)) unfit
+returns-clause-run g c = log_is_run c.args.checked.now c.in_ok-player.ensures.accepted c.args.log.now
 
 pub returns-clause-played : goal.returns-clause-played
 returns-clause-played g c =
-    let first : BoardView = board_view g.B.Board.told g.B.Board.fault_count g.B.Board.answers c.args.board in
+    let first = c.in_ok-player.player in
+    let now = c.play_lines.new.player in
+    let written : Option (List ℕ) = g.W.Write.contents c.args.writer.now in
+    let out : Option (List ℕ) = g.W.Write.contents c.write_out.new.writer in
+    let end : Option (List ℕ) = g.W.Write.contents c.shut_down.new.writer in
+    let begun : BoardView = board_view g.B.Board.told g.B.Board.fault_count g.B.Board.answers c.args.board in
     let last : BoardView = board_view g.B.Board.told g.B.Board.fault_count g.B.Board.answers c.in_ok-board.board in
-    let written = log-written c.in_ok-printed.printed c.in_ok-rig.rig.checked.bound c.args.log.now c.in_ok-rig.rig c.play_lines.new.rig
-    (g.W.Write.contents c.args.writer.now) (g.W.Write.contents c.play_lines.new.writer) (g.W.Write.contents c.write_out.new.writer)
-    c.in_ok-page.page c.play_lines.new.page c.in_ok-verdict.verdict c.in_ok-page.ensures c.in_ok-write_out.ensures.written c.in_ok-verdict.ensures.played in
-    log-played c.in_ok-printed.printed c.args.checked.now c.in_ok-rig.rig c.play_lines.new.rig first last c.args.log.now
-    (g.W.Write.contents c.args.writer.now) (g.W.Write.contents c.write_out.new.writer) (g.W.Write.contents c.shut_down.new.writer) c.in_ok-verdict.verdict
-    (c.in_ok-printed.ensures ∙ c.plan-plan.ensures.plan) c.in_ok-rig.ensures.rest written c.in_ok-board.ensures.done
+    let ready = c.in_ok-player.ensures.ready in
+    let played =
+    log-written first.plan first.rig.checked.bound c.args.log.now first.rig now.rig written (g.W.Write.contents c.play_lines.new.writer) out first.page now.page c.in_ok-verdict.verdict
+    (ap (λ (p : PlayerView). p.page) ready) c.in_ok-write_out.ensures.written c.in_ok-verdict.ensures.played in
+    let shut =
+    subst (λ (p : PlanView). IsShutDown p now.rig last out end) c.in_ok-verdict.ensures.plan
+    (subst (λ (p : PlayerView). IsShutDown p.plan p.rig last out end) c.write_out.ensures.kept c.in_ok-board.ensures.done) in
+    log-played first.plan c.args.checked.now first.rig now.rig begun last c.args.log.now written out end c.in_ok-verdict.verdict
+    (ap (λ (p : PlayerView). p.plan) ready) (ap (λ (p : PlayerView). p.rig) ready) played shut

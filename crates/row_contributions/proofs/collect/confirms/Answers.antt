@@ -1,6 +1,6 @@
 use Rattle.std.{proofs.Common.{sym, ◌∙◌, rules, tests}, specs.{Prelude.codes, Str.bytes_eq}}
 use Rattle.std.proofs.lemmas.Iterator.{YieldsList-from_slice, Search.any_from_yields_List}
-use Rattle.section_tables.specs.declared.rows.Name.{Name}
+use Rattle.setting_values.specs.declared.values.Name.{Name}
 use Rattle.mpf_sections.specs.View.{name_view}
 use Rattle.row_contributions.proofs.collect.confirms.Goals as goal
 use Rattle.yaml_bytes.proofs.Each.{any_mapped}

@@ -1,7 +1,7 @@
 use Rattle.std.proofs.Common.{◌<◌}
 use Rattle.yaml_subset.specs.View.{pair_view}
 use Rattle.section_tables.specs.{EntryOf.ArePlayers, Reading.players_at, TableView.player_kinds_view, View.players_view}
-use Rattle.section_tables.proofs.AnswersOf.{is_found, is_only, is_refused}
+use Rattle.setting_values.proofs.AnswersOf.{is_found, is_only, is_refused}
 use Rattle.section_tables.proofs.EntriesRead.{players_sound, players_complete}
 use Rattle.section_tables.proofs.handling.players.Goals as goal
 

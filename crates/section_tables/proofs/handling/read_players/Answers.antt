@@ -1,6 +1,6 @@
 use Rattle.yaml_subset.specs.View.{pair_view}
 use Rattle.section_tables.specs.{TableView.player_kinds_view, Reading.{player_at, players_at}, View.player_view}
-use Rattle.section_tables.proofs.EachGiven.{gives_each}
+use Rattle.setting_values.proofs.EachGiven.{gives_each}
 use Rattle.section_tables.proofs.handling.read_players.Goals as goal
 
 pub returns : goal.returns

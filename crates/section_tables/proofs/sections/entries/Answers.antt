@@ -3,7 +3,7 @@ use Rattle.yaml_subset.specs.View.{pair_view}
 use Rattle.section_tables.specs.{EntryOf.AreEntries, TableView.{barred_view, table_view}, View.entries_view}
 use Rattle.section_tables.specs.{Reading.entries_at, declared.table.Setting.Setting}
 use Rattle.config_faults.specs.Faults.{GivesRows}
-use Rattle.section_tables.proofs.AnswersOf.{is_found, is_only, is_refused}
+use Rattle.setting_values.proofs.AnswersOf.{is_found, is_only, is_refused}
 use Rattle.section_tables.proofs.EntriesRead.{entries_sound, entries_complete}
 use Rattle.section_tables.proofs.sections.entries.Goals as goal
 

@@ -3,7 +3,8 @@ use Rattle.yaml_subset.specs.View.{pair_view}
 use Rattle.section_tables.specs.{EntryOf.IsEntry, View.entry_view, declared.table.Setting.Setting}
 use Rattle.section_tables.specs.{Reading.entry_at, TableView.table_view}
 use Rattle.config_faults.specs.Faults.{GivesRows}
-use Rattle.section_tables.proofs.{AnswersOf.{is_found, is_only, is_refused}, EntriesRead.{entry_sound, entry_complete}}
+use Rattle.setting_values.proofs.AnswersOf.{is_found, is_only, is_refused}
+use Rattle.section_tables.proofs.EntriesRead.{entry_sound, entry_complete}
 use Rattle.section_tables.proofs.sections.entry.Goals as goal
 
 pub returns : goal.returns

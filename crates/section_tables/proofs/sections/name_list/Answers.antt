@@ -1,7 +1,8 @@
 use Rattle.std.proofs.Common.{◌<◌}
 use Rattle.yaml_subset.specs.View.{pair_view}
-use Rattle.section_tables.specs.{EntryOf.AreNamesListed, Reading.names_at, View.names_view}
-use Rattle.section_tables.proofs.{AnswersOf.{is_found, is_only, is_refused}, EntriesRead.{names_sound, names_complete}}
+use Rattle.section_tables.specs.{EntryOf.AreNamesListed, Reading.names_at}
+use Rattle.setting_values.{specs.View.names_view, proofs.AnswersOf.{is_found, is_only, is_refused}}
+use Rattle.section_tables.proofs.EntriesRead.{names_sound, names_complete}
 use Rattle.section_tables.proofs.sections.name_list.Goals as goal
 
 pub returns : goal.returns

@@ -1,6 +1,7 @@
 use Rattle.yaml_subset.specs.View.{pair_view}
 use Rattle.section_tables.specs.{TableView.{barred_view, table_view}, View.entry_view}
-use Rattle.section_tables.{specs.Reading.{other_entry_at, entries_at}, proofs.EachGiven.gives_each}
+use Rattle.section_tables.specs.Reading.{other_entry_at, entries_at}
+use Rattle.setting_values.proofs.EachGiven.{gives_each}
 use Rattle.section_tables.proofs.sections.read_entries.Goals as goal
 
 pub returns : goal.returns

@@ -1,5 +1,6 @@
 use Rattle.std.proofs.Common.{◌≡◌, take, map}
-use Rattle.section_tables.specs.{Tables.setting_default, TableView.setting_view, View.values_view}
+use Rattle.section_tables.specs.{Tables.setting_default, TableView.setting_view}
+use Rattle.setting_values.specs.View.{values_view}
 use Rattle.section_tables.proofs.settings.bare_row.Given as goal
 
 abbrev pub invariant-loop-setting : goal.invariant-loop-setting

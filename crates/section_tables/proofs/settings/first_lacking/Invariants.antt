@@ -1,6 +1,6 @@
 use Rattle.std.proofs.Common.{◌≡◌, drop, map}
-use Rattle.section_tables.specs.{Tables.{setting_key, setting_lacks}, View.{values_view, row_values}}
-use Rattle.section_tables.specs.{TableView.setting_view, Reading.lacking}
+use Rattle.section_tables.specs.{Tables.{setting_key, setting_lacks}, View.row_values, TableView.setting_view}
+use Rattle.setting_values.specs.{View.values_view, Reading.lacking}
 use Rattle.section_tables.proofs.settings.first_lacking.Given as goal
 
 abbrev pub invariant-loop-at : goal.invariant-loop-at

@@ -1,6 +1,6 @@
 use Rattle.std.proofs.Common.{◌≡◌, List, ◌++◌, drop, length, map}
-use Rattle.section_tables.specs.{declared.rows.Value.Value, Reading.{setting_at, overwritten_at}}
-use Rattle.section_tables.specs.{Entries.is_ignored, Tables.setting_key, View.{pairs_view, values_view, with_written}}
+use Rattle.setting_values.specs.{declared.values.Value.Value, Reading.overwritten_at, View.{pairs_view, values_view}}
+use Rattle.section_tables.specs.{Reading.setting_at, Keys.is_ignored, Tables.setting_key, View.with_written}
 use Rattle.section_tables.specs.{EntryOf.places_written, TableView.setting_view}
 use Rattle.section_tables.proofs.settings.overwrite.Given as goal
 

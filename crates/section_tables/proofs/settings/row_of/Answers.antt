@@ -1,5 +1,6 @@
 use Rattle.std.{proofs.{Common.rules, lemmas.{List.length-map, Result.err_from_is_err_and}}, specs.Rc.rc_value}
-use Rattle.section_tables.{specs.{Reading.row_at, View.row_values}, proofs.WrittenRows.{written-long, fails-then}}
+use Rattle.setting_values.specs.Reading.{row_at}
+use Rattle.section_tables.{specs.View.row_values, proofs.WrittenRows.{written-long, fails-then}}
 use Rattle.section_tables.proofs.settings.row_of.Goals as goal
 
 pub returns-in_err-overwrite-clause-row : goal.returns-in_err-overwrite-clause-row

@@ -1,5 +1,6 @@
 use Rattle.std.proofs.Common.{◌≡◌, drop, map}
-use Rattle.section_tables.specs.{Tables.{found_in, setting_key, shifted}, TableView.setting_view}
+use Rattle.setting_values.specs.KeyRules.{found_in, shifted}
+use Rattle.section_tables.specs.{Tables.setting_key, TableView.setting_view}
 use Rattle.section_tables.proofs.settings.setting_of.Given as goal
 
 abbrev pub invariant-loop-at : goal.invariant-loop-at

@@ -1,0 +1,142 @@
+"""live.py PROGRAM LIVE FOLDER: what a line costs when it is answered live, and how soon. bench/live starts it.
+
+PROGRAM is pinball, and LIVE pinball_live, proved. First it counts the instructions of each line of two logs: for
+`play`, and for LIVE, which reads the same log from a file. One log is that of FOLDER, examples/complete, again and
+again, and the other only waits. Of each a short log is taken away from a longer one, so that reading the configuration
+and making the machine are left out. Then it plays a game of FOLDER over pipes, line by line, and hits a slingshot many
+times: it times each hit from before its line is written until the line of the coil has been read, and until the answer
+has ended. Beside it stand the same lines through `cat`: what pipes, the kernel and Python take. It ends with status 1
+where a line costs more than its bar, or the times do."""
+import dataclasses
+import os
+import pathlib
+import re
+import subprocess
+import sys
+import tempfile
+import time
+from collections.abc import Iterator
+
+from counting import counted
+
+ROUNDS = 40
+WAITS = 20_000
+HITS = 10_000
+MOST_MORE = 900  # instructions a line, above those of `play`
+MOST_MICROSECONDS = 200.0  # of 99 in 100 answers
+ROOM = 65_536
+GAME = (
+    "0 s_trough_1 1", "0 s_trough_2 1", "1000 s_start 1", "1100 s_start 0", "1500 s_trough_1 0", "2100 s_plunger 1",
+    "2700 s_plunger 0")
+SWITCH, COIL = "s_left_sling", b"coil c_left_sling pulse"
+PARTS = {"least": 0, "p50": 500, "p90": 900, "p99": 990, "p99.9": 999, "most": 1000}
+MOMENT = re.compile(rb"^\d+", re.MULTILINE)
+
+
+@dataclasses.dataclass(frozen=True)
+class Times:
+    """Nanoseconds from a switch line to its coil line, and to the end of the answer."""
+
+    to_coil: list[int]
+    to_end: list[int]
+
+
+def repeated(log: bytes, rounds: int) -> bytes:
+    """The log so many times, each time later than the last moment before."""
+    length = max(int(at) for at in MOMENT.findall(log)) + 10_000
+    return b"".join(
+        MOMENT.sub(lambda at, n=n: str(int(at[0]) + n * length).encode(), log) for n in range(rounds))
+
+
+def waits(count: int) -> bytes:
+    return b"".join(b"%d\n" % at for at in range(count))
+
+
+def instructions(program: str, live: str, folder: str, short: bytes, long: bytes) -> tuple[float, float]:
+    """What a line takes by `play`, and live: the difference of the two logs."""
+    lines = long.count(b"\n") - short.count(b"\n")
+    with tempfile.TemporaryDirectory() as name:
+        paths = pathlib.Path(name, "short"), pathlib.Path(name, "long")
+        for path, log in zip(paths, (short, long), strict=True):
+            path.write_bytes(log)
+        played = [counted([program, "play", str(path), folder], path).instructions for path in paths]
+        answered = [counted([live, folder], path).instructions for path in paths]
+    return (played[1] - played[0]) / lines, (answered[1] - answered[0]) / lines
+
+
+def hits(count: int) -> Iterator[tuple[bytes, bool]]:
+    """The lines of a game, and of hits of a slingshot; and which are timed."""
+    for line in GAME:
+        yield line.encode() + b"\n", False
+    for n in range(count):
+        yield f"{5000 + 100 * n} {SWITCH} 1\n".encode(), True
+        yield f"{5020 + 100 * n} {SWITCH} 0\n".encode(), False
+
+
+def is_whole(got: bytes, live: bool) -> bool:
+    """Whether an answer has ended: live with the line `due`, and of `cat` with its only line."""
+    return got.endswith(b"\n") and (not live or got.startswith(b"due ") or b"\ndue " in got)
+
+
+def timed(command: list[str], wanted: bytes, live: bool) -> Times:
+    found = Times([], [])
+    with subprocess.Popen(command, bufsize=0, stdin=subprocess.PIPE, stdout=subprocess.PIPE) as process:
+        assert process.stdin and process.stdout
+        inlet, outlet = process.stdin.fileno(), process.stdout.fileno()
+        if live:
+            os.read(outlet, ROOM)
+        for line, is_timed in hits(HITS):
+            got, coil = b"", 0
+            begun = time.perf_counter_ns()
+            os.write(inlet, line)
+            while not is_whole(got, live):
+                piece = os.read(outlet, ROOM)
+                if not piece:
+                    sys.exit(f"{command[0]} has ended")
+                got += piece
+                if not coil and wanted in got:
+                    coil = time.perf_counter_ns()
+            if is_timed:
+                if not coil:
+                    sys.exit(f"no {wanted.decode()} in the answer to {line.decode()}{got.decode()}")
+                found.to_coil.append(coil - begun)
+                found.to_end.append(time.perf_counter_ns() - begun)
+        process.stdin.close()
+        process.wait()
+    return found
+
+
+def at(times: list[int], part: int) -> float:
+    """The time that so many of 1,000 do not pass, in microseconds."""
+    return sorted(times)[min(len(times) * part // 1000, len(times) - 1)] / 1000
+
+
+def show(what: str, times: list[int]) -> None:
+    print(f"{what:32}" + "".join(f"{at(times, part):9.1f}" for part in PARTS.values()))
+
+
+def main(program: str, live: str, folder: str) -> int:
+    is_well = True
+    log = pathlib.Path(folder, "log").read_bytes()
+    logs = {
+        "examples/complete": (repeated(log, 1), repeated(log, ROUNDS)),
+        "waits": (waits(1), waits(WAITS))}
+    print(f"{'instructions a line':32}{'play':>9}{'live':>9}{'more':>9}")
+    for what, (short, long) in logs.items():
+        played, answered = instructions(program, live, folder, short, long)
+        more = answered - played
+        is_well &= more <= MOST_MORE
+        print(f"{what:32}{played:9.0f}{answered:9.0f}{more:9.0f}" + ("" if more <= MOST_MORE else "  above the bar"))
+    print(f"\n{HITS} hits, microseconds".ljust(33) + "".join(f"{name:>9}" for name in PARTS))
+    show("cat: the line comes back", timed(["cat"], SWITCH.encode(), live=False).to_coil)
+    times = timed([live, folder], COIL, live=True)
+    show("switch line to coil line", times.to_coil)
+    show("switch line to end of answer", times.to_end)
+    if at(times.to_end, PARTS["p99"]) > MOST_MICROSECONDS:
+        print(f"p99 is above {MOST_MICROSECONDS:.0f} microseconds")
+        is_well = False
+    return 0 if is_well else 1
+
+
+if __name__ == "__main__":
+    sys.exit(main(*sys.argv[1:]))

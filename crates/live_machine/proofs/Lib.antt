@@ -1,0 +1,7 @@
+mod Packing
+mod Going
+mod Laws
+mod Whole
+mod Lines
+mod Buffers
+mod Hearing

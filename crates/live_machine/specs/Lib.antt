@@ -1,0 +1,8 @@
+pub mod Talk
+pub mod LineLinks
+pub mod Answers
+pub mod Live
+pub mod LiveLaws
+pub mod Wires
+-- what the contracts of private functions cite, and no public one
+pub mod Going

@@ -1,0 +1,183 @@
+//! One type for the devices of all kinds.
+
+ghost use Rattle.std.specs.Prelude.{◌≡◌, ◌↔◌, IsSome, IfSome};
+ghost use Rattle.device_objects.specs.DeviceStep.{first_state};
+ghost use Rattle.row_devices.specs.Kinds.{HasDevice};
+
+use ball_devices::{BallDevice, BallSave, Multiball};
+use coil_rules::{Autofire, Flipper};
+use device_objects::{Device, DeviceState, Outcome, World};
+use logic_blocks::{Counter, MaskAccrual, Sequence, Timer};
+use plan_tables::{Act, DeviceRow, Settings};
+use shot_groups::MaskBank;
+
+/// A device of any kind.
+#[derive(Drop)]
+pub enum RowDevice {
+    Counter(Counter),
+    Accrual(MaskAccrual),
+    Sequence(Sequence),
+    Timer(Timer),
+    Bank(MaskBank),
+    Flipper(Flipper),
+    Autofire(Autofire),
+    BallDevice(BallDevice),
+    BallSave(BallSave),
+    Multiball(Multiball),
+}
+
+/// The device of a row, in its first state. None exactly where no device can have the settings of
+/// the row: it is a bank of more shots, or of more states, than a plan can have.
+pub fn device_of(row: &DeviceRow) -> Option<RowDevice>
+    ensures kind { IsSome result ↔ HasDevice row.now.settings }
+    ensures row { IfSome result (λ d. ⟦<RowDevice as Device>⟧.row_of d ≡ row.now) }
+    ensures first { IfSome result (λ d. ⟦<RowDevice as Device>⟧.state_of d ≡ first_state row.now.settings) }
+{
+    match row.settings {
+        Settings::Counter(_) => Some(RowDevice::Counter(Counter::new(row)?)),
+        Settings::Accrual(_) => Some(RowDevice::Accrual(MaskAccrual::new(row)?)),
+        Settings::Sequence(_) => Some(RowDevice::Sequence(Sequence::new(row)?)),
+        Settings::Timer(_) => Some(RowDevice::Timer(Timer::new(row)?)),
+        Settings::Bank(_) => Some(RowDevice::Bank(MaskBank::new(row)?)),
+        Settings::Flipper => Some(RowDevice::Flipper(Flipper::new(row)?)),
+        Settings::Autofire => Some(RowDevice::Autofire(Autofire::new(row)?)),
+        Settings::BallDevice(_) => Some(RowDevice::BallDevice(BallDevice::new(row)?)),
+        Settings::BallSave(_) => Some(RowDevice::BallSave(BallSave::new(row)?)),
+        Settings::Multiball(_) => Some(RowDevice::Multiball(Multiball::new(row)?)),
+    }
+}
+
+impl Device for RowDevice {
+    ghost use Rattle.row_devices.specs.declared.row_device.RowDevice.TheVariants as kinds;
+
+    ghost row_of = { elim [
+      | kinds.Counter d ↦ ⟦<Counter as Device>⟧.row_of d
+      | kinds.Accrual d ↦ ⟦<MaskAccrual as Device>⟧.row_of d
+      | kinds.Sequence d ↦ ⟦<Sequence as Device>⟧.row_of d
+      | kinds.Timer d ↦ ⟦<Timer as Device>⟧.row_of d
+      | kinds.Bank d ↦ ⟦<MaskBank as Device>⟧.row_of d
+      | kinds.Flipper d ↦ ⟦<Flipper as Device>⟧.row_of d
+      | kinds.Autofire d ↦ ⟦<Autofire as Device>⟧.row_of d
+      | kinds.BallDevice d ↦ ⟦<BallDevice as Device>⟧.row_of d
+      | kinds.BallSave d ↦ ⟦<BallSave as Device>⟧.row_of d
+      | kinds.Multiball d ↦ ⟦<Multiball as Device>⟧.row_of d
+    ] };
+
+    ghost state_of = { elim [
+      | kinds.Counter d ↦ ⟦<Counter as Device>⟧.state_of d
+      | kinds.Accrual d ↦ ⟦<MaskAccrual as Device>⟧.state_of d
+      | kinds.Sequence d ↦ ⟦<Sequence as Device>⟧.state_of d
+      | kinds.Timer d ↦ ⟦<Timer as Device>⟧.state_of d
+      | kinds.Bank d ↦ ⟦<MaskBank as Device>⟧.state_of d
+      | kinds.Flipper d ↦ ⟦<Flipper as Device>⟧.state_of d
+      | kinds.Autofire d ↦ ⟦<Autofire as Device>⟧.state_of d
+      | kinds.BallDevice d ↦ ⟦<BallDevice as Device>⟧.state_of d
+      | kinds.BallSave d ↦ ⟦<BallSave as Device>⟧.state_of d
+      | kinds.Multiball d ↦ ⟦<Multiball as Device>⟧.state_of d
+    ] };
+
+    fn row(&self) -> DeviceRow {
+        match self {
+            RowDevice::Counter(device) => device.row(),
+            RowDevice::Accrual(device) => device.row(),
+            RowDevice::Sequence(device) => device.row(),
+            RowDevice::Timer(device) => device.row(),
+            RowDevice::Bank(device) => device.row(),
+            RowDevice::Flipper(device) => device.row(),
+            RowDevice::Autofire(device) => device.row(),
+            RowDevice::BallDevice(device) => device.row(),
+            RowDevice::BallSave(device) => device.row(),
+            RowDevice::Multiball(device) => device.row(),
+        }
+    }
+
+    fn state(&self) -> DeviceState {
+        match self {
+            RowDevice::Counter(device) => device.state(),
+            RowDevice::Accrual(device) => device.state(),
+            RowDevice::Sequence(device) => device.state(),
+            RowDevice::Timer(device) => device.state(),
+            RowDevice::Bank(device) => device.state(),
+            RowDevice::Flipper(device) => device.state(),
+            RowDevice::Autofire(device) => device.state(),
+            RowDevice::BallDevice(device) => device.state(),
+            RowDevice::BallSave(device) => device.state(),
+            RowDevice::Multiball(device) => device.state(),
+        }
+    }
+
+    fn due(&self) -> Option<u64> {
+        match self {
+            RowDevice::Counter(device) => device.due(),
+            RowDevice::Accrual(device) => device.due(),
+            RowDevice::Sequence(device) => device.due(),
+            RowDevice::Timer(device) => device.due(),
+            RowDevice::Bank(device) => device.due(),
+            RowDevice::Flipper(device) => device.due(),
+            RowDevice::Autofire(device) => device.due(),
+            RowDevice::BallDevice(device) => device.due(),
+            RowDevice::BallSave(device) => device.due(),
+            RowDevice::Multiball(device) => device.due(),
+        }
+    }
+
+    fn start(&mut self, now: u64, world: World) -> Outcome {
+        match self {
+            RowDevice::Counter(device) => device.start(now, world),
+            RowDevice::Accrual(device) => device.start(now, world),
+            RowDevice::Sequence(device) => device.start(now, world),
+            RowDevice::Timer(device) => device.start(now, world),
+            RowDevice::Bank(device) => device.start(now, world),
+            RowDevice::Flipper(device) => device.start(now, world),
+            RowDevice::Autofire(device) => device.start(now, world),
+            RowDevice::BallDevice(device) => device.start(now, world),
+            RowDevice::BallSave(device) => device.start(now, world),
+            RowDevice::Multiball(device) => device.start(now, world),
+        }
+    }
+
+    fn stop(&mut self, now: u64, world: World) -> Outcome {
+        match self {
+            RowDevice::Counter(device) => device.stop(now, world),
+            RowDevice::Accrual(device) => device.stop(now, world),
+            RowDevice::Sequence(device) => device.stop(now, world),
+            RowDevice::Timer(device) => device.stop(now, world),
+            RowDevice::Bank(device) => device.stop(now, world),
+            RowDevice::Flipper(device) => device.stop(now, world),
+            RowDevice::Autofire(device) => device.stop(now, world),
+            RowDevice::BallDevice(device) => device.stop(now, world),
+            RowDevice::BallSave(device) => device.stop(now, world),
+            RowDevice::Multiball(device) => device.stop(now, world),
+        }
+    }
+
+    fn fire(&mut self, now: u64, world: World) -> Outcome {
+        match self {
+            RowDevice::Counter(device) => device.fire(now, world),
+            RowDevice::Accrual(device) => device.fire(now, world),
+            RowDevice::Sequence(device) => device.fire(now, world),
+            RowDevice::Timer(device) => device.fire(now, world),
+            RowDevice::Bank(device) => device.fire(now, world),
+            RowDevice::Flipper(device) => device.fire(now, world),
+            RowDevice::Autofire(device) => device.fire(now, world),
+            RowDevice::BallDevice(device) => device.fire(now, world),
+            RowDevice::BallSave(device) => device.fire(now, world),
+            RowDevice::Multiball(device) => device.fire(now, world),
+        }
+    }
+
+    fn act(&mut self, act: Act, now: u64, world: World) -> Outcome {
+        match self {
+            RowDevice::Counter(device) => device.act(act, now, world),
+            RowDevice::Accrual(device) => device.act(act, now, world),
+            RowDevice::Sequence(device) => device.act(act, now, world),
+            RowDevice::Timer(device) => device.act(act, now, world),
+            RowDevice::Bank(device) => device.act(act, now, world),
+            RowDevice::Flipper(device) => device.act(act, now, world),
+            RowDevice::Autofire(device) => device.act(act, now, world),
+            RowDevice::BallDevice(device) => device.act(act, now, world),
+            RowDevice::BallSave(device) => device.act(act, now, world),
+            RowDevice::Multiball(device) => device.act(act, now, world),
+        }
+    }
+}

@@ -1,6 +1,0 @@
-use Rattle.std.proofs.Common.{◌≡◌, drop, map}
-use Rattle.section_tables.specs.{Tables.{found_in, field_key, shifted}, TableView.field_view}
-use Rattle.section_tables.proofs.fields.field_of.Given as goal
-
-abbrev pub invariant-loop-at : goal.invariant-loop-at
-invariant-loop-at l = shifted l.at (found_in field_key l.key (map field_view (drop l.at l.table))) ≡ found_in field_key l.key (map field_view l.table)

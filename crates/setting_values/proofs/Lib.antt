@@ -1,0 +1,15 @@
+pub mod Steps
+pub mod Outcomes
+pub mod Finding
+pub mod EachGiven
+pub mod Options
+pub mod ScalarTexts
+pub mod Counting
+pub mod ListValues
+pub mod NameLists
+pub mod NodeLists
+pub mod RowsRead
+pub mod Apart
+pub mod ValuesRead
+pub mod AnswersOf
+pub mod ValueNames
