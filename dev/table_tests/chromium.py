@@ -17,6 +17,7 @@ from . import groups
 NAMES = ("chromium", "chromium-browser", "google-chrome")
 PATIENCE = 120.0  # s
 ABOVE = 10  # files of ours have numbers from here on while Chromium starts, so that 3 and 4 are free
+CLICKS = 5  # so often a click is tried
 LAST = 2_000  # bytes of what Chromium has complained of that are shown
 
 
@@ -158,8 +159,15 @@ class Chromium:
         self.ask("Input.dispatchMouseEvent", type=kind, x=x, y=y, button="left", clickCount=1, modifiers=modifiers)
 
     def click(self, css: str, modifiers: int = 0) -> None:
-        self.mouse("mousePressed", css, modifiers)
-        self.mouse("mouseReleased", css, modifiers)
+        """Clicks again if nothing came: the page may have moved between the look for the place and the click."""
+        button = f"document.querySelector({json.dumps(css)})"
+        self.run(f"window.clicked = false; {button}.addEventListener('click', () => window.clicked = true, {{once: true}})")
+        for _ in range(CLICKS):
+            self.mouse("mousePressed", css, modifiers)
+            self.mouse("mouseReleased", css, modifiers)
+            if self.run("window.clicked"):
+                return
+        raise AssertionError(f"no click comes to {css}")
 
     def drag(self, css: str, x: float, y: float) -> None:
         self.mouse("mousePressed", css)

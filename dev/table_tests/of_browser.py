@@ -122,6 +122,30 @@ def a_whole_game_by_clicks() -> None:
 
 
 @test
+def no_button_moves_when_the_first_player_comes() -> None:
+    with page_of(COMPLETE) as (page, table):
+        hand = ClickHand(page, table)
+        hand.until("two balls lie in the trough", lambda it: it["ledger"]["counted"] == 2)
+        before = places_of_buttons(page)
+        hand.tap("s_start")
+        hand.until("a ball is in play", lambda it: it["phase"] == "ball in play")
+        page.until("document.querySelector('.player.current')")
+        equal(places_of_buttons(page), before)
+
+
+def places_of_buttons(page: Chromium) -> list[Any]:
+    """At both widths."""
+    found = []
+    for width, height in NARROW, WIDE:
+        page.size(width, height, width == NARROW[0])
+        page.frames()
+        found.append(page.run(
+            "[...document.querySelectorAll('.controls button, #acts button, .switch')].map(it => {"
+            " const box = it.getBoundingClientRect(); return [it.textContent, box.x + scrollX, box.y + scrollY]; })"))
+    return found
+
+
+@test
 def a_switch_is_clicked_held_and_latched() -> None:
     with page_of(TOP / "examples/flippers") as (page, table):
         button = '[data-switch="s_left_button"]'

@@ -31,6 +31,7 @@ def about(player: Player, program: str) -> dict:
         "devices": [{"name": it.name, "switches": it.switches, "target": it.target} for it in machine.devices.values()],
         "modes": sorted(([name, priority] for name, priority in machine.modes.items()), key=lambda it: -it[1]),
         "timers": list(machine.timers),
+        "game": machine.start_button() is not None,
         "actions": actions,
         "keys": settings.keys,
         "layout": settings.layout,

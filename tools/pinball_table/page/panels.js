@@ -13,6 +13,7 @@ export function makePanels(about) {
   machine = about;
   document.title = `${about.name}: pinball table`;
   byId("name").textContent = about.name;
+  byId("players").classList.toggle("kept", about.game);
   makeCoils(about.coils);
   makeDevices(about.devices);
   makeModes(about.modes);
