@@ -16,13 +16,17 @@ fail() {
   exit 1
 }
 
+# The path of a folder below the prefix, or of the prefix itself, which the list calls `.`.
+place() { [ "$1" = . ] && echo "$prefix" || echo "$prefix/$1"; }
+
 # Removes what the list of a prefix names, and the list.
 remove() {
   (cd "$prefix" && sed -n 's/^file //p' $list | tr '\n' '\0' | xargs -0 rm -f --)
   sed -n 's/^folder //p' "$prefix/$list" | tac >"$room/folders"
   rm -f "$prefix/$list"
   while IFS= read -r folder; do
-    [ ! -d "$prefix/$folder" ] || rmdir --ignore-fail-on-non-empty "$prefix/$folder"
+    folder=$(place "$folder")
+    [ ! -d "$folder" ] || rmdir --ignore-fail-on-non-empty "$folder"
   done <"$room/folders"
   if [ -d "$prefix/share/pinball" ]; then
     echo "left, since it has files that were not installed: $prefix/share/pinball"
@@ -33,7 +37,7 @@ remove() {
 make_folder() {
   [ ! -d "$prefix/$1" ] || return 0
   [ "$1" = . ] || make_folder "$(dirname "$1")"
-  mkdir "$prefix/$1"
+  mkdir "$(place "$1")"
   echo "folder $1" >>"$room/list"
 }
 
@@ -46,6 +50,7 @@ check_release() {
 
 # Nothing is copied if a file is there that this script has not installed.
 check_prefix() {
+  [ "$(realpath -m "$prefix/bin")" = "$prefix/bin" ] || fail "$prefix/bin is a link to another folder"
   while IFS= read -r path; do
     if [ -e "$prefix/$path" ] || [ -L "$prefix/$path" ]; then
       fail "$prefix/$path is there already, and this script has not installed it"
@@ -67,7 +72,6 @@ install() {
 
 # Says what is there now, or why it does not run.
 greet() {
-  [ -e "$prefix/bin/pinball-help" ] || fail "$prefix/bin is a link to another folder: give that folder's PREFIX"
   "$prefix/bin/pinball" --version >"$room/version" 2>&1 || true
   grep '^pinball [0-9.]*$' "$room/version" || fail "it does not run here: $(cat "$room/version")"
   echo "It is in $prefix/bin, and its pages are in $prefix/share/pinball."
