@@ -13,6 +13,7 @@ from .tree import AT_TOP, HOME, SUMS, Entry, Tree, checksums
 PACKAGE = "pinball-checker"
 # Only for the archive: Debian's own tools know what they have installed.
 ONLY_IN_ARCHIVE = (SUMS, f"{HOME}/install.sh")
+LEVEL = 6  # of compression
 ZSH, ZSH_OF_DEBIAN = "share/zsh/site-functions/", "share/zsh/vendor-completions/"
 
 CONTROL = """\
@@ -51,7 +52,7 @@ def archive(tree: Tree, top: str, seconds: int) -> bytes:
             one.type = (tarfile.SYMTYPE if entry.link else tarfile.REGTYPE) if entry else tarfile.DIRTYPE
             one.linkname, one.size = (entry.link, len(entry.data)) if entry else ("", 0)
             tar.addfile(one, io.BytesIO(entry.data) if entry else None)
-    return gzip.compress(room.getvalue(), mtime=seconds)
+    return gzip.compress(room.getvalue(), compresslevel=LEVEL, mtime=seconds)
 
 
 def of_debian(tree: Tree) -> Tree:
@@ -87,6 +88,6 @@ def package(tree: Tree, version: str, glibc: str, seconds: int, to: Path) -> Non
         room.mkdir()
         write(files | {"DEBIAN/control": Entry(control.encode())}, room, seconds)
         # (gzip, since xz gives other bytes with other numbers of processors)
-        words = ["dpkg-deb", "-Zgzip", "--root-owner-group", "--build", room, to]
+        words = ["dpkg-deb", "-Zgzip", f"-z{LEVEL}", "--root-owner-group", "--build", room, to]
         dated = {**os.environ, "SOURCE_DATE_EPOCH": str(seconds)}
         subprocess.run(words, env=dated, stdout=subprocess.DEVNULL, check=True)
