@@ -5,7 +5,6 @@ import hashlib
 import re
 import shutil
 import subprocess
-import sys
 import tarfile
 from pathlib import Path
 
@@ -50,8 +49,9 @@ def the_release_says_what_it_is(made: Made) -> None:
     text = (made.unpacked / "RELEASE").read_text()
     commit = run(["git", "rev-parse", "HEAD"], made.clones[0]).strip()
     sources = run(["tools/program", "--sources"], made.clones[0]).split()[0]
-    for words in (f"commit    {commit} of 2026-02-03", f"sources   {sources}", "kit       a kit", f"gate      {RESULT}"):
-        assert words in text, (words, text)
+    said = {"commit": f"{commit} of 2026-02-03", "sources": sources, "kit": "a kit", "gate": RESULT}
+    for key, words in said.items():
+        assert f"\n{key:10}{words}" in text, (key, words, text)
     for name in PROGRAMS:
         assert f"{hashlib.sha256(made.programs[name].read_bytes()).hexdigest()}  bin/{name}\n" in text, name
 
@@ -85,6 +85,10 @@ def python_3_10_reads_each_tool(made: Made) -> None:
         ast.parse(file.read_text(), feature_version=(3, 10))
 
 
+def files_below(folder: Path) -> set[str]:
+    return {str(it.relative_to(folder)) for it in folder.rglob("*") if not it.is_dir()}
+
+
 @test
 def the_debian_package_has_the_same(made: Made) -> None:
     package = next((it for it in made.files if it.suffix == ".deb"), None)
@@ -93,14 +97,14 @@ def the_debian_package_has_the_same(made: Made) -> None:
     room = made.room / "of debian"
     run(["dpkg-deb", "-x", package, room], made.room)
     left_out = ("share/pinball/install.sh", "share/pinball/SHA256SUMS", "share/zsh/site-functions/_pinball")
-    own = {str(it.relative_to(made.unpacked)) for folder in ("bin", "share") for it in (made.unpacked / folder).rglob("*")
-           if not it.is_dir()} - set(left_out)
-    found = {str(it.relative_to(room / "usr")) for it in (room / "usr").rglob("*") if not it.is_dir()}
+    own = {it for it in files_below(made.unpacked) if "/" in it} - set(left_out)
+    found = files_below(room / "usr")
     equal(found - own, {"share/doc/pinball-checker/copyright", "share/zsh/vendor-completions/_pinball"})
     equal(own - found, set())
     for path in own:
         equal((room / "usr" / path).read_bytes(), (made.unpacked / path).read_bytes())
-    equal(run(["dpkg-deb", "-f", package, "Package", "Version"], made.room), "Package: pinball-checker\nVersion: 0.1.0\n")
+    said = run(["dpkg-deb", "-f", package, "Package", "Version"], made.room)
+    equal(said, "Package: pinball-checker\nVersion: 0.1.0\n")
 
 
 # what is refused
@@ -144,10 +148,9 @@ def a_log_of_no_green_gate_is_refused(made: Made) -> None:
     text = made.log.read_text()
     for changed, why in (
         (text.replace(RESULT, "11 passed, 1 failed"), "not green"), (text.replace(RESULT, ""), "no log of a whole"),
-        (text.replace("sources ", "sources 0"), "other sources"), (text.replace("kit a kit\n", ""), "no log of a whole"),
-        ("", "no log of a whole"),
+        (text.replace("kit a kit\n", ""), "no log of a whole"), ("", "no log of a whole"),
+        (text.replace("sources ", "sources 0"), "other sources"),
     ):
         made.log.write_text(changed)
         refused(made, why)
     made.log.write_text(text)
-    assert sys.version_info >= (3, 10)

@@ -44,9 +44,9 @@ def use(root: Path, prefix: str) -> None:
     def said_by(script: str, status: int = 0) -> str:
         return run([*as_user, "bash", "-c", f"cd /tmp/machine && {script}"], Path("/"), status)
 
+    follow_the_tutorial(root / home.lstrip("/") / "docs/tutorial.md", root / "tmp/machine", said_by)
     for tool in ("git", "rt"):
         said_by(f"! command -v {tool}")
-    follow_the_tutorial(root / home.lstrip("/") / "docs/tutorial.md", root / "tmp/machine", said_by)
     machine(root / "tmp/broken", BROKEN)
     assert "2 to mend" in said_by("pinball-help errors ../broken", 1)
     assert said_by(f"pinball-test '{home}/examples/first'").endswith("4 passed, 0 failed\n")

@@ -4,7 +4,6 @@ A shell offers subcommands and options, and after them the folders or the files 
 import shlex
 
 from .commands import Command, Word
-from .manual import first_sentence
 
 MADE = "# Made by tools/release of what each command says of itself."
 
@@ -157,7 +156,7 @@ def fish(command: Command) -> str:
     top = f"{start} -n __fish_use_subcommand"
     lines = [MADE, f"{start} -f", *fish_words(top, command)]
     for part in command.parts:
-        lines.append(f"{top} -a {part.name} -d {fish_quoted(first_sentence(part.about))}")
+        lines.append(f"{top} -a {part.name} -d {fish_quoted(part.about)}")
         lines += fish_words(f"{start} -n '__fish_seen_subcommand_from {part.name}'", part)
     return "\n".join(lines) + "\n"
 
