@@ -3,7 +3,6 @@ import hashlib
 import os
 import shutil
 import subprocess
-import tarfile
 from dataclasses import dataclass, field
 from pathlib import Path
 from typing import Callable
@@ -133,8 +132,8 @@ def make_releases(made: Made) -> None:
 
 def unpack(made: Made) -> None:
     (made.room / "unpacked").mkdir()
-    with tarfile.open(next(it for it in made.files if it.suffix == ".gz")) as tar:
-        tar.extractall(made.room / "unpacked", filter="tar")
+    archive = next(it for it in made.files if it.suffix == ".gz")
+    run(["tar", "-xzf", archive], made.room / "unpacked")
 
 
 def make(room: Path, programs: dict[str, Path]) -> Made:

@@ -131,16 +131,16 @@ def a_dirty_tree_is_refused(made: Made) -> None:
 
 @test
 def programs_of_other_sources_are_refused(made: Made) -> None:
-    for name in PROGRAMS:
-        note = made.proved / "crates" / name / "out/proved"
-        text = note.read_text()
-        note.write_text("f" * 64 + text[64:])
-        refused(made, f"out/{name} was proved of other sources")
-        note.write_text(text[:-10] + "0" * 6 + text[-4:])
-        refused(made, f"out/{name} is not the program that was proved")
-        note.unlink()
-        refused(made, "there is no proved program")
-        note.write_text(text)
+    first, second = (made.proved / "crates" / name / "out/proved" for name in PROGRAMS)
+    of_first, of_second = first.read_text(), second.read_text()
+    first.write_text("f" * 64 + of_first[64:])
+    refused(made, "out/pinball was proved of other sources")
+    first.write_text(of_first)
+    second.write_text(of_second[:-10] + "0" * 6 + of_second[-4:])
+    refused(made, "out/pinball_live is not the program that was proved")
+    second.unlink()
+    refused(made, "there is no proved program")
+    second.write_text(of_second)
 
 
 @test

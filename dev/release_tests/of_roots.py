@@ -9,27 +9,31 @@ from .of_installing import BROKEN, follow_the_tutorial, machine, play_a_game
 
 DEBIAN = "bookworm"
 MIRROR = "http://deb.debian.org/debian"
+ENTER = """mount --rbind /proc "$1/proc" &&
+  exec chroot "--userspec=$2:$2" "$1" /usr/bin/env -i "PATH=$3" LC_ALL=C "${@:4}"
+"""
 # What dpkg writes down of all that it does.
 OF_DPKG = ("var/lib/dpkg/", "var/log/", "var/cache/")
 
 
-def root_of(made: Made) -> Path:
-    """The minimal Debian, which is made if it is not there."""
+def root_of(made: Made, name: str) -> Path:
+    """A copy of the minimal Debian, which is made if it is not there."""
     if not made.root:
         raise Skipped("no --root is given")
-    if os.getuid():
-        raise Skipped("a root can be entered only by root")
+    if os.getuid() or subprocess.run(["unshare", "--mount", "true"], capture_output=True).returncode:
+        raise Skipped("another root can be entered only by root, and not in each container")
     if not made.root.exists():
         if not shutil.which("debootstrap"):
             raise Skipped("there is no debootstrap")
         words = ["debootstrap", "--variant=minbase", "--include=python3", DEBIAN, str(made.root), MIRROR]
         subprocess.run(words, stdout=subprocess.DEVNULL, check=True)
-    return made.root
+    run(["cp", "-a", "--reflink=auto", made.root, made.room / name], made.room)
+    return made.room / name
 
 
 def entered(root: Path, path: str, user: str = "0") -> list[str | Path]:
-    """The words that run a command in the root, with nothing of the environment here."""
-    return ["chroot", f"--userspec={user}:{user}", root, "/usr/bin/env", "-i", f"PATH={path}:/usr/bin:/bin", "LC_ALL=C"]
+    """The words that run a command in the root, with its own /proc, and with nothing of the environment here."""
+    return ["unshare", "--mount", "bash", "-c", ENTER, "bash", root, user, f"{path}:/usr/bin:/bin"]
 
 
 def files_of(root: Path) -> list[str]:
@@ -52,13 +56,13 @@ def use(root: Path, prefix: str) -> None:
     assert said_by(f"pinball-test '{home}/examples/first'").endswith("4 passed, 0 failed\n")
     assert said_by(f"'{home}/examples/run' first").startswith("$ cd examples/first\n")
     play_a_game(as_user, Path(home) / "examples/first")
-    for name in ("machine", "broken"):
-        shutil.rmtree(root / "tmp" / name)
+    for it in ("machine", "broken"):
+        shutil.rmtree(root / "tmp" / it)
 
 
 @test
 def the_archive_in_a_minimal_debian(made: Made) -> None:
-    root = root_of(made)
+    root = root_of(made, "root of the archive")
     before = files_of(root)
     archive = next(it for it in made.files if it.suffix == ".gz")
     shutil.copy2(archive, root / "tmp")
@@ -73,7 +77,7 @@ def the_archive_in_a_minimal_debian(made: Made) -> None:
 
 @test
 def the_package_in_a_minimal_debian(made: Made) -> None:
-    root = root_of(made)
+    root = root_of(made, "root of the package")
     before = files_of(root)
     package = next(it for it in made.files if it.suffix == ".deb")
     shutil.copy2(package, root / "tmp")

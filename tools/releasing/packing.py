@@ -62,8 +62,8 @@ def of_debian(tree: Tree) -> Tree:
     return {f"usr/{path}": it for path, it in kept.items()}
 
 
-def write(tree: Tree, room: Path, seconds: int) -> None:
-    """Writes files and links, with modes and dates that depend on nothing else."""
+def write(tree: Tree, room: Path) -> None:
+    """Writes files and links."""
     for path, entry in tree.items():
         file = room / path
         file.parent.mkdir(parents=True, exist_ok=True)
@@ -71,7 +71,10 @@ def write(tree: Tree, room: Path, seconds: int) -> None:
             file.symlink_to(entry.link)
         else:
             file.write_bytes(entry.data)
-            file.chmod(entry.mode)
+
+
+def fix(tree: Tree, room: Path, seconds: int) -> None:
+    """Gives all that is written modes and dates that depend on nothing else."""
     for path in [*tree, *folders_of(tree), "."]:
         if not tree.get(path, Entry()).link:
             os.utime(room / path, (seconds, seconds))
@@ -86,7 +89,8 @@ def package(tree: Tree, version: str, glibc: str, seconds: int, to: Path) -> Non
     with tempfile.TemporaryDirectory() as made:
         room = Path(made) / "package"
         room.mkdir()
-        write(files | {"DEBIAN/control": Entry(control.encode())}, room, seconds)
+        write(files | {"DEBIAN/control": Entry(control.encode())}, room)
+        fix(files | {"DEBIAN/control": Entry()}, room, seconds)
         # (gzip, since xz gives other bytes with other numbers of processors)
         words = ["dpkg-deb", "-Zgzip", f"-z{LEVEL}", "--root-owner-group", "--build", room, to]
         dated = {**os.environ, "SOURCE_DATE_EPOCH": str(seconds)}
