@@ -6,7 +6,7 @@
 # first. With --remove, all that was installed goes, and the folders that were made for it, if nothing else is in them.
 # The script stays in PREFIX/share/pinball, so that the release itself is not needed for that. The status is 0 if it is
 # done, else 1.
-set -eu
+set -euo pipefail
 umask 022
 list=share/pinball/INSTALLED
 sums=share/pinball/SHA256SUMS
