@@ -267,7 +267,7 @@ def add_views(commands: "argparse._SubParsersAction[argparse.ArgumentParser]") -
     """Adds the subcommands that show what a machine does, and that help to write it."""
     one = commands.add_parser("trace", help="a filter: what `pinball play` writes, easy to read")
     one.add_argument("--owner", default="", help="only what this mode does, or `machine`")
-    one.add_argument("--device", default="", help="only lines that name this switch, coil, counter, shot ..")
+    one.add_argument("--device", default="", metavar="NAME", help="only lines with this switch, coil, counter, shot ..")
     one.add_argument(
         "--event", default="", metavar="PATTERN", type=pattern, help="only events that this regular expression matches"
     )

@@ -11,6 +11,8 @@ from pathlib import Path
 from .answers import Answer, answer_of
 
 TOP = Path(__file__).resolve().parents[2]
+FINDER = TOP / "tools/program"  # a release has none: its program is in bin/
+RELEASED = TOP.parents[1] / "bin/pinball"
 
 
 class NoAnswer(Exception):
@@ -61,14 +63,18 @@ def path_of(folder: Path) -> str:
 
 
 def proved() -> str | None:
-    """The path of the proved program, or none where there is none of these sources."""
-    ran = subprocess.run([TOP / "tools/program", "--proved"], capture_output=True, text=True)
+    """The path of the proved program: that of this release, or that of these sources. None where there is none."""
+    if not FINDER.exists():
+        return str(RELEASED) if os.access(RELEASED, os.X_OK) else None
+    ran = subprocess.run([FINDER, "--proved"], capture_output=True, text=True)
     return ran.stdout.strip() if ran.returncode == 0 else None
 
 
 def kept_unproved() -> str | None:
     """The path of the unproved build that `examples/run` keeps, if it is of these sources."""
-    ran = subprocess.run([TOP / "tools/program", "--unproved", "--kept"], capture_output=True, text=True)
+    if not FINDER.exists():
+        return None
+    ran = subprocess.run([FINDER, "--unproved", "--kept"], capture_output=True, text=True)
     return ran.stdout.strip() if ran.returncode == 0 else None
 
 

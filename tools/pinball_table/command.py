@@ -135,7 +135,7 @@ def main() -> int:
         return play(asked)
     except Refused as refused:
         print(refused)
-        print(f"pinball-table: refused: tools/pinball-help errors {asked.dir} says more", file=sys.stderr)
+        print(f"pinball-table: refused: pinball-help errors {asked.dir} says more", file=sys.stderr)
         return 1
     except (NoAnswer, NotNow, Gone, BoardFailure) as error:
         print(f"pinball-table: {error}", file=sys.stderr)
