@@ -34,6 +34,6 @@ def slowness() -> float:
 
 
 def takes_longer(seconds: float, limit: float) -> bool:
-    """Whether so many seconds of processor time are more than a limit for a quiet computer. How slow this one is changes
-    from second to second, if it is a virtual machine on a busy host: so that is measured a few times."""
+    """Whether so many seconds of processor time are more than a limit for a quiet computer. How slow this one is may
+    change from second to second, on a busy host: so that is measured a few times."""
     return seconds > limit and seconds > limit * max(slowness() for _ in range(5))
