@@ -43,7 +43,7 @@ module _ (plan : PlanView) (events : List EventId) (c : IsCycle plan events) whe
     lead_falls i f l m =
         let fits = fit (nth_event events i) (All-get_or (λ e. e.0 < length plan.events) events i no_event l c.within) in
         let e = nth_event events i in
-        let cost = price-mentioned v (Both (each_of (cost_of_binding plan) (bound_to plan e)) (cost_of_work plan e)) f m in
+        let cost = price-mentioned 0 v (Both (each_of (cost_of_binding plan) (bound_to plan e)) (cost_of_work plan e)) f m in
         omega (arith, fits, cost)
 
     cycle_falls : (i : ℕ) → i < length events → v (nth_event events i) + i ≤ v (nth_event events 0)

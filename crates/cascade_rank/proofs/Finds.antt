@@ -1,16 +1,17 @@
 -- What finding answers, case by case.
-use Rattle.std.proofs.Common.{rules, ◌≡◌, ℕ, ◌<◌, true, false, not, nat_lt, List, [], length, Option, Some, None, position, Ok, Err, sym, ◌∙◌, ap, subst, arith}
+use Rattle.std.proofs.Common.{rules, ◌≡◌, ℕ, ◌+◌, ◌<◌, true, false, not, nat_lt, List, [], length, Option, Some, None, position, Ok, Err, sym, ◌∙◌, ap, subst, arith}
 use Rattle.std.{specs.Option.option_map, proofs.lemmas.Bool.{not-false, cond-true, cond-false, both_ways}}
 use Rattle.plan_tables.specs.{PlanView.PlanView, Valid.HasEntries, declared.entries.EventId.EventId}
 use Rattle.cascade_rank.specs.{Events.weight_of, Ranks.{rank, ranks}, Found.IsTooDear, Lowest.IsLeft}
-use Rattle.cascade_rank.{specs.Weights.{IsLeastFitting, IsWithinLimit}, proofs.{Events.event, LeastFitting.need-agrees}}
+use Rattle.cascade_rank.specs.Weights.{IsLeastFitting, IsWithinLimit, greatest}
+use Rattle.cascade_rank.proofs.{Events.event, LeastFitting.need-agrees}
 use Rattle.cascade_rank.specs.{LeadsTo.{grounded, is_open}, Cycle.{IsFirst, first_open}}
 use Rattle.cascade_rank.specs.Finding.{bound_too_large, is_within_limit, found_past, found_at}
 use Rattle.cascade_rank.specs.Order.{left_of, IsOrdering, IsWholeOrder, AreRanks}
 use Rattle.cascade_rank.proofs.FirstEvent.{first_event-place, first_event-Some, first_event-None}
 use Rattle.cascade_rank.proofs.Verifying.{is_within_limit-true, is_within_limit-false}
 use Rattle.cascade_rank.proofs.{Ranking.{rank-least, rank-fits}, Firsts.{is_left, first_place}}
-use Rattle.cascade_rank.proofs.Grounding.{grounded_is, open-leads, length_ranks, rank_at, limit_same, limit_ranks}
+use Rattle.cascade_rank.proofs.Grounding.{grounded_is, open-leads, length_ranks, rank_there, limit_same, limit_ranks}
 
 module _ (plan : PlanView) (valid : HasEntries plan) (left : List ℕ) (order : List EventId) (o : IsOrdering plan (length order) [] left order) where
   pub left_is_open : IsLeft plan left
@@ -49,15 +50,15 @@ module _ (plan : PlanView) (valid : HasEntries plan) (all : (e : EventId) → e.
   ranks_least = record {
     count = length_ranks plan;
     fits = λ e l.
-        let agree = need-agrees plan valid (weight_of (ranks plan)) (rank plan) (rank_at plan) e in
-        let fits = rank-fits plan valid all e l in
-        omega (arith, agree, fits, rank_at plan e l);
+        let agree = need-agrees plan valid (weight_of (ranks plan)) (rank plan) (rank_there plan) e in
+        let fits = rank-fits plan valid 0 all e l in
+        omega (arith, agree, fits, rank_there plan e l);
     least = λ v fit e l.
-        let low = rank-least plan valid v fit (length plan.events) e l in
-        omega (arith, low, rank_at plan e l);
+        let low = rank-least plan valid 0 v fit (length plan.events) e l in
+        omega (arith, low, rank_there plan e l);
   }
 
-  module _ (weights : List ℕ) (are : AreRanks plan weights) where
+  module _ (weights : List ℕ) (are : AreRanks 0 (greatest + 1) plan weights) where
     pub found_within : IsWithinLimit plan weights → found_past plan None ≡ Ok weights
     found_within within =
         let test = is_within_limit-true plan weights within in

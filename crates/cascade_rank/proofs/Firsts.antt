@@ -4,7 +4,7 @@ use Rattle.std.{specs.List.{All, position_or_len}, proofs.lemmas.List.Elements.A
 use Rattle.std.proofs.lemmas.Bool.{cases_lt, cases_Bool, and_left, and_right, or_cases, false≢true}
 use Rattle.std.proofs.lemmas.List.Sums.{position_or_len_is, fails_before_first, passes_at_first, prefix_len-le-length}
 use Rattle.plan_tables.specs.{PlanView.PlanView, Valid.{HasEntries, IsEventWithin}, declared.entries.EventId.EventId}
-use Rattle.cascade_rank.specs.Cost.{Cost, Lines, Weight, Both, Greater, mentions, each_of, cost_of_post, cost_of_event}
+use Rattle.cascade_rank.specs.Cost.{Cost, Lines, Step, Weight, Both, Greater, mentions, each_of, cost_of_post, cost_of_event}
 use Rattle.cascade_rank.{specs.{Mentions.weights_in, LeadsTo.is_open}, proofs.Within.{IsBelow-event, each_below}}
 use Rattle.cascade_rank.specs.{Events.{events_of, no_event}, Order.left_of, Below.IsBelow}
 use Rattle.cascade_rank.specs.{Cycle.{IsFirst, next_open}, Lowest.{lowest, IsLeft}}
@@ -14,6 +14,7 @@ use Rattle.cascade_rank.proofs.Events.{event, same_event, length-events, event_n
 
 pub lowest-at_most : (n : ℕ) (p : EventId → Bool) (c : Cost) → IsBelow n c → lowest n p c ≤ n
 lowest-at_most n p (Lines k) h = omega arith
+lowest-at_most n p Step h = omega arith
 lowest-at_most n p (Weight e) h = search rules
 lowest-at_most n p (Both a b) h = omega (arith, lowest-at_most n p a h.0)
 lowest-at_most n p (Greater a b) h = omega (arith, lowest-at_most n p a h.0)
@@ -27,6 +28,7 @@ of_right x y q h = search rules
 -- it is one of them
 pub lowest-holds : (n : ℕ) (p : EventId → Bool) (c : Cost) (k : EventId) → k.0 ≡ lowest n p c → k.0 < n → (mentions k c && p k) ≡ true
 lowest-holds n p (Lines m) k is l = absurd (omega (arith, is, l))
+lowest-holds n p Step k is l = absurd (omega (arith, is, l))
 lowest-holds n p (Weight e) k is l = search rules
 lowest-holds n p (Both a b) k is l = elim (cases_lt (lowest n p a) (lowest n p b)) [
   | inl less ↦ of_left (mentions k a) (mentions k b) (p k) (lowest-holds n p a k (omega (arith, is, less)) l)
@@ -40,6 +42,7 @@ lowest-holds n p (Greater a b) k is l = elim (cases_lt (lowest n p a) (lowest n 
 -- none of them is lower
 pub lowest-first : (n : ℕ) (p : EventId → Bool) (c : Cost) (k : EventId) → k.0 < lowest n p c → mentions k c ≡ true → p k ≡ false
 lowest-first n p (Lines m) k l h = absurd (false≢true h)
+lowest-first n p Step k l h = absurd (false≢true h)
 lowest-first n p (Weight e) k l h = search rules
 lowest-first n p (Both a b) k l h = elim (or_cases (mentions k a) (mentions k b) h) [
   | inl m ↦ lowest-first n p a k (omega (arith, l)) m
@@ -70,6 +73,7 @@ lowest-append n p (e ∷ es) ds h = omega (arith, lowest-append n p es ds h)
 
 pub lowest-posts : (n : ℕ) (p : EventId → Bool) (c : Cost) → IsBelow n c → lowest n p (each_of cost_of_post (weights_in c)) ≡ lowest n p c
 lowest-posts n p (Lines k) h = refl
+lowest-posts n p Step h = refl
 lowest-posts n p (Weight e) h = omega (arith, lowest-at_most n p (Weight e) h)
 lowest-posts n p (Both a b) h = search (rules, lowest-append, lowest-at_most, lowest-posts n p a h.0, lowest-posts n p b h.1)
 lowest-posts n p (Greater a b) h = search (rules, lowest-append, lowest-at_most, lowest-posts n p a h.0, lowest-posts n p b h.1)

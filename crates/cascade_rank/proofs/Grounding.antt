@@ -4,9 +4,10 @@ use Rattle.std.{specs.List.list_all, proofs.lemmas.List.Sums.{AllPass-from_list_
 use Rattle.std.proofs.lemmas.Bool.{cases_eq, cases_Bool, or_cases, eqb-true, eq-eqb, leb-true, le-leb, and_left, and_parts, false≢true}
 use Rattle.std.proofs.lemmas.List.{ext_get_or, length-map, get_or-map, Elements.All-from_get_or}
 use Rattle.plan_tables.specs.{PlanView.PlanView, declared.entries.EventId.EventId, Valid.HasEntries}
-use Rattle.cascade_rank.specs.{Cost.{price, all_mentioned, cost_of_event}, Ranks.{rank, ranks}, Finding.is_within_limit}
+use Rattle.cascade_rank.specs.Cost.{price_at, all_mentioned, cost_of_event}
+use Rattle.cascade_rank.specs.{Ranks.{rank, rank_at, ranks}, Finding.is_within_limit}
 use Rattle.cascade_rank.specs.Events.{events_of, no_event, nth_event, weight_of}
-use Rattle.cascade_rank.specs.{Weights.{need, greatest, bound_of}, LeadsTo.{grounded_in, grounded, is_open}}
+use Rattle.cascade_rank.specs.{Weights.{need_at, greatest, bound_of}, LeadsTo.{grounded_in, grounded, is_open}}
 use Rattle.cascade_rank.specs.Order.{is_in, left_of, EachAfter, IsOrdering, AreRanks}
 use Rattle.cascade_rank.proofs.Events.{event, same_event, length-events, event_number}
 use Rattle.cascade_rank.proofs.{Prices.price_agrees, Ordering.is_in-more}
@@ -66,40 +67,40 @@ module _ (plan : PlanView) (valid : HasEntries plan) (left : List ℕ) (order : 
 
 -- ---- weights, in the order
 
--- the events of the order so far weigh their ranks, none more than 1 above the limit
-abbrev pub AreWeighed : PlanView → List EventId → List ℕ → Type 0
-AreWeighed plan weighed weights = (e : EventId) → is_in weighed e ≡ true → weight_of weights e ≡ min (greatest + 1) (rank plan e)
+-- the events of the order so far weigh their ranks, none more than the most
+abbrev pub AreWeighed : (k most : ℕ) → PlanView → List EventId → List ℕ → Type 0
+AreWeighed k most plan weighed weights = (e : EventId) → is_in weighed e ≡ true → weight_of weights e ≡ min most (rank_at k plan e)
 
-module _ (plan : PlanView) (valid : HasEntries plan) (order : List EventId) (grounds : EachAfter (λ before e. all_mentioned (is_in before) (cost_of_event plan e) ≡ true) order)
+module _ (k most : ℕ) (plan : PlanView) (valid : HasEntries plan) (order : List EventId) (grounds : EachAfter (λ before e. all_mentioned (is_in before) (cost_of_event plan e) ≡ true) order)
     (short : length order ≤ length plan.events) where
   -- the rank of an event of the order is what it needs
-  rank_needs : (i : ℕ) → i < length order → need plan (rank plan) (nth_event order i) ≡ rank plan (nth_event order i)
+  rank_needs : (i : ℕ) → i < length order → need_at k plan (rank_at k plan) (nth_event order i) ≡ rank_at k plan (nth_event order i)
   rank_needs i l =
       let here = is_in-more order i (nth_event order i) l in
       let rounds : (i + 1) + (length plan.events - (i + 1)) ≡ length plan.events = omega (arith, short, l) in
       let within : is_in (take (i + 1) order) (nth_event order i) ≡ true = here ∙ by (is_in (take i order) (nth_event order i)) ((nth_event order i).0 == (nth_event order i).0) (eq-eqb (nth_event order i).0 (nth_event order i).0 refl) in
       let stands = grounded-later plan (i + 1) (length plan.events - (i + 1)) (nth_event order i) (grounded-front plan order grounds (i + 1) (omega (arith, l)) (nth_event order i) within) in
-      rank-stable plan (length plan.events) (nth_event order i) (subst (λ (n : ℕ). grounded_in plan n (nth_event order i) ≡ true) rounds stands)
+      rank-stable plan k (length plan.events) (nth_event order i) (subst (λ (n : ℕ). grounded_in plan n (nth_event order i) ≡ true) rounds stands)
     where
       by : (a b : Bool) → b ≡ true → (a || b) ≡ true
       by true b h = refl
       by false b h = h
 
   pub weighs_more : (weights : List ℕ) (i needed : ℕ) → i < length order → length weights ≡ length plan.events → (nth_event order i).0 < length plan.events →
-      AreWeighed plan (take i order) weights → needed ≡ price (weight_of weights) (cost_of_event plan (nth_event order i)) →
-      AreWeighed plan (take (i + 1) order) (set weights (nth_event order i).0 (min (greatest + 1) needed))
+      AreWeighed k most plan (take i order) weights → needed ≡ price_at k (weight_of weights) (cost_of_event plan (nth_event order i)) →
+      AreWeighed k most plan (take (i + 1) order) (set weights (nth_event order i).0 (min most needed))
   weighs_more weights i needed l count below weighed is = λ e h.
-      let capped : min (greatest + 1) needed ≡ min (greatest + 1) (rank plan (nth_event order i)) =
-      (let agree = price_agrees (weight_of weights) (λ f. min (greatest + 1) (rank plan f)) (cost_of_event plan (nth_event order i)) (λ f m. weighed f (all_mentioned_at (is_in (take i order)) (cost_of_event plan (nth_event order i)) f (grounds i l) m)) in
-      let over = price-capped (greatest + 1) (rank plan) (cost_of_event plan (nth_event order i)) in
+      let capped : min most needed ≡ min most (rank_at k plan (nth_event order i)) =
+      (let agree = price_agrees k (weight_of weights) (λ f. min most (rank_at k plan f)) (cost_of_event plan (nth_event order i)) (λ f m. weighed f (all_mentioned_at (is_in (take i order)) (cost_of_event plan (nth_event order i)) f (grounds i l) m)) in
+      let over = price-capped most k (rank_at k plan) (cost_of_event plan (nth_event order i)) in
       omega (arith, is, agree, over, rank_needs i l)) in
       elim (cases_eq e.0 (nth_event order i).0) [
         | inl same ↦
-            subst (λ (y : EventId). weight_of (set weights (nth_event order i).0 (min (greatest + 1) needed)) y ≡ min (greatest + 1) (rank plan y)) (sym (same_event e (nth_event order i) same))
-            (get_or-set_same weights (nth_event order i).0 (min (greatest + 1) needed) 0 (omega (arith, count, below)) ∙ capped)
+            subst (λ (y : EventId). weight_of (set weights (nth_event order i).0 (min most needed)) y ≡ min most (rank_at k plan y)) (sym (same_event e (nth_event order i) same))
+            (get_or-set_same weights (nth_event order i).0 (min most needed) 0 (omega (arith, count, below)) ∙ capped)
         | inr other ↦
             elim (or_cases (is_in (take i order) e) ((nth_event order i).0 == e.0) (sym (is_in-more order i e l) ∙ h)) [
-              | inl before ↦ get_or-set_other weights (nth_event order i).0 e.0 (min (greatest + 1) needed) 0 other ∙ weighed e before
+              | inl before ↦ get_or-set_other weights (nth_event order i).0 e.0 (min most needed) 0 other ∙ weighed e before
               | inr here ↦ absurd (other (sym (eqb-true (nth_event order i).0 e.0 here)))
             ]
       ]
@@ -108,12 +109,12 @@ module _ (plan : PlanView) where
   pub length_ranks : length (ranks plan) ≡ length plan.events
   length_ranks = length-map (events_of plan) (rank plan) ∙ length-events plan
 
-  pub rank_at : (e : EventId) → e.0 < length plan.events → weight_of (ranks plan) e ≡ rank plan e
-  rank_at e l =
+  pub rank_there : (e : EventId) → e.0 < length plan.events → weight_of (ranks plan) e ≡ rank plan e
+  rank_there e l =
       get_or-map (rank plan) (events_of plan) e.0 no_event 0 (omega (arith, l, length-events plan))
       ∙ ap (rank plan) (event_number plan e.0 l)
 
-module _ (plan : PlanView) (weights : List ℕ) (are : AreRanks plan weights) where
+module _ (plan : PlanView) (weights : List ℕ) (are : AreRanks 0 (greatest + 1) plan weights) where
   -- if each is within the limit, they are the ranks
   all_small : list_all (λ w. nat_le w greatest) weights ≡ true → weights ≡ ranks plan
   all_small h =
@@ -121,7 +122,7 @@ module _ (plan : PlanView) (weights : List ℕ) (are : AreRanks plan weights) wh
       ext_get_or 0 weights (ranks plan) (are.count ∙ sym (length_ranks plan)) (λ n l.
       let low = leb-true (weight_of weights (event n)) greatest (each n 0 l) in
       let below : n < length plan.events = omega (arith, l, are.count) in
-      omega (arith, low, are.each (event n) below, rank_at plan (event n) below))
+      omega (arith, low, are.each (event n) below, rank_there plan (event n) below))
 
   ranks_small : list_all (λ w. nat_le w greatest) (ranks plan) ≡ true → list_all (λ w. nat_le w greatest) weights ≡ true
   ranks_small h =
@@ -129,7 +130,7 @@ module _ (plan : PlanView) (weights : List ℕ) (are : AreRanks plan weights) wh
       list_all-from_AllPass (λ w. nat_le w greatest) weights (All-from_get_or (λ w. nat_le w greatest ≡ true) weights 0 (λ n l.
       let below : n < length plan.events = omega (arith, l, are.count) in
       let low = leb-true (weight_of (ranks plan) (event n)) greatest (each n 0 (omega (arith, below, length_ranks plan))) in
-      le-leb (weight_of weights (event n)) greatest (omega (arith, low, rank_at plan (event n) below, are.each (event n) below))))
+      le-leb (weight_of weights (event n)) greatest (omega (arith, low, rank_there plan (event n) below, are.each (event n) below))))
 
   pub limit_same : is_within_limit plan weights ≡ is_within_limit plan (ranks plan)
   limit_same = search (rules, cases_Bool, nat_le, all_small, and_left, same_bool, ranks_small)

@@ -23,4 +23,5 @@ pub mod Leading
 pub mod Firsts
 pub mod Walking
 pub mod Finds
+pub mod Working
 pub mod Marked

@@ -4,7 +4,7 @@ use Rattle.std.{specs.List.All, proofs.lemmas.List.{length-map, get_or-map, Elem
 use Rattle.plan_tables.specs.{PlanView.{PlanView, row_at}, Devices.list_count}
 use Rattle.plan_tables.specs.declared.devices.{RowId.RowId, Telling.Telling, DeviceRow.DeviceRow}
 use Rattle.device_objects.{specs.{declared.device.Call.Call, Outcomes.outcomes}, proofs.Lists.outcomes_of_row}
-use Rattle.cascade_rank.specs.Cost.{Cost, Greater, dearest_of, cost_of_answer_by, cost_of_call_by}
+use Rattle.cascade_rank.specs.Cost.{Cost, Greater, dearest_of, cost_of_answer_by}
 
 dearest_of-map : {X Y : Type 0} (f : Y → Cost) (g : X → Y) (xs : List X) → dearest_of (λ x. f (g x)) xs ≡ dearest_of f (map g xs)
 dearest_of-map f g [] = refl
@@ -19,8 +19,8 @@ module _ {X : Type 0} (items : X → List ℕ) (plan : PlanView) (r : RowId) (ca
       subst (All (λ k. k < list_count (row_at plan r).settings)) (get_or-map items answers i d (items d) l)
       (All-get_or (All (λ k. k < list_count (row_at plan r).settings)) (map items answers) i (items d) listed whole)
 
-  -- the dearest of them is what the call costs
-  pub answers-cost : (tell : Telling → Cost) → dearest_of (λ a. cost_of_answer_by plan tell r (items a)) answers ≡ cost_of_call_by plan tell r call
+  -- the dearest of them is that of what the call can answer
+  pub answers-cost : (tell : Telling → Cost) → dearest_of (λ a. cost_of_answer_by plan tell r (items a)) answers ≡ dearest_of (cost_of_answer_by plan tell r) (outcomes (row_at plan r).settings call)
   answers-cost tell = dearest_of-map (cost_of_answer_by plan tell r) items answers ∙ ap (dearest_of (cost_of_answer_by plan tell r)) are
 
 -- what was read of a row

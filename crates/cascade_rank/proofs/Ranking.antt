@@ -2,7 +2,7 @@
 use Rattle.std.proofs.{Common.{◌≡◌, ℕ, zero, suc, ◌+◌, ◌≤◌, ◌<◌, true, length, arith}, lemmas.Bool.false≢true}
 use Rattle.plan_tables.specs.{PlanView.PlanView, Valid.HasEntries, declared.entries.EventId.EventId}
 use Rattle.cascade_rank.specs.{Cost.{mentions, cost_of_event}, LeadsTo.{grounded_in, grounded}}
-use Rattle.cascade_rank.specs.{Weights.IsFitting, Ranks.{rank_in, rank}}
+use Rattle.cascade_rank.specs.{Weights.IsFittingAt, Ranks.{rank_in, rank_at}}
 use Rattle.cascade_rank.proofs.{Prices.{price_at_most, price_agrees}, Within.{IsBelow-mentioned, IsBelow-event}}
 use Rattle.cascade_rank.proofs.Mentioned.{all_mentioned_at, all_mentioned-weaker}
 
@@ -17,25 +17,26 @@ module _ (plan : PlanView) where
   grounded-later k (suc j) e h = let same : k + suc j ≡ suc (k + j) = omega arith in rw same (grounded-more (k + j) e (grounded-later k j e h))
 
   -- a grounded event keeps its rank
-  pub rank-stable : (k : ℕ) (e : EventId) → grounded_in plan k e ≡ true → rank_in plan (suc k) e ≡ rank_in plan k e
-  rank-stable zero e h = absurd (false≢true h)
-  rank-stable (suc k) e h =
-      price_agrees (rank_in plan (suc k)) (rank_in plan k) (cost_of_event plan e) (λ f m. rank-stable k f (all_mentioned_at (grounded_in plan k) (cost_of_event plan e) f h m))
+  pub rank-stable : (k round : ℕ) (e : EventId) → grounded_in plan round e ≡ true → rank_in k plan (suc round) e ≡ rank_in k plan round e
+  rank-stable k zero e h = absurd (false≢true h)
+  rank-stable k (suc round) e h =
+      price_agrees k (rank_in k plan (suc round)) (rank_in k plan round) (cost_of_event plan e)
+      (λ f m. rank-stable k round f (all_mentioned_at (grounded_in plan round) (cost_of_event plan e) f h m))
 
 module _ (plan : PlanView) (valid : HasEntries plan) where
   pub mentioned_below : (e f : EventId) → mentions f (cost_of_event plan e) ≡ true → f.0 < length plan.events
   mentioned_below e f m = IsBelow-mentioned (length plan.events) (cost_of_event plan e) f (IsBelow-event plan valid e) m
 
   -- no fitting weights are below the ranks of any round
-  pub rank-least : (v : EventId → ℕ) → IsFitting plan v → (k : ℕ) (e : EventId) → e.0 < length plan.events → rank_in plan k e ≤ v e
-  rank-least v fit zero e h = omega arith
-  rank-least v fit (suc k) e h =
-      let less = price_at_most (rank_in plan k) v (cost_of_event plan e) (λ f m. rank-least v fit k f (mentioned_below e f m)) in
+  pub rank-least : (k : ℕ) (v : EventId → ℕ) → IsFittingAt k plan v → (round : ℕ) (e : EventId) → e.0 < length plan.events → rank_in k plan round e ≤ v e
+  rank-least k v fit zero e h = omega arith
+  rank-least k v fit (suc round) e h =
+      let less = price_at_most k (rank_in k plan round) v (cost_of_event plan e) (λ f m. rank-least k v fit round f (mentioned_below e f m)) in
       let fits = fit e h in
       omega (arith, less, fits)
 
   -- if all are grounded, the ranks fit
-  pub rank-fits : ((e : EventId) → e.0 < length plan.events → grounded plan e ≡ true) → IsFitting plan (rank plan)
-  rank-fits all e h =
-      let same = rank-stable plan (length plan.events) e (all e h) in
+  pub rank-fits : (k : ℕ) → ((e : EventId) → e.0 < length plan.events → grounded plan e ≡ true) → IsFittingAt k plan (rank_at k plan)
+  rank-fits k all e h =
+      let same = rank-stable plan k (length plan.events) e (all e h) in
       omega (arith, same)

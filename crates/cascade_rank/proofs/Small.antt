@@ -23,7 +23,7 @@ use Rattle.plan_tables.specs.declared.devices.Settings.TheVariants as kinds
 use Rattle.player_game.specs.{Players.most_players, Choices.{asks_for_ball, choices, is_drain, tells_scores}}
 use Rattle.device_objects.specs.{declared.device.Call.Call, Outcomes.{of_bank, of_hit, of_hit_in, only_if, outcomes}}
 use Rattle.device_objects.specs.declared.device.Call.TheVariants as calls
-use Rattle.cascade_rank.specs.Cost.{Cost, Lines, Greater, price, each_of, dearest_of, cost_of_action_by, cost_of_answer_by, cost_of_arrival, cost_of_binding, cost_of_call, cost_of_call_by, cost_of_choice, cost_of_drain, cost_of_drained_ball, cost_of_event, cost_of_game, cost_of_list_by, cost_of_nobody, cost_of_post, cost_of_releases, cost_of_request, cost_of_scores, cost_of_starts, cost_of_target, cost_of_telling, cost_of_told, cost_of_trough, cost_of_work, cost_if_led, led_by}
+use Rattle.cascade_rank.specs.Cost.{Cost, Lines, Greater, price, each_of, dearest_of, cost_of_action_by, cost_of_answer_by, cost_of_arrival, cost_of_binding, cost_of_call, cost_of_call_by, cost_of_choice, cost_of_drain, cost_of_drained_ball, cost_of_event, cost_of_game, cost_of_list_by, cost_of_nobody, cost_of_post, cost_of_releases, cost_of_request, cost_of_scores, cost_of_starts, cost_of_stops, cost_of_target, cost_of_telling, cost_of_told, cost_of_trough, cost_of_work, cost_if_led, led_by}
 use Rattle.cascade_rank.proofs.{Games.choices-few, Prices.price-each_sum, Rows.{length-rows, passing-few}}
 use Rattle.cascade_rank.proofs.Limits.{actions-few, bindings-few, coils-few, rows-few}
 
@@ -56,7 +56,7 @@ outcomes-few _ call = search (rules, All-nil, All-cons, All-append)
 module _ (w : EventId → ℕ) (light : (e : EventId) → w e < 2 ^ 32) where
   -- at most n, each of which costs at most k
   each-few : {X : Type 0} (f : X → Cost) (n k : ℕ) (xs : List X) → length xs ≤ n → All (λ x. price w (f x) ≤ k) xs → price w (each_of f xs) ≤ n * k
-  each-few f n k xs few all = omega (arith, price-each_sum w f xs, sum_by-le (λ x. price w (f x)) k xs all, mul-le-mul_right {m = length xs} {n = n} k few)
+  each-few f n k xs few all = omega (arith, price-each_sum 0 w f xs, sum_by-le (λ x. price w (f x)) k xs all, mul-le-mul_right {m = length xs} {n = n} k few)
 
   dearest-small : {X : Type 0} (f : X → Cost) (k : ℕ) (xs : List X) → All (λ x. price w (f x) ≤ k) xs → price w (dearest_of f xs) ≤ k
   dearest-small f k [] all = omega arith
@@ -87,8 +87,9 @@ module _ (w : EventId → ℕ) (light : (e : EventId) → w e < 2 ^ 32) where
 
       call-small : (r : RowId) (call : Call) → price w (cost_of_call_by plan tell r call) ≤ 4096 * (2 ^ 33 + most)
       call-small r call =
-          dearest-small (cost_of_answer_by plan tell r) (4096 * (2 ^ 33 + most)) (outcomes (row_at plan r).settings call)
-          (All-weaker AreFew (λ lists. price w (cost_of_answer_by plan tell r lists) ≤ 4096 * (2 ^ 33 + most)) (λ lists few. answer-small r lists few) (outcomes (row_at plan r).settings call) (outcomes-few (row_at plan r).settings call))
+          let dearest = dearest-small (cost_of_answer_by plan tell r) (4096 * (2 ^ 33 + most)) (outcomes (row_at plan r).settings call)
+          (All-weaker AreFew (λ lists. price w (cost_of_answer_by plan tell r lists) ≤ 4096 * (2 ^ 33 + most)) (λ lists few. answer-small r lists few) (outcomes (row_at plan r).settings call) (outcomes-few (row_at plan r).settings call)) in
+          omega (arith, dearest)
 
     told-small : (telling : Telling) (r : RowId) → price w (cost_of_told plan telling r) ≤ 2 ^ 45
     told-small telling r = omega (arith, call-small cost_of_nobody 0 (λ t. omega arith) r (calls.Act (act_told telling)))
@@ -114,7 +115,7 @@ module _ (w : EventId → ℕ) (light : (e : EventId) → w e < 2 ^ 32) where
     target-small (Act r act) = device-small r (calls.Act act)
 
     binding-small : (b : Binding) → price w (cost_of_binding plan b) ≤ 2 ^ 58
-    binding-small b = target-small b.target
+    binding-small b = omega (arith, target-small b.target)
 
     bound-small : (e : EventId) → price w (each_of (cost_of_binding plan) (bound_to plan e)) ≤ 2 ^ 72
     bound-small e =
@@ -129,6 +130,12 @@ module _ (w : EventId → ℕ) (light : (e : EventId) → w e < 2 ^ 32) where
         let few = rows_passing-few (λ r. is_owner (owners.Mode m) (row_at plan r).owner) in
         omega (arith, each-few (λ r. cost_of_call plan r calls.ModeStart) 1024 (2 ^ 58) (rows_of plan (owners.Mode m)) few (λ i r h. device-small _ calls.ModeStart))
     starts-small _ = omega arith
+
+    stops-small : (work : Work) → price w (cost_of_stops plan work) ≤ 2 ^ 68
+    stops-small (works.Mode m Stopping) =
+        let few = rows_passing-few (λ r. is_owner (owners.Mode m) (row_at plan r).owner) in
+        omega (arith, each-few (λ r. cost_of_call plan r calls.ModeStop) 1024 (2 ^ 58) (rows_of plan (owners.Mode m)) few (λ i r h. device-small _ calls.ModeStop))
+    stops-small _ = omega arith
 
     releases-small : (work : Work) → price w (cost_of_releases plan work) ≤ 256
     releases-small (works.Mode m Stopping) = passing-few (λ coil. list_any (is_enable_of coil) (actions_of plan (owners.Mode m))) (coil_numbers plan) 256
@@ -183,7 +190,7 @@ module _ (w : EventId → ℕ) (light : (e : EventId) → w e < 2 ^ 32) where
     game-small _ = omega arith
 
     work-small : (e : EventId) → price w (cost_of_work plan e) ≤ 2 ^ 71
-    work-small e = omega (arith, starts-small (work_of plan e), releases-small (work_of plan e), led-small (led_by plan (work_of plan e)), game-small (work_of plan e))
+    work-small e = omega (arith, starts-small (work_of plan e), stops-small (work_of plan e), releases-small (work_of plan e), led-small (led_by plan (work_of plan e)), game-small (work_of plan e))
 
     pub event-small : (e : EventId) → price w (cost_of_event plan e) < 2 ^ 73
     event-small e = omega (arith, bound-small e, work-small e)

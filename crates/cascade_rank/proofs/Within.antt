@@ -18,12 +18,13 @@ use Rattle.plan_tables.specs.declared.devices.{Act.TheVariants.{Save, End}, Ball
 use Rattle.plan_tables.specs.declared.devices.Telling.{Telling, TheVariants.{Arrived, Wanted}}
 use Rattle.device_objects.{specs.{declared.device.Call.Call, Outcomes.outcomes}, proofs.Lists.outcomes_of_row}
 use Rattle.device_objects.specs.declared.device.Call.TheVariants as calls
-use Rattle.cascade_rank.specs.Cost.{Cost, Lines, Weight, Both, Greater, mentions, each_of, dearest_of, cost_of_post, cost_of_action_by, cost_of_list_by, cost_of_answer_by, cost_of_call_by, cost_of_nobody, cost_of_told, cost_of_arrival, cost_of_trough, cost_of_telling, cost_of_call, cost_of_target, cost_of_binding, led_by, cost_if_led, cost_of_starts, cost_of_releases, cost_of_choice, cost_of_request, cost_of_drained_ball, cost_of_game, cost_of_work, cost_of_event}
+use Rattle.cascade_rank.specs.Cost.{Cost, Lines, Step, Weight, Both, Greater, mentions, each_of, dearest_of, cost_of_post, cost_of_action_by, cost_of_list_by, cost_of_answer_by, cost_of_call_by, cost_of_nobody, cost_of_told, cost_of_arrival, cost_of_trough, cost_of_telling, cost_of_call, cost_of_target, cost_of_binding, led_by, cost_if_led, cost_of_devices, cost_of_starts, cost_of_stops, cost_of_releases, cost_of_choice, cost_of_request, cost_of_drained_ball, cost_of_game, cost_of_work, cost_of_event}
 use Rattle.cascade_rank.specs.{Below.IsBelow, Mentions.weights_in, Tellings.IsTellingWithin}
 use Rattle.cascade_rank.proofs.{Games.{game_event-below, game_has-event}, Rows.rows-within}
 
 pub IsBelow-mentioned : (n : ℕ) (c : Cost) (e : EventId) → IsBelow n c → mentions e c ≡ true → e.0 < n
 IsBelow-mentioned n (Lines k) e h m = absurd (false≢true m)
+IsBelow-mentioned n Step e h m = absurd (false≢true m)
 IsBelow-mentioned n (Weight f) e h m = subst (λ (x : ℕ). x < n) (sym (eqb-true e.0 f.0 m)) h
 IsBelow-mentioned n (Both a b) e h m =
     elim (or_cases (mentions e a) (mentions e b) m) [
@@ -66,6 +67,7 @@ IfSome-find p P xs h = IfSome-find_by p P xs (recursion_from_All P xs h)
 -- the same of the list of its weights
 pub weights-below : (n : ℕ) (c : Cost) → IsBelow n c → All (IsEventWithin n) (weights_in c)
 weights-below n (Lines k) h = All-nil (IsEventWithin n)
+weights-below n Step h = All-nil (IsEventWithin n)
 weights-below n (Weight e) h = All-cons (IsEventWithin n) e [] h (All-nil (IsEventWithin n))
 weights-below n (Both a b) h = All-append (IsEventWithin n) (weights_in a) (weights_in b) (weights-below n a h.0) (weights-below n b h.1)
 weights-below n (Greater a b) h = All-append (IsEventWithin n) (weights_in a) (weights_in b) (weights-below n a h.0) (weights-below n b h.1)
@@ -106,9 +108,11 @@ module _ (plan : PlanView) (valid : HasEntries plan) where
     IsBelow-answer r l lists h = search (rules, each_below, IsBelow-list, list_of_row-within)
 
     IsBelow-call_by : (r : RowId) (call : Call) → r.0 < length plan.rows → IsBelow (length plan.events) (cost_of_call_by plan tell r call)
-    IsBelow-call_by r call l =
-        dearest_within (length plan.events) (cost_of_answer_by plan tell r) (All (λ k. k < list_count (row_at plan r).settings)) (IsBelow-answer r l)
-        (outcomes (row_at plan r).settings call) (outcomes_of_row (row_at plan r).settings call)
+    IsBelow-call_by r call l = (
+      tt,
+      dearest_within (length plan.events) (cost_of_answer_by plan tell r) (All (λ k. k < list_count (row_at plan r).settings)) (IsBelow-answer r l)
+          (outcomes (row_at plan r).settings call) (outcomes_of_row (row_at plan r).settings call),
+    )
 
   -- what a told device answers
   IsBelow-told : (telling : Telling) (r : RowId) → r.0 < length plan.rows → IsBelow (length plan.events) (cost_of_told plan telling r)
@@ -123,23 +127,25 @@ module _ (plan : PlanView) (valid : HasEntries plan) where
   IsBelow-trough n None h = tt
   IsBelow-trough n (Some r) h = IsBelow-told (Wanted n) r h
 
-  IsBelow-telling : (telling : Telling) → IsBelow (length plan.events) (cost_of_telling plan telling)
+  pub IsBelow-telling : (telling : Telling) → IsBelow (length plan.events) (cost_of_telling plan telling)
   IsBelow-telling telling = search (rules, IsBelow-arrival, IsBelow-trough, IfSome-find, rows-within)
 
   pub IsBelow-call : (r : RowId) (call : Call) → r.0 < length plan.rows → IsBelow (length plan.events) (cost_of_call plan r call)
   IsBelow-call r call l = IsBelow-call_by (cost_of_telling plan) (λ telling h. IsBelow-telling telling) r call l
 
-  -- and what the devices of a mode answer when it starts
-  IsBelow-starts : (w : Work) → IsBelow (length plan.events) (cost_of_starts plan w)
-  IsBelow-starts works.Nothing = tt
-  IsBelow-starts (works.Mode m WillStart) = tt
-  IsBelow-starts (works.Mode m Starting) = tt
-  IsBelow-starts (works.Mode m Started) =
-      each_below (length plan.events) (λ r. cost_of_call plan r calls.ModeStart) (λ r. r.0 < length plan.rows) (λ r. IsBelow-call r calls.ModeStart) (rows_of plan (owners.Mode m))
+  -- and what the devices of a mode answer when it starts, and when it stops
+  IsBelow-devices : (call : Call) (m : ModeId) → IsBelow (length plan.events) (cost_of_devices plan call m)
+  IsBelow-devices call m =
+      each_below (length plan.events) (λ r. cost_of_call plan r call) (λ r. r.0 < length plan.rows) (λ r. IsBelow-call r call) (rows_of plan (owners.Mode m))
       (All-filter (λ r. is_owner (owners.Mode m) (row_at plan r).owner) (λ r. r.0 < length plan.rows) (row_numbers plan) (rows-within plan))
-  IsBelow-starts (works.Mode m Stopping) = tt
-  IsBelow-starts (works.Mode m Stopped) = tt
-  IsBelow-starts (works.Game which) = tt
+
+  IsBelow-starts : (w : Work) → IsBelow (length plan.events) (cost_of_starts plan w)
+  IsBelow-starts (works.Mode m Started) = IsBelow-devices calls.ModeStart m
+  IsBelow-starts w = search rules
+
+  IsBelow-stops : (w : Work) → IsBelow (length plan.events) (cost_of_stops plan w)
+  IsBelow-stops (works.Mode m Stopping) = IsBelow-devices calls.ModeStop m
+  IsBelow-stops w = search rules
 
   -- the lines of releases mention none
   IsBelow-releases : (w : Work) → IsBelow (length plan.events) (cost_of_releases plan w)
@@ -177,7 +183,7 @@ module _ (plan : PlanView) (valid : HasEntries plan) where
   IsBelow-game _ e is = tt
 
   pub IsBelow-work : (e : EventId) → IsBelow (length plan.events) (cost_of_work plan e)
-  IsBelow-work e = search (rules, IsBelow-starts, IsBelow-releases, IsBelow-led, work_found, IsBelow-game)
+  IsBelow-work e = search (rules, IsBelow-starts, IsBelow-stops, IsBelow-releases, IsBelow-led, work_found, IsBelow-game)
 
   pub IsBelow-target : (t : Target) → IsTargetWithin plan t → IsBelow (length plan.events) (cost_of_target plan t)
   IsBelow-target (Run l) h = IsBelow-list (cost_of_telling plan) (λ telling k. IsBelow-telling telling) l h
@@ -186,7 +192,7 @@ module _ (plan : PlanView) (valid : HasEntries plan) where
   IsBelow-target (Act r act) h = IsBelow-call r (calls.Act act) h
 
   pub IsBelow-binding : (b : Binding) → IsBindingWithin plan b → IsBelow (length plan.events) (cost_of_binding plan b)
-  IsBelow-binding b h = IsBelow-target b.target h.2
+  IsBelow-binding b h = (tt, IsBelow-target b.target h.2)
 
   pub IsBelow-event : (e : EventId) → IsBelow (length plan.events) (cost_of_event plan e)
   IsBelow-event e = (

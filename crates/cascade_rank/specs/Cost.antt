@@ -1,4 +1,5 @@
--- What a thing costs: the lines that it prints and the weights of the events that it posts, added up or compared.
+-- What a thing costs: the lines that it prints, the steps that it takes besides, and the weights of the events that it
+-- posts, added up or compared. A step is a handler that is looked at, or a call of a device.
 use Rattle.std.specs.Prelude.{ℕ, ◌+◌, max, Bool, true, false, ◌&&◌, ◌||◌, ◌==◌, if◌then◌else◌, Option, None, Some, List, [], ◌∷◌, length, map}
 use Rattle.std.specs.List.{range_with_len}
 use Rattle.plan_tables.specs.PlanView.{PlanView, coils_enabled, act_of_listener, act_told, feeders_of, first_trough, may_hold_ball_end, listeners_of, posts_of, actions_at, bound_to, list_of_row, game_event, mode_event, multiball_rows, row_at, row_numbers, rows_of, save_rows, switch_at, work_of}
@@ -19,20 +20,27 @@ use Rattle.device_objects.specs.declared.device.Call.TheVariants as calls
 
 pub data Cost : Type 0 where
   Lines : (n : ℕ) → Cost
+  Step : Cost
   Weight : (e : EventId) → Cost
   Both : (a b : Cost) → Cost
   Greater : (a b : Cost) → Cost
 
--- the price of a cost if the event e weighs w e: a line is 1
+-- the price of a cost if a line is 1, a step k, and the event e weighs w e
+abbrev pub price_at : ℕ → (EventId → ℕ) → Cost → ℕ
+price_at k w (Lines n) = n
+price_at k w Step = k
+price_at k w (Weight e) = w e
+price_at k w (Both a b) = price_at k w a + price_at k w b
+price_at k w (Greater a b) = max (price_at k w a) (price_at k w b)
+
+-- its price in lines: a step is free
 abbrev pub price : (EventId → ℕ) → Cost → ℕ
-price w (Lines n) = n
-price w (Weight e) = w e
-price w (Both a b) = price w a + price w b
-price w (Greater a b) = max (price w a) (price w b)
+price w c = price_at 0 w c
 
 -- whether the weight of e is in the cost
 abbrev pub mentions : EventId → Cost → Bool
 mentions e (Lines n) = false
+mentions e Step = false
 mentions e (Weight f) = e.0 == f.0
 mentions e (Both a b) = mentions e a || mentions e b
 mentions e (Greater a b) = mentions e a || mentions e b
@@ -40,6 +48,7 @@ mentions e (Greater a b) = mentions e a || mentions e b
 -- whether p holds of each event whose weight is in the cost
 abbrev pub all_mentioned : (EventId → Bool) → Cost → Bool
 all_mentioned p (Lines n) = true
+all_mentioned p Step = true
 all_mentioned p (Weight e) = p e
 all_mentioned p (Both a b) = all_mentioned p a && all_mentioned p b
 all_mentioned p (Greater a b) = all_mentioned p a && all_mentioned p b
@@ -87,9 +96,9 @@ cost_of_list_by plan tell_cost l = each_of (cost_of_action_by plan tell_cost) (a
 abbrev pub cost_of_answer_by : PlanView → (Telling → Cost) → RowId → List ℕ → Cost
 cost_of_answer_by plan tell_cost r lists = each_of (λ k. cost_of_list_by plan tell_cost (list_of_row plan r k)) lists
 
--- a call of a device costs the dearest of what it can answer, whatever the device's state
+-- a call of a device costs a step, and the dearest of what it can answer, whatever the device's state
 abbrev pub cost_of_call_by : PlanView → (Telling → Cost) → RowId → Call → Cost
-cost_of_call_by plan tell_cost r call = dearest_of (cost_of_answer_by plan tell_cost r) (outcomes (row_at plan r).settings call)
+cost_of_call_by plan tell_cost r call = Both Step (dearest_of (cost_of_answer_by plan tell_cost r) (outcomes (row_at plan r).settings call))
 
 -- the lists of a device that is told something tell nobody
 abbrev pub cost_of_nobody : Telling → Cost
@@ -125,9 +134,9 @@ cost_of_target plan (Start m) = cost_of_post (mode_event plan m WillStart)
 cost_of_target plan (Stop m) = cost_of_post (mode_event plan m Stopping)
 cost_of_target plan (Act r act) = cost_of_call plan r (calls.Act act)
 
--- what a binding costs: no owner, no priority and no condition is looked at
+-- what a binding costs: a step, and its target. No owner, no priority and no condition is looked at.
 abbrev pub cost_of_binding : PlanView → Binding → Cost
-cost_of_binding plan b = cost_of_target plan b.target
+cost_of_binding plan b = Both Step (cost_of_target plan b.target)
 
 -- `ball_ended`, if the mode may have held the end of the ball
 abbrev pub led_by_stopped : PlanView → ModeId → Option EventId
@@ -148,15 +157,29 @@ abbrev pub cost_if_led : Option EventId → Cost
 cost_if_led None = Lines 0
 cost_if_led (Some e) = cost_of_post e
 
+-- a call of each device of a mode
+abbrev pub cost_of_devices : PlanView → Call → ModeId → Cost
+cost_of_devices plan call m = each_of (λ r. cost_of_call plan r call) (rows_of plan (owners.Mode m))
+
 -- the starts of a mode's devices, at its event `started`
 abbrev pub cost_of_starts : PlanView → Work → Cost
 cost_of_starts plan Nothing = Lines 0
 cost_of_starts plan (Mode m WillStart) = Lines 0
 cost_of_starts plan (Mode m Starting) = Lines 0
-cost_of_starts plan (Mode m Started) = each_of (λ r. cost_of_call plan r calls.ModeStart) (rows_of plan (owners.Mode m))
+cost_of_starts plan (Mode m Started) = cost_of_devices plan calls.ModeStart m
 cost_of_starts plan (Mode m Stopping) = Lines 0
 cost_of_starts plan (Mode m Stopped) = Lines 0
 cost_of_starts plan (Game which) = Lines 0
+
+-- the stops of a mode's devices, at its event `stopping`
+abbrev pub cost_of_stops : PlanView → Work → Cost
+cost_of_stops plan Nothing = Lines 0
+cost_of_stops plan (Mode m WillStart) = Lines 0
+cost_of_stops plan (Mode m Starting) = Lines 0
+cost_of_stops plan (Mode m Started) = Lines 0
+cost_of_stops plan (Mode m Stopping) = cost_of_devices plan calls.ModeStop m
+cost_of_stops plan (Mode m Stopped) = Lines 0
+cost_of_stops plan (Game which) = Lines 0
 
 -- a line for each coil that the mode may hold, at its event `stopping`
 abbrev pub cost_of_releases : PlanView → Work → Cost
@@ -200,7 +223,8 @@ cost_of_game plan (Game which) =
 abbrev pub cost_of_work : PlanView → EventId → Cost
 cost_of_work plan e =
     Both (cost_of_starts plan (work_of plan e))
-    (Both (cost_of_releases plan (work_of plan e)) (Both (cost_if_led (led_by plan (work_of plan e))) (cost_of_game plan (work_of plan e))))
+    (Both (cost_of_stops plan (work_of plan e))
+    (Both (cost_of_releases plan (work_of plan e)) (Both (cost_if_led (led_by plan (work_of plan e))) (cost_of_game plan (work_of plan e)))))
 
 -- an event costs its line, all that is bound to it, and the machine's work
 abbrev pub cost_of_event : PlanView → EventId → Cost

@@ -2,12 +2,13 @@
 use Rattle.std.specs.Prelude.{◌≡◌, ℕ, ◌+◌, ◌<◌, ◌≤◌, Bool, true, false, ◌==◌, nat_lt, if◌then◌else◌, min, List, [], length, take, slice_index, count_by}
 use Rattle.std.specs.List.{list_any}
 use Rattle.plan_tables.specs.{PlanView.PlanView, declared.entries.EventId.EventId}
-use Rattle.cascade_rank.specs.{Events.{nth_event, weight_of}, Ranks.rank, Weights.greatest}
-use Rattle.cascade_rank.specs.Cost.{Cost, Lines, Weight, Both, Greater, all_mentioned, cost_of_event}
+use Rattle.cascade_rank.specs.{Events.{nth_event, weight_of}, Ranks.rank_at}
+use Rattle.cascade_rank.specs.Cost.{Cost, Lines, Step, Weight, Both, Greater, all_mentioned, cost_of_event}
 
 -- how often a weight of which p does not hold is in the cost
 abbrev pub unmet : (EventId → Bool) → Cost → ℕ
 unmet p (Lines n) = 0
+unmet p Step = 0
 unmet p (Weight e) = if p e then 0 else 1
 unmet p (Both a b) = unmet p a + unmet p b
 unmet p (Greater a b) = unmet p a + unmet p b
@@ -15,6 +16,7 @@ unmet p (Greater a b) = unmet p a + unmet p b
 -- how often the weight of e is in the cost
 abbrev pub occurrences : EventId → Cost → ℕ
 occurrences e (Lines n) = 0
+occurrences e Step = 0
 occurrences e (Weight f) = if e.0 == f.0 then 1 else 0
 occurrences e (Both a b) = occurrences e a + occurrences e b
 occurrences e (Greater a b) = occurrences e a + occurrences e b
@@ -71,7 +73,7 @@ pub record IsWholeOrder (plan : PlanView) (order : List EventId) : Type 0 where
   pub short : length order ≤ length plan.events
   pub whole : (e : EventId) → e.0 < length plan.events → is_in order e ≡ true
 
--- each event weighs its rank, or one more than the greatest weight if the rank is more than that
-pub record AreRanks (plan : PlanView) (weights : List ℕ) : Type 0 where
+-- each event weighs its rank if a step costs k, or the most that it may weigh if the rank is more than that
+pub record AreRanks (k most : ℕ) (plan : PlanView) (weights : List ℕ) : Type 0 where
   pub count : length weights ≡ length plan.events
-  pub each : (e : EventId) → e.0 < length plan.events → weight_of weights e ≡ min (greatest + 1) (rank plan e)
+  pub each : (e : EventId) → e.0 < length plan.events → weight_of weights e ≡ min most (rank_at k plan e)

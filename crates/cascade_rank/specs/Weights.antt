@@ -2,19 +2,26 @@
 use Rattle.std.specs.{Prelude.{◌≡◌, ℕ, ◌<◌, ◌≤◌, List, length, map}, List.All}
 use Rattle.plan_tables.specs.{PlanView.PlanView, declared.entries.{EventId.EventId, SwitchId.SwitchId}}
 use Rattle.cascade_rank.specs.Events.{weight_of}
-use Rattle.cascade_rank.specs.Cost.{price, cost_of_event, cost_of_stimuli, cost_of_switch, switches_of}
+use Rattle.cascade_rank.specs.Cost.{price_at, price, cost_of_event, cost_of_stimuli, cost_of_switch, switches_of}
 
 -- the greatest weight and the greatest bound that are accepted
 abbrev pub greatest : ℕ
 greatest = 100000
 
--- what the event e costs at these weights
+-- what the event e costs at these weights, if a step costs k
+abbrev pub need_at : ℕ → PlanView → (EventId → ℕ) → EventId → ℕ
+need_at k plan w e = price_at k w (cost_of_event plan e)
+
+-- what it costs in lines
 abbrev pub need : PlanView → (EventId → ℕ) → EventId → ℕ
-need plan w e = price w (cost_of_event plan e)
+need plan w e = need_at 0 plan w e
 
 -- each event weighs at least what it costs
+abbrev pub IsFittingAt : ℕ → PlanView → (EventId → ℕ) → Type 0
+IsFittingAt k plan w = (e : EventId) → e.0 < length plan.events → need_at k plan w e ≤ w e
+
 abbrev pub IsFitting : PlanView → (EventId → ℕ) → Type 0
-IsFitting plan w = (e : EventId) → e.0 < length plan.events → need plan w e ≤ w e
+IsFitting plan w = IsFittingAt 0 plan w
 
 -- the least fitting weights, in the order of the events' numbers
 pub record IsLeastFitting (plan : PlanView) (weights : List ℕ) : Type 0 where
@@ -23,8 +30,11 @@ pub record IsLeastFitting (plan : PlanView) (weights : List ℕ) : Type 0 where
   pub least : (v : EventId → ℕ) → IsFitting plan v → (e : EventId) → e.0 < length plan.events → weight_of weights e ≤ v e
 
 -- the greatest price of a stimulus
+abbrev pub bound_at : ℕ → PlanView → (EventId → ℕ) → ℕ
+bound_at k plan w = price_at k w (cost_of_stimuli plan)
+
 abbrev pub bound_of : PlanView → (EventId → ℕ) → ℕ
-bound_of plan w = price w (cost_of_stimuli plan)
+bound_of plan w = bound_at 0 plan w
 
 -- what a change of the switch costs at these weights: the greater of the costs of its activation and its
 -- deactivation

@@ -18,8 +18,9 @@ ghost use Rattle.plan_tables.specs.Devices.{list_count};
 ghost use Rattle.plan_tables.specs.PlanView.{bound_to, first_trough, multiball_rows, row_at, rows_of, save_rows, work_of};
 ghost use Rattle.plan_tables.specs.declared.devices.Act.TheVariants.{Save, End};
 ghost use Rattle.device_objects.specs.declared.device.Call.TheVariants as calls;
+ghost use Rattle.device_objects.specs.Outcomes.{outcomes as outcomes_of};
 ghost use Rattle.player_game.specs.Choices.{choices};
-ghost use Rattle.cascade_rank.specs.Cost.{each_of, dearest_of, cost_of_drain, cost_of_action_by, cost_of_list_by, cost_of_answer_by, cost_of_call_by, cost_of_told, cost_of_arrival, cost_of_trough, cost_of_telling, cost_of_call, cost_of_target, cost_of_binding, cost_of_starts, cost_of_releases, cost_if_led, led_by, cost_of_choice, cost_of_scores, cost_of_request, cost_of_drained_ball, cost_of_game, cost_of_work, cost_of_event};
+ghost use Rattle.cascade_rank.specs.Cost.{each_of, dearest_of, cost_of_drain, cost_of_action_by, cost_of_list_by, cost_of_answer_by, cost_of_call_by, cost_of_told, cost_of_arrival, cost_of_trough, cost_of_telling, cost_of_call, cost_of_target, cost_of_binding, cost_of_devices, cost_of_starts, cost_of_stops, cost_of_releases, cost_if_led, led_by, cost_of_choice, cost_of_scores, cost_of_request, cost_of_drained_ball, cost_of_game, cost_of_work, cost_of_event};
 ghost use Rattle.cascade_rank.specs.Tellings.{IsTellingWithin};
 
 use crate::measure::Measure;
@@ -60,12 +61,14 @@ fn measure_bound<M: Measure>(measure: &mut M, plan: &Plan, event: EventId) -> M:
     total
 }
 
-/// A binding, whether its condition is met or not.
+/// A binding: a step and its target, whether its condition is met or not.
 fn measure_binding<M: Measure>(measure: &mut M, plan: &Plan, binding: Binding) -> M::Value
     requires { IsBindingWithin plan.now binding }
     ensures { M.Measures measure.old (cost_of_binding plan.now binding) measure.new result }
 {
-    measure_target(measure, plan, binding.target)
+    let step = measure.step();
+    let target = measure_target(measure, plan, binding.target);
+    measure.both(step, target)
 }
 
 fn measure_target<M: Measure>(measure: &mut M, plan: &Plan, target: Target) -> M::Value
@@ -80,7 +83,7 @@ fn measure_target<M: Measure>(measure: &mut M, plan: &Plan, target: Target) -> M
     }
 }
 
-/// The dearest of what a call of a device can answer.
+/// A call of a device: a step, and the dearest of what it can answer.
 pub(crate) fn measure_call<T: Tells, M: Measure>(
     measure: &mut M,
     plan: &Plan,
@@ -89,6 +92,21 @@ pub(crate) fn measure_call<T: Tells, M: Measure>(
 ) -> M::Value
     requires { row.0 < length plan.now.rows }
     ensures { M.Measures measure.old (cost_of_call_by plan.now (T.cost plan.now) row call) measure.new result }
+{
+    let step = measure.step();
+    let answers = measure_answers::<T, M>(measure, plan, row, call);
+    measure.both(step, answers)
+}
+
+/// The dearest of what a call of a device can answer.
+fn measure_answers<T: Tells, M: Measure>(
+    measure: &mut M,
+    plan: &Plan,
+    row: RowId,
+    call: Call,
+) -> M::Value
+    requires { row.0 < length plan.now.rows }
+    ensures { M.Measures measure.old (dearest_of (cost_of_answer_by plan.now (T.cost plan.now) row) (outcomes_of (row_at plan.now row).settings call)) measure.new result }
 {
     let answers = outcomes(&plan.row(row).settings, call);
     let mut dearest = measure.lines(0);
@@ -251,11 +269,13 @@ fn measure_work<M: Measure>(measure: &mut M, plan: &Plan, event: EventId) -> M::
     ensures { M.Measures measure.old (cost_of_work plan.now event) measure.new result }
 {
     let starts = measure_starts(measure, plan, event);
+    let stops = measure_stops(measure, plan, event);
     let releases = measure_releases(measure, plan, event);
     let led = measure_led(measure, plan, event);
     let game = measure_game(measure, plan, event);
     let last = measure.both(led, game);
-    let rest = measure.both(releases, last);
+    let released = measure.both(releases, last);
+    let rest = measure.both(stops, released);
     measure.both(starts, rest)
 }
 
@@ -265,19 +285,34 @@ fn measure_starts<M: Measure>(measure: &mut M, plan: &Plan, event: EventId) -> M
     ensures { M.Measures measure.old (cost_of_starts plan.now (work_of plan.now event)) measure.new result }
 {
     match plan.work(event) {
-        Work::Mode(mode, ModeEvent::Started) => measure_devices(measure, plan, mode),
+        Work::Mode(mode, ModeEvent::Started) => {
+            measure_devices(measure, plan, mode, Call::ModeStart)
+        }
         _ => measure.lines(0),
     }
 }
 
-/// The starts of a mode's devices.
-fn measure_devices<M: Measure>(measure: &mut M, plan: &Plan, mode: ModeId) -> M::Value
+/// The stops of a mode's devices, if the event is the mode's event `stopping`.
+fn measure_stops<M: Measure>(measure: &mut M, plan: &Plan, event: EventId) -> M::Value
+    requires { event.0 < length plan.now.events }
+    ensures { M.Measures measure.old (cost_of_stops plan.now (work_of plan.now event)) measure.new result }
+{
+    match plan.work(event) {
+        Work::Mode(mode, ModeEvent::Stopping) => {
+            measure_devices(measure, plan, mode, Call::ModeStop)
+        }
+        _ => measure.lines(0),
+    }
+}
+
+/// A call of each device of a mode.
+fn measure_devices<M: Measure>(measure: &mut M, plan: &Plan, mode: ModeId, call: Call) -> M::Value
     requires { mode.0 < length plan.now.modes }
-    ensures { M.Measures measure.old (each_of (λ r. cost_of_call plan.now r calls.ModeStart) (rows_of plan.now (owners.Mode mode))) measure.new result }
+    ensures { M.Measures measure.old (cost_of_devices plan.now call mode) measure.new result }
 {
     let mut total = measure.lines(0);
     for row in plan.rows_of_mode(mode) {
-        let cost = measure_call::<Told, M>(measure, plan, *row, Call::ModeStart);
+        let cost = measure_call::<Told, M>(measure, plan, *row, call);
         total = measure.both(total, cost);
     }
     total

@@ -1,7 +1,7 @@
 //! The least weights of a plan.
 
-ghost use Rattle.std.specs.Prelude.{IfOk, IfErr};
-ghost use Rattle.cascade_rank.specs.Weights.{IsLeastFitting, IsWithinLimit};
+ghost use Rattle.std.specs.Prelude.{◌+◌, IfOk, IfErr};
+ghost use Rattle.cascade_rank.specs.Weights.{IsLeastFitting, IsWithinLimit, greatest};
 ghost use Rattle.cascade_rank.specs.Finding.{found_at};
 ghost use Rattle.cascade_rank.specs.View.{GivesFound, IfRank};
 ghost use Rattle.cascade_rank.specs.Found.{IsUnfound};
@@ -51,7 +51,7 @@ pub fn find(alloc: Global, plan: &Plan) -> Result<Weights, RankFault>
 /// that what an event leads to is weighed before it.
 fn weigh(alloc: Global, plan: &Plan, order: &[EventId]) -> Result<Vec<u32>, AllocError>
     requires { IsWholeOrder plan.now order.now }
-    ensures { IfOk result (λ weights. AreRanks plan.now weights.items) }
+    ensures { IfOk result (λ weights. AreRanks 0 (greatest + 1) plan.now weights.items) }
 {
     let mut weights = vec![in alloc; 0u32; plan.event_count()]?;
     for event in order {

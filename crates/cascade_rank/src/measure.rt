@@ -1,14 +1,14 @@
 //! What can be measured of a cost: its price, or the events whose weights are in it.
 //!
-//! A cost is lines, the weight of an event, two costs after each other, or the greater of two. A measure
-//! says what each of the four comes to. The walks over costs (`costs`, `stimuli`) go over the parts of a
+//! A cost is lines, a step, the weight of an event, two costs after each other, or the greater of two. A
+//! measure says what each of the five comes to. The walks over costs (`costs`, `stimuli`) go over the parts of a
 //! plan once, for every measure.
 
 use plan_tables::EventId;
 
 /// What a walk over a cost adds up.
 pub(crate) trait Measure {
-    ghost use Rattle.cascade_rank.specs.Cost.{Cost, Lines, Weight, Both, Greater};
+    ghost use Rattle.cascade_rank.specs.Cost.{Cost, Lines, Step, Weight, Both, Greater};
     ghost use Rattle.cascade_rank.specs.Measures.{AreAlike};
 
     /// What a cost comes to.
@@ -20,6 +20,10 @@ pub(crate) trait Measure {
     /// So many lines.
     fn lines(&self, count: u64) -> Self::Value
         ensures { Measures self.now (Lines count) self.now result };
+
+    /// A handler that is looked at, or a call of a device.
+    fn step(&self) -> Self::Value
+        ensures { Measures self.now Step self.now result };
 
     /// The weight of an event.
     fn weight(&mut self, event: EventId) -> Self::Value

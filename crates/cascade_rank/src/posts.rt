@@ -35,6 +35,8 @@ impl Measure for Posts {
 
     fn lines(&self, _count: u64) {}
 
+    fn step(&self) {}
+
     fn weight(&mut self, event: EventId) {
         if self.events.push(event).is_err() {
             self.is_whole = false;

@@ -1,4 +1,4 @@
-//! The price of a cost at given weights.
+//! The price of a cost in lines, at given weights.
 
 ghost use Rattle.std.specs.Prelude.{◌≡◌, ◌<◌, length};
 ghost use Rattle.cascade_rank.specs.Events.{weight_of};
@@ -8,7 +8,7 @@ use crate::costs::measure_event;
 use crate::measure::Measure;
 use plan_tables::{EventId, Plan};
 
-/// Prices at these weights. An event without a weight costs nothing.
+/// Prices in lines at these weights: a step is free. An event without a weight costs nothing.
 ///
 /// A sum that does not fit becomes the greatest number that does.
 #[derive(Clone, Copy)]
@@ -31,6 +31,10 @@ impl Measure for Price<'_> {
 
     fn lines(&self, count: u64) -> u128 {
         u128::from(count)
+    }
+
+    fn step(&self) -> u128 {
+        0
     }
 
     fn weight(&mut self, event: EventId) -> u128 {

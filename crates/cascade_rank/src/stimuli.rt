@@ -42,7 +42,7 @@ pub fn switch_cost(plan: &Plan, weights: &Weights, switch: SwitchId) -> u32
 }
 
 /// The dearest stimulus: the acceptance of a switch, or the alarm of a device.
-fn measure_stimuli<M: Measure>(measure: &mut M, plan: &Plan) -> M::Value
+pub(crate) fn measure_stimuli<M: Measure>(measure: &mut M, plan: &Plan) -> M::Value
     ensures { M.Measures measure.old (cost_of_stimuli plan.now) measure.new result }
 {
     let switches = measure_switches(measure, plan);

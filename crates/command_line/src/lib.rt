@@ -6,5 +6,5 @@ pub mod live;
 pub mod program;
 
 pub use ask::{Ask, AskFault, command};
-pub use live::live_command;
+pub use live::{LiveAsk, live_command};
 pub use program::program_words;

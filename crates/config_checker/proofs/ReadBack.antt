@@ -66,7 +66,7 @@ module _ (c : CheckedView) (verified : IsVerified c.plan c.weights c.bound) wher
       let here : get_or (switch_costs c.plan (weight_of c.weights)) i d ≡ switch_cost c.plan (weight_of c.weights) (record { 0 = i }) =
       get_or-map (switch_cost c.plan (weight_of c.weights)) (switches_of c.plan) i (record { 0 = i }) d (omega (arith, few, length-switches c.plan))
       ∙ ap (switch_cost c.plan (weight_of c.weights)) (switch_of c.plan i (record { 0 = i }) few) in
-      let low = switch-within_bound c.plan (weight_of c.weights) (record { 0 = i }) few in
+      let low = switch-within_bound c.plan 0 (weight_of c.weights) (record { 0 = i }) few in
       omega (arith, here, low, verified.limit.bound_within)
 
   verified-writable : All IsWord c.plan.events → All IsWord (entry_names c.plan Switches) → IsWritable (certificate_of c)

@@ -2,13 +2,12 @@
 #![tactic(auto)]
 
 use coil_guard::MemoryBoard;
-use command_line::{AskFault, live_command, program_words};
+use command_line::{AskFault, LiveAsk, live_command, program_words};
 use config_checker::Checked;
-use live_machine::{LineLink, LinkWriter, run_live};
+use live_machine::{LineLink, LinkWriter, admits, run_live, tell_work};
 use machine_folder::{Disk, folder_bundle};
 use pinball_shell::{Failure, ShellFault, Verdict, load_bundle, status};
-use row_devices::{RowDevice, device_of};
-use std::alloc::{AllocError, Global};
+use row_devices::devices_of;
 use std::io::{self, BufWriter};
 use std::process::ExitCode;
 use std::rt::{Env, Files};
@@ -18,8 +17,8 @@ const ANSWER_ROOM: usize = 65_536;
 
 fn main(rt: HostRuntime) -> ExitCode {
     match asked(&rt) {
-        Ok(folder) => {
-            let answer = answer(&rt, folder.as_str());
+        Ok(ask) => {
+            let answer = answer(&rt, &ask);
             if let Err(failure) = &answer {
                 let _ = failure.write(&mut io::writer(&rt.stderr()));
             }
@@ -32,40 +31,48 @@ fn main(rt: HostRuntime) -> ExitCode {
     }
 }
 
-/// The folder that the words after the program's name ask for.
-fn asked<R: Env + AllocGlobal>(rt: &R) -> Result<String, AskFault> {
+/// What the words after the program's name ask for.
+fn asked<R: Env + AllocGlobal>(rt: &R) -> Result<LiveAsk, AskFault> {
     live_command(rt.alloc(), program_words(rt)?)
 }
 
-/// Loads the configuration of the folder, and runs its machine.
+/// Loads the configuration of the folder, and does what is asked for.
 fn answer<R: Files + Input + Print + AllocGlobal>(
     rt: &R,
-    folder: &str,
+    ask: &LiveAsk,
 ) -> Result<Verdict, Failure> {
-    let bundle = folder_bundle(rt.alloc(), &Disk(rt), folder)?;
+    let bundle = folder_bundle(rt.alloc(), &Disk(rt), ask.folder())?;
     match load_bundle(rt.alloc(), &bundle, &mut io::writer(rt))? {
-        Some(checked) => Ok(run(rt, &checked)?),
+        Some(checked) => Ok(serve(rt, ask, &checked)?),
         None => Ok(Verdict::Refused),
     }
 }
 
-/// Runs the machine of a plan. Its board is in memory.
-fn run<R: Input + Print + AllocGlobal>(rt: &R, checked: &Checked) -> Result<Verdict, ShellFault> {
+/// Tells the work bound, or runs the machine.
+fn serve<R: Input + Print + AllocGlobal>(
+    rt: &R,
+    ask: &LiveAsk,
+    checked: &Checked,
+) -> Result<Verdict, ShellFault> {
+    match ask {
+        LiveAsk::Work { .. } => tell_work(rt.alloc(), checked, &mut io::writer(rt)),
+        LiveAsk::Run { any_work, .. } => run(rt, checked, *any_work),
+    }
+}
+
+/// Runs the machine of a plan, unless its work bound is too much. Its board is in memory.
+fn run<R: Input + Print + AllocGlobal>(
+    rt: &R,
+    checked: &Checked,
+    any_work: bool,
+) -> Result<Verdict, ShellFault> {
+    if !any_work && !admits(rt.alloc(), checked, &mut io::writer(rt))? {
+        return Ok(Verdict::Refused);
+    }
     let link = LineLink::new(rt.alloc(), rt.reader(), io::writer(rt))?;
     let wire = BufWriter::with_capacity(rt.alloc(), ANSWER_ROOM, LinkWriter { link });
     let mut wire = wire.map_err(|_| ShellFault::NoMemory)?;
-    let devices = devices_of(rt.alloc(), checked)?;
     let board = MemoryBoard::new(rt.alloc())?;
+    let devices = devices_of(rt.alloc(), checked.plan().rows())?;
     run_live(rt.alloc(), checked, devices, board, &mut wire)
-}
-
-/// The devices of a plan, one for each row.
-fn devices_of(alloc: Global, checked: &Checked) -> Result<Vec<RowDevice>, AllocError> {
-    let mut devices = Vec::new(alloc);
-    for row in checked.plan().rows() {
-        if let Some(device) = device_of(row) {
-            devices.push(device)?;
-        }
-    }
-    Ok(devices)
 }

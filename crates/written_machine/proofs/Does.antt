@@ -16,7 +16,7 @@ use Rattle.mode_stack.specs.{declared.phase.ModeState.ModeState, Modes.{needs_ga
 use Rattle.mode_stack.specs.ModeStep.{starts, started, stopped, stop_answer}
 use Rattle.player_game.{specs.GameStep.{GameState, held_if, released, more_balls}, proofs.StayFew.players_stay_few}
 use Rattle.player_game.specs.{Players.{PlayersState, after_change}, Choices.AreFew}
-use Rattle.cascade_rank.{proofs.Within.mode_event-within, specs.Cost.{Cost, Lines, Both, price, each_of}}
+use Rattle.cascade_rank.{proofs.Within.mode_event-within, specs.Cost.{Cost, price, each_of}}
 use Rattle.switch_core.specs.Switches.{all_idle}
 use Rattle.event_queue.specs.declared.queue.Posted.{Posted}
 use Rattle.coil_guard.specs.declared.{command.Command.Command, state.CoilState.CoilState}
@@ -28,13 +28,8 @@ use Rattle.ball_devices.specs.Ledger as ledgers
 use Rattle.ball_devices.specs.Bookings.{LedgerCall, after_call, booked, can_book}
 use Rattle.written_machine.specs.declared.line.Happening.TheVariants as lines
 use Rattle.written_machine.specs.Machine.{Machine, write, post, set_ledger, counts_of, leave_out, book, set_mode, set_game, has_game, is_post, post_if, start_mode, stop_mode, all_do, world_of, device_state, device_at, called}
-use Rattle.written_machine.specs.{Devices.HasDevices, StimulusCost.weigh}
+use Rattle.written_machine.specs.{Devices.HasDevices, Spent.each_now, StimulusCost.weigh}
 use Rattle.written_machine.specs.Moves.{Move, Wrote, Sent, Switched, Began, Ended, Marked, Released, Turned, Asked, Booked, Varied, Stepped, AddedBalls, do_move, cost_of_move, MayHold, IsListed, Licence, MayDo, Does, quiet, moved, both, less, Grows}
-
--- what these cost one after another, if each finds the state that the one before it leaves
-abbrev pub each_now : {X : Type 0} → (X → Machine → Machine) → (X → Machine → Cost) → List X → Machine → Cost
-each_now f cost [] s = Lines 0
-each_now f cost (x ∷ xs) s = Both (cost x s) (each_now f cost xs (f x s))
 
 module _ (plan : PlanView) (may : Move → Type 0) where
   -- what each allowed move keeps, they all keep

@@ -3,7 +3,9 @@ pub mod Does
 pub mod Parts
 pub mod Drains
 pub mod Pricing
+pub mod Splits
 pub mod Growth
+pub mod Appends
 pub mod Order
 pub mod Keeps
 pub mod Moments

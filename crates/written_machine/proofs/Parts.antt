@@ -5,18 +5,18 @@ use Rattle.std.proofs.lemmas.{Bool.cases_lt, List.{get_or_past, Sorted.All-permu
 use Rattle.std.proofs.lemmas.List.Elements.{All-get_or, All-nil, filter_passes, Contains-get_or}
 use Rattle.plan_tables.specs.PlanView.{PlanView, act_of_listener, actions_of, coil_numbers, listeners_of, no_row, no_switch, no_binding, switch_at, posts_of, actions_at, binding_at, is_owner, list_of_row, game_event, may_hold_ball_end, mode_event, row_at, row_numbers, rows_of, target_of, work_of, act_told, multiball_rows}
 use Rattle.plan_tables.specs.Valid.{HasEntries, HasGame, IsEventWithin, IsActionWithin, IsTargetWithin, IsWorkAt}
-use Rattle.plan_tables.specs.declared.entries.{EventId.EventId, SwitchId.SwitchId, ModeId.ModeId, Listener.Listener}
-use Rattle.plan_tables.specs.declared.entries.{ListId.ListId, Owner.Owner, Action.Action, CoilId.CoilId}
-use Rattle.plan_tables.specs.declared.entries.{BindingId.BindingId, VariableId.VariableId}
+use Rattle.plan_tables.specs.declared.entries.{EventId.EventId, ModeId.ModeId, ListId.ListId, CoilId.CoilId}
+use Rattle.plan_tables.specs.{declared.entries.{SwitchId.SwitchId, BindingId.BindingId}, Devices.list_count}
+use Rattle.plan_tables.specs.declared.entries.{Owner.Owner, Action.Action, VariableId.VariableId}
 use Rattle.plan_tables.specs.declared.entries.ModeEvent.TheVariants.{WillStart, Starting, Started, Stopping, Stopped}
 use Rattle.plan_tables.specs.declared.entries.Work.{Work, TheVariants.{Nothing, Mode, Game}}
 use Rattle.plan_tables.specs.declared.entries.GameEvent.{GameEvent, TheVariants.{BallDrain, BallEnded}}
-use Rattle.player_game.specs.{GameStep.{ends_ball, is_ball_on, in_play, missing, more_balls}, Choices.is_drain}
+use Rattle.player_game.specs.GameStep.{ends_ball, is_ball_on, in_play, missing, more_balls}
 use Rattle.player_game.specs.Players.{is_met, changed_to, after_change as players_after_change, score_of}
 use Rattle.plan_tables.specs.declared.entries.Owner.TheVariants as owners
 use Rattle.plan_tables.specs.declared.entries.Action.TheVariants.{Post, Pulse, Enable, Disable, Change as ChangeVariable, Enter, Leave, Lose, Arrive, AddBalls, Request}
 use Rattle.plan_tables.specs.declared.entries.Target.{Target, TheVariants.{Run, Start, Stop, Act}}
-use Rattle.plan_tables.specs.{Devices.list_count, declared.devices.{RowId.RowId, Act.TheVariants.{End, Save}}}
+use Rattle.plan_tables.specs.declared.devices.{RowId.RowId, Act.TheVariants.{End, Save}}
 use Rattle.plan_tables.specs.declared.devices.BallTarget.TheVariants.{Playfield, Device}
 use Rattle.ball_devices.specs.{declared.booking.Origin.{Origin, TheVariants.Awaited}, Ledger.origin_of}
 use Rattle.ball_devices.specs.Bookings as calls_of_ledger
@@ -29,18 +29,19 @@ use Rattle.switch_core.specs.{declared.change.Change.Change, SwitchStep.{changed
 use Rattle.switch_core.specs.Switches.{kind_at, state_at, after_change, reported_by_change, accept, reported}
 use Rattle.mode_stack.specs.{ModeStep.{entered, ended}, Modes.mode_state}
 use Rattle.written_machine.specs.declared.line.Happening.TheVariants as lines
-use Rattle.cascade_rank.specs.Cost.{Cost, Lines, Both, Greater, each_of, cost_of_post, cost_of_drain, cost_of_target, cost_of_binding, led_by, led_by_stopped, cost_if_led, cost_of_choice}
+use Rattle.cascade_rank.specs.Cost.{Cost, Lines, Both, each_of, cost_of_post, cost_of_drain, cost_of_binding, led_by_stopped, cost_if_led}
 use Rattle.cascade_rank.proofs.{Games.{game_event-below, game_has-event}, Within.{posts-below, mode_event-within}}
 use Rattle.event_queue.specs.Handlers.{IsHandlerOrder}
 use Rattle.plan_tables.specs.declared.devices.Telling.{Telling, TheVariants.{Arrived, Wanted}}
-use Rattle.written_machine.specs.Machine.{Machine, write, post, post_if, release_ball_end, drop_hold, ask_coil, release_coil, release_coils, set_switches, set_mode, set_device, set_players, all_do, tell_change, post_game, write_final, write_finals, do_game, book, drain_if, after_entry, do_action_by, do_list_by, do_answer_by, call_device_by, tell_nobody, told_device, tell_device, tell_first, do_list, do_answer, world_of, device_at, called, call_device, call_devices, tell_listener, tell_listeners, confirm_on_playfield, ask_ball, do_target, do_handler, do_accepted, do_if_accepted, want_balls, step_game, end_multiballs, drain_ball, first_active_save, set_game}
+use Rattle.written_machine.specs.Machine.{Machine, write, post, post_if, release_ball_end, drop_hold, ask_coil, release_coil, release_coils, set_switches, set_mode, set_device, set_players, all_do, tell_change, post_game, write_final, write_finals, do_game, book, drain_if, after_entry, do_action_by, do_list_by, do_answer_by, call_device_by, tell_nobody, told_device, tell_device, tell_first, do_list, do_answer, world_of, device_at, called, call_device, call_devices, tell_listener, tell_listeners, confirm_on_playfield, ask_ball, do_target, do_handler, do_accepted, do_if_accepted, want_balls, step_game, end_multiballs, drain_ball, set_game}
 use Rattle.written_machine.specs.EventStep.{do_before, do_after, handlers_in}
 use Rattle.written_machine.specs.Run.{switch, device, Stimulus, SwitchChange, Alarm, Wait, moment_of, arrived, begin}
-use Rattle.written_machine.specs.{StimulusCost.cost_of_stimulus, CoilActions.{KeepsLimits, ActionsKeepLimits}}
+use Rattle.written_machine.specs.CoilActions.{KeepsLimits, ActionsKeepLimits}
 use Rattle.written_machine.specs.Devices.{ActsAreOwn, IsOwnAct, IsOwnListener}
 use Rattle.written_machine.specs.FreePosts.{IsFree, IsFreeAction, IsFreeSwitch, PostsAreFree}
-use Rattle.written_machine.proofs.{Feeding.told_device-is, Listed.{binding-among, row-among, enable-listed}}
-use Rattle.written_machine.proofs.Does.{each_now, all_do-does, all_do-does_now, does-weaker}
+use Rattle.written_machine.proofs.{Feeding.told_device-is, Does.{all_do-does, all_do-does_now, does-weaker}}
+use Rattle.written_machine.proofs.Listed.{binding-among, row-among, enable-listed}
+use Rattle.written_machine.specs.Spent.{each_now, wanted_now, action_now_by, list_now_by, answer_now_by, call_now_by, nobody_now, told_now, telling_now, list_now, answer_now, call_now, target_now, handler_now, calls_now, listener_now, listeners_now, playfield_now, accepted_now, if_accepted_now, stimulus_now, release_now, releases_now, before_now, finals_now, request_now, step_game_now, ends_now, drained_now, game_now, after_now, entry_now}
 use Rattle.written_machine.specs.Moves.{Move, Wrote, Sent, Switched, Began, Ended, Marked, Released, Turned, Asked, Booked, Varied, Stepped, AddedBalls, step_now, do_move, MayHold, Licence, MayDo, IsFreeThere, Does, quiet, moved, both, less, IsMachine, ordinary, MayHandle, Begins, MayBegin, working, MayWork}
 use Rattle.player_game.proofs.DrainEvent.{drain-is}
 
@@ -115,152 +116,6 @@ module _ (plan : PlanView) where
   abbrev pub cost_of_handler : BindingId → Cost
   cost_of_handler place = cost_of_binding plan (binding_at plan place)
 
-  -- ---- what things cost in a state
-
-  -- if `tell` costs what `tell_now` says
-  module _ (tell : Telling → Machine → Machine) (tell_now : Telling → Machine → Cost) where
-    abbrev pub wanted_now : ℕ → Machine → Cost
-    wanted_now zero s = Lines 0
-    wanted_now (suc n) s = tell_now (Wanted (suc n)) s
-
-    abbrev pub action_now_by : Owner → Action → Machine → Cost
-    action_now_by owner (Post e) s = cost_of_post e
-    action_now_by owner (ChangeVariable v action n e) s = Both (Lines 1) (cost_of_post e)
-    action_now_by owner (Enter r e drain) s =
-        Both (Lines 1) (Both (cost_of_post e) (Greater (cost_of_drain plan drain) (tell_now (Arrived (Device r)) (post owner e (book owner (calls_of_ledger.Enter r) s)))))
-    action_now_by owner (Request n) s = tell_now (Wanted n) s
-    action_now_by owner (AddBalls n) s = Both (Lines 0) (wanted_now (missing n s.game) (set_game (more_balls n s.game) s))
-    action_now_by owner _ s = Lines 1
-
-    abbrev pub list_now_by : Owner → ListId → Machine → Cost
-    list_now_by owner l s = each_now (do_action_by plan tell owner) (action_now_by owner) (actions_at plan l) s
-
-    abbrev pub answer_now_by : RowId → List ℕ → Machine → Cost
-    answer_now_by r lists s =
-        each_now (λ k. do_list_by plan tell (row_at plan r).owner (list_of_row plan r k)) (λ k. list_now_by (row_at plan r).owner (list_of_row plan r k)) lists s
-
-    -- a device that is called costs what it answers
-    abbrev pub call_now_by : Call → RowId → Machine → Cost
-    call_now_by call r s = Both (Lines 0) (answer_now_by r (called plan call r s).1 (set_device r (called plan call r s).0 s))
-
-  abbrev pub nobody_now : Telling → Machine → Cost
-  nobody_now telling s = Lines 0
-
-  -- a device that is told something
-  abbrev pub told_now : Telling → Option RowId → Machine → Cost
-  told_now telling None s = Lines 0
-  told_now telling (Some r) s = call_now_by tell_nobody nobody_now (calls.Act (act_told telling)) r s
-
-  abbrev pub telling_now : Telling → Machine → Cost
-  telling_now telling s = told_now telling (told_device plan telling s) s
-
-  abbrev pub list_now : Owner → ListId → Machine → Cost
-  list_now = list_now_by (tell_first plan) telling_now
-
-  abbrev pub answer_now : RowId → List ℕ → Machine → Cost
-  answer_now = answer_now_by (tell_first plan) telling_now
-
-  abbrev pub call_now : Call → RowId → Machine → Cost
-  call_now = call_now_by (tell_first plan) telling_now
-
-  abbrev pub target_now : Owner → Target → Machine → Cost
-  target_now owner (Run l) s = list_now owner l s
-  target_now owner (Start m) s = cost_of_target plan (Start m)
-  target_now owner (Stop m) s = cost_of_target plan (Stop m)
-  target_now owner (Act r act) s = call_now (calls.Act act) r s
-
-  -- if its condition is not met, a handler costs nothing
-  abbrev pub handler_now : BindingId → Machine → Cost
-  handler_now place s =
-      if is_met plan s.players (binding_at plan place).condition then target_now (binding_at plan place).owner (binding_at plan place).target s else Lines 0
-
-  -- all devices of a mode
-  abbrev pub calls_now : Call → ModeId → Machine → Cost
-  calls_now call m s = each_now (call_device plan call) (call_now call) (rows_of plan (owners.Mode m)) s
-
-  -- the devices that listen to a switch, and its acceptance
-  abbrev pub listener_now : Bool → Listener → Machine → Cost
-  listener_now active l s = call_now (calls.Act (act_of_listener active l)) l.row s
-
-  abbrev pub listeners_now : Change → Machine → Cost
-  listeners_now a s = each_now (tell_listener plan a.active) (listener_now a.active) (listeners_of plan a.switch) s
-
-  -- a ball that may have arrived on the playfield
-  abbrev pub playfield_now : Change → Machine → Cost
-  playfield_now a s = if a.active && (switch_at plan a.switch).confirms_playfield then telling_now (Arrived Playfield) s else Lines 0
-
-  abbrev pub accepted_now : Change → Machine → Cost
-  accepted_now a s =
-      let begun = write owners.Machine (lines.Switch a.switch a.active) s in
-      Both (Lines 1)
-      (Both (listeners_now a begun) (Both (playfield_now a (tell_listeners plan a begun)) (each_of cost_of_post (posts_of plan a.switch a.active))))
-
-  abbrev pub if_accepted_now : Option Change → Machine → Cost
-  if_accepted_now None s = Lines 0
-  if_accepted_now (Some a) s = accepted_now a s
-
-  -- what the beginning of a stimulus costs
-  abbrev pub stimulus_now : Stimulus → Machine → Cost
-  stimulus_now (SwitchChange at n level) s = if_accepted_now (reported_by_change n level at s.switches) (set_switches (after_change n level at s.switches) (arrived at s))
-  stimulus_now (Alarm at (switch n)) s = accepted_now (reported (accept n s.switches) n) (set_switches (accept n s.switches) (arrived at s))
-  stimulus_now (Alarm at (device r)) s = call_now calls.Fire r (arrived at s)
-  stimulus_now (Wait at) s = cost_of_stimulus plan s (Wait at)
-
-  -- the coils that a mode holds
-  abbrev pub release_now : ModeId → CoilId → Machine → Cost
-  release_now m coil s = if is_held_by (owners.Mode m) (coil_at s.coils coil) then Lines 1 else Lines 0
-
-  abbrev pub releases_now : ModeId → Machine → Cost
-  releases_now m s = each_now (release_coil (owners.Mode m)) (release_now m) (coil_numbers plan) s
-
-  -- and the machine's work before the handlers of an event, and after them
-  abbrev pub before_now : Work → Machine → Cost
-  before_now Nothing s = Lines 0
-  before_now (Mode m WillStart) s = Lines 0
-  before_now (Mode m Starting) s = Lines 0
-  before_now (Mode m Started) s = Both (Lines 0) (calls_now calls.ModeStart m (set_mode m (entered (mode_state s.modes m)) s))
-  before_now (Mode m Stopping) s = Lines 0
-  before_now (Mode m Stopped) s = Lines 0
-  before_now (Game which) s = Lines 0
-
-  -- a line for each player, if scores are told
-  abbrev pub finals_now : Bool → Machine → Cost
-  finals_now true s = each_of (λ player. Lines 1) (range_with_len 1 (length s.players.players))
-  finals_now false s = Lines 0
-
-  -- one ball more is wanted, if a ball is asked for
-  abbrev pub request_now : Bool → Machine → Cost
-  request_now asks s = if asks then telling_now (Wanted 1) s else Lines 0
-
-  -- what an event of the game leads to
-  abbrev pub step_game_now : GameEvent → Machine → Cost
-  step_game_now which s =
-      let step = step_now plan which s in
-      let stepped = do_move plan (Stepped which) s in
-      Both (Lines 0) (Both (finals_now step.finals stepped) (Both (request_now step.requests (write_finals plan step.finals stepped)) (cost_of_choice plan step.posts)))
-
-  -- the multiballs, if they end
-  abbrev pub ends_now : Machine → Cost
-  ends_now s = if in_play s.game == 1 then each_now (call_device plan (calls.Act End)) (call_now (calls.Act End)) (multiball_rows plan) s else Lines 0
-
-  -- a ball that has drained
-  abbrev pub drained_now : Option RowId → Machine → Cost
-  drained_now None s = Both (step_game_now BallDrain s) (ends_now (step_game plan BallDrain s))
-  drained_now (Some r) s = call_now (calls.Act Save) r s
-
-  abbrev pub game_now : GameEvent → Machine → Cost
-  game_now which s = if is_drain which then drained_now (first_active_save plan s) s else step_game_now which s
-
-  abbrev pub after_now : Work → Machine → Cost
-  after_now Nothing s = cost_if_led (led_by plan Nothing)
-  after_now (Mode m WillStart) s = cost_if_led (led_by plan (Mode m WillStart))
-  after_now (Mode m Starting) s = cost_if_led (led_by plan (Mode m Starting))
-  after_now (Mode m Started) s = cost_if_led (led_by plan (Mode m Started))
-  after_now (Mode m Stopping) s =
-      Both (calls_now calls.ModeStop m s) (Both (releases_now m (call_devices plan calls.ModeStop m s)) (Both (Lines 0) (cost_if_led (led_by plan (Mode m Stopping)))))
-  after_now (Mode m Stopped) s = cost_if_led (led_by plan (Mode m Stopped))
-  after_now (Game which) s = game_now which s
-
   -- what may be done by these owners, if the machine is one of them: ball devices are its own
   module _ (by : Owner → Type 0) (switches : Type 0) (machine : by owners.Machine) where
     abbrev May : Move → Type 0
@@ -300,16 +155,16 @@ module _ (plan : PlanView) where
     module _ (tell : Telling → Machine → Machine) (now : Telling → Machine → Cost) (tells : (telling : Telling) (s : Machine) → Does plan May (now telling s) s (tell telling s)) where
       -- a ball that has entered a device
       does-entry : (owner : Owner) → (ActsAreOwn plan → by owner) → (r : RowId) (drain : Bool) → (HasEntries plan → 0 < length plan.events) → (HasEntries plan → drain ≡ true → HasGame plan) → (origin : Origin) (s : Machine)
-          → Does plan May (Greater (cost_of_drain plan drain) (now (Arrived (Device r)) s)) s (after_entry plan tell owner r drain origin s)
-      does-entry owner may r drain some game Awaited s = less (tells (Arrived (Device r)) s) (λ w. omega arith)
-      does-entry owner may r drain some game _ s = less (does-drain owner may drain some game s) (λ w. omega arith)
+          → Does plan May (entry_now plan tell now r drain origin s) s (after_entry plan tell owner r drain origin s)
+      does-entry owner may r drain some game Awaited s = tells (Arrived (Device r)) s
+      does-entry owner may r drain some game _ s = does-drain owner may drain some game s
 
       -- balls that are wanted, if any
-      does-want : (n : ℕ) (s : Machine) → Does plan May (wanted_now tell now n s) s (want_balls tell n s)
+      does-want : (n : ℕ) (s : Machine) → Does plan May (wanted_now plan tell now n s) s (want_balls tell n s)
       does-want zero s = quiet
       does-want (suc n) s = tells (Wanted (suc n)) s
 
-      does-action_by : (owner : Owner) → (ActsAreOwn plan → by owner) → (a : Action) (s : Machine) → IsFit owner a → Does plan May (action_now_by tell now owner a s) s (do_action_by plan tell owner a s)
+      does-action_by : (owner : Owner) → (ActsAreOwn plan → by owner) → (a : Action) (s : Machine) → IsFit owner a → Does plan May (action_now_by plan tell now owner a s) s (do_action_by plan tell owner a s)
       does-action_by owner may (Post e) s h = moved (Sent owner e) s (may, h.within, λ valid free. inl (h.free free))
       does-action_by owner may (Pulse coil ms power) s h = moved (Asked owner (commands.Pulse coil ms power)) s (may, h.limits, tt)
       does-action_by owner may (Enable coil power) s h = moved (Asked owner (commands.Enable coil power)) s (may, h.limits, may-hold owner coil power h.own)
@@ -329,9 +184,9 @@ module _ (plan : PlanView) where
       does-action_by owner may (Request n) s h = tells (Wanted n) s
       does-action_by owner may (AddBalls n) s h = both (moved (AddedBalls n) s tt) (does-want (missing n s.game) (set_game (more_balls n s.game) s))
 
-      does-list_by : (owner : Owner) → (ActsAreOwn plan → by owner) → (l : ListId) → All (IsItsOwn owner) (actions_at plan l) → (s : Machine) → Does plan May (list_now_by tell now owner l s) s (do_list_by plan tell owner l s)
+      does-list_by : (owner : Owner) → (ActsAreOwn plan → by owner) → (l : ListId) → All (IsItsOwn owner) (actions_at plan l) → (s : Machine) → Does plan May (list_now_by plan tell now owner l s) s (do_list_by plan tell owner l s)
       does-list_by owner may l own s =
-          all_do-does_now plan May (do_action_by plan tell owner) (action_now_by tell now owner) (IsFit owner) (does-action_by owner may) (actions_at plan l)
+          all_do-does_now plan May (do_action_by plan tell owner) (action_now_by plan tell now owner) (IsFit owner) (does-action_by owner may) (actions_at plan l)
           (λ k d there. record {
             within = λ entries. of_list (IsActionWithin plan) entries.lists l k d there;
             free = λ free. of_list (IsFreeAction plan) free.lists l k d there;
@@ -340,55 +195,55 @@ module _ (plan : PlanView) where
           }) s
 
       does-answer_by : (r : RowId) → (ActsAreOwn plan → by (row_at plan r).owner) → (lists : List ℕ) → All (λ k. k < list_count (row_at plan r).settings) lists → (s : Machine)
-          → Does plan May (answer_now_by tell now r lists s) s (do_answer_by plan tell r lists s)
+          → Does plan May (answer_now_by plan tell now r lists s) s (do_answer_by plan tell r lists s)
       does-answer_by r may lists below s = search (rules, all_do-does_now, does-list_by, row-own)
 
-      does-call_by : (call : Call) (r : RowId) → (ActsAreOwn plan → by (row_at plan r).owner) → (s : Machine) → Does plan May (call_now_by tell now call r s) s (call_device_by plan tell call r s)
+      does-call_by : (call : Call) (r : RowId) → (ActsAreOwn plan → by (row_at plan r).owner) → (s : Machine) → Does plan May (call_now_by plan tell now call r s) s (call_device_by plan tell call r s)
       does-call_by call r may s =
           both (moved (Turned call r) s may)
           (does-answer_by r may (called plan call r s).1 (lists_are_of_the_row (row_at plan r).settings call s.moment (world_of s) (device_at s r)) (set_device r (called plan call r s).0 s))
 
     -- a device that is told something tells nobody
-    does-told_call : (call : Call) (r : RowId) → (ActsAreOwn plan → by (row_at plan r).owner) → (s : Machine) → Does plan May (call_now_by tell_nobody nobody_now call r s) s (call_device_by plan tell_nobody call r s)
-    does-told_call = does-call_by tell_nobody nobody_now (λ telling s. quiet)
+    does-told_call : (call : Call) (r : RowId) → (ActsAreOwn plan → by (row_at plan r).owner) → (s : Machine) → Does plan May (call_now_by plan tell_nobody (nobody_now plan) call r s) s (call_device_by plan tell_nobody call r s)
+    does-told_call = does-call_by tell_nobody (nobody_now plan) (λ telling s. quiet)
 
-    pub does-telling : (telling : Telling) (s : Machine) → Does plan May (telling_now telling s) s (tell_first plan telling s)
+    pub does-telling : (telling : Telling) (s : Machine) → Does plan May (telling_now plan telling s) s (tell_first plan telling s)
     does-telling telling s = by_first (told_device plan telling s) refl
       where
-        by_first : (o : Option RowId) → told_device plan telling s ≡ o → Does plan May (told_now telling o s) s (tell_device plan telling o s)
+        by_first : (o : Option RowId) → told_device plan telling s ≡ o → Does plan May (told_now plan telling o s) s (tell_device plan telling o s)
         by_first None is = quiet
         by_first (Some r) is = does-told_call (calls.Act (act_told telling)) r (λ own. subst by (sym ((told_device-is plan telling s r is).owner own)) machine) s
 
-    does-list : (owner : Owner) → (ActsAreOwn plan → by owner) → (l : ListId) → All (IsItsOwn owner) (actions_at plan l) → (s : Machine) → Does plan May (list_now owner l s) s (do_list plan owner l s)
-    does-list = does-list_by (tell_first plan) telling_now does-telling
+    does-list : (owner : Owner) → (ActsAreOwn plan → by owner) → (l : ListId) → All (IsItsOwn owner) (actions_at plan l) → (s : Machine) → Does plan May (list_now plan owner l s) s (do_list plan owner l s)
+    does-list = does-list_by (tell_first plan) (telling_now plan) does-telling
 
     -- what a device answers
-    pub does-answer : (r : RowId) → (ActsAreOwn plan → by (row_at plan r).owner) → (lists : List ℕ) → All (λ k. k < list_count (row_at plan r).settings) lists → (s : Machine) → Does plan May (answer_now r lists s) s (do_answer plan r lists s)
-    does-answer = does-answer_by (tell_first plan) telling_now does-telling
+    pub does-answer : (r : RowId) → (ActsAreOwn plan → by (row_at plan r).owner) → (lists : List ℕ) → All (λ k. k < list_count (row_at plan r).settings) lists → (s : Machine) → Does plan May (answer_now plan r lists s) s (do_answer plan r lists s)
+    does-answer = does-answer_by (tell_first plan) (telling_now plan) does-telling
 
     -- a device of an owner by whom it may be
-    pub does-call : (call : Call) (r : RowId) → (ActsAreOwn plan → by (row_at plan r).owner) → (s : Machine) → Does plan May (call_now call r s) s (call_device plan call r s)
-    does-call = does-call_by (tell_first plan) telling_now does-telling
+    pub does-call : (call : Call) (r : RowId) → (ActsAreOwn plan → by (row_at plan r).owner) → (s : Machine) → Does plan May (call_now plan call r s) s (call_device plan call r s)
+    does-call = does-call_by (tell_first plan) (telling_now plan) does-telling
 
     does-target : (owner : Owner) → (ActsAreOwn plan → by owner) → (t : Target) → (HasEntries plan → IsThere t) → (ActsAreOwn plan → IsOwnAct plan owner t)
-        → ((l : ListId) → t ≡ Run l → All (IsItsOwn owner) (actions_at plan l)) → (s : Machine) → Does plan May (target_now owner t s) s (do_target plan owner t s)
+        → ((l : ListId) → t ≡ Run l → All (IsItsOwn owner) (actions_at plan l)) → (s : Machine) → Does plan May (target_now plan owner t s) s (do_target plan owner t s)
     does-target owner may (Run l) there own ran s = does-list owner may l (ran l refl) s
     does-target owner may (Start m) there own ran s = moved (Began m) s there
     does-target owner may (Stop m) there own ran s = moved (Ended m) s there
     does-target owner may (Act r act) there own ran s = does-call (calls.Act act) r (λ acts. subst by (sym (own acts)) (may acts)) s
 
-    pub does-handler : (place : BindingId) (s : Machine) → by (binding_at plan place).owner → Does plan May (handler_now place s) s (do_handler plan place s)
-    does-handler place s may = if_met (is_met plan s.players (binding_at plan place).condition)
+    pub does-handler : (place : BindingId) (s : Machine) → by (binding_at plan place).owner → Does plan May (handler_now plan place s) s (do_handler plan place s)
+    does-handler place s may = both (less quiet (λ w. omega arith)) (if_met (is_met plan s.players (binding_at plan place).condition))
       where
-        met : Does plan May (target_now (binding_at plan place).owner (binding_at plan place).target s) s (do_target plan (binding_at plan place).owner (binding_at plan place).target s)
+        met : Does plan May (target_now plan (binding_at plan place).owner (binding_at plan place).target s) s (do_target plan (binding_at plan place).owner (binding_at plan place).target s)
         met = does-target (binding_at plan place).owner (λ own. may) (binding_at plan place).target (λ entries. target-there entries place) (λ own. target-own own place) (binding-own place) s
 
-        if_met : (b : Bool) → Does plan May (if b then target_now (binding_at plan place).owner (binding_at plan place).target s else Lines 0) s (if b then do_target plan (binding_at plan place).owner (binding_at plan place).target s else s)
+        if_met : (b : Bool) → Does plan May (if b then target_now plan (binding_at plan place).owner (binding_at plan place).target s else Lines 0) s (if b then do_target plan (binding_at plan place).owner (binding_at plan place).target s else s)
         if_met true = met
         if_met false = quiet
 
-    pub does-handlers : (order : List BindingId) → All (λ p. by (binding_at plan p).owner) order → (s : Machine) → Does plan May (each_now (do_handler plan) handler_now order s) s (all_do (do_handler plan) order s)
-    does-handlers order may s = all_do-does_now plan May (do_handler plan) handler_now (λ p. by (binding_at plan p).owner) does-handler order may s
+    pub does-handlers : (order : List BindingId) → All (λ p. by (binding_at plan p).owner) order → (s : Machine) → Does plan May (each_now (do_handler plan) (handler_now plan) order s) s (all_do (do_handler plan) order s)
+    does-handlers order may s = all_do-does_now plan May (do_handler plan) (handler_now plan) (λ p. by (binding_at plan p).owner) does-handler order may s
 
     -- ---- switches
 
@@ -399,22 +254,22 @@ module _ (plan : PlanView) where
         (λ k d there. (λ entries. within entries k d there, λ valid none. inl (free none k d there))) s
 
     -- the devices that listen
-    does-listeners : (a : Change) (s : Machine) → Does plan May (listeners_now a s) s (tell_listeners plan a s)
+    does-listeners : (a : Change) (s : Machine) → Does plan May (listeners_now plan a s) s (tell_listeners plan a s)
     does-listeners a s =
-        all_do-does_now plan May (tell_listener plan a.active) (listener_now a.active) (λ l. ActsAreOwn plan → IsOwnListener plan l)
+        all_do-does_now plan May (tell_listener plan a.active) (listener_now plan a.active) (λ l. ActsAreOwn plan → IsOwnListener plan l)
         (λ l t h. does-call (calls.Act (act_of_listener a.active l)) l.row (λ own. subst by (sym (h own)) machine) t) (listeners_of plan a.switch)
         (λ k d there own. listener-own own a.switch k d there) s
 
     -- a ball that may have arrived on the playfield
-    does-playfield : (a : Change) (s : Machine) → Does plan May (playfield_now a s) s (confirm_on_playfield plan a s)
+    does-playfield : (a : Change) (s : Machine) → Does plan May (playfield_now plan a s) s (confirm_on_playfield plan a s)
     does-playfield a s = by_switch (a.active && (switch_at plan a.switch).confirms_playfield)
       where
-        by_switch : (b : Bool) → Does plan May (if b then telling_now (Arrived Playfield) s else Lines 0) s (if b then tell_first plan (Arrived Playfield) s else s)
+        by_switch : (b : Bool) → Does plan May (if b then telling_now plan (Arrived Playfield) s else Lines 0) s (if b then tell_first plan (Arrived Playfield) s else s)
         by_switch true = does-telling (Arrived Playfield) s
         by_switch false = quiet
 
     -- an acceptance
-    pub does-accepted : (a : Change) (s : Machine) → Does plan May (accepted_now a s) s (do_accepted plan a s)
+    pub does-accepted : (a : Change) (s : Machine) → Does plan May (accepted_now plan a s) s (do_accepted plan a s)
     does-accepted a s =
         let begun = write owners.Machine (lines.Switch a.switch a.active) s in
         let heard = tell_listeners plan a begun in
@@ -424,16 +279,16 @@ module _ (plan : PlanView) where
         (does-posts owners.Machine (λ own. machine) (posts_of plan a.switch a.active) (λ entries. posts-below plan entries a.switch a.active) (λ free. posts-free free a.switch a.active)
         (confirm_on_playfield plan a heard))))
 
-    pub does-if_accepted : (o : Option Change) (s : Machine) → Does plan May (if_accepted_now o s) s (do_if_accepted plan o s)
+    pub does-if_accepted : (o : Option Change) (s : Machine) → Does plan May (if_accepted_now plan o s) s (do_if_accepted plan o s)
     does-if_accepted None s = quiet
     does-if_accepted (Some a) s = does-accepted a s
 
   -- the handlers of an event, from the state before them on
-  pub does-order : (s : Machine) (e : EventId) (order : List BindingId) → IsHandlerOrder plan (handlers_in plan s e) order → Does plan (MayHandle plan s) (each_now (do_handler plan) handler_now order s) s (all_do (do_handler plan) order s)
+  pub does-order : (s : Machine) (e : EventId) (order : List BindingId) → IsHandlerOrder plan (handlers_in plan s e) order → Does plan (MayHandle plan s) (each_now (do_handler plan) (handler_now plan) order s) s (all_do (do_handler plan) order s)
   does-order s e order h = search (rules, does-handlers, All-permutation, filter_passes)
 
   -- what a stimulus does once it has arrived
-  pub does-begin : (stimulus : Stimulus) (s : Machine) → Does plan (MayBegin plan stimulus) (stimulus_now stimulus s) (arrived (moment_of stimulus) s) (begin plan stimulus s)
+  pub does-begin : (stimulus : Stimulus) (s : Machine) → Does plan (MayBegin plan stimulus) (stimulus_now plan stimulus s) (arrived (moment_of stimulus) s) (begin plan stimulus s)
   does-begin (SwitchChange at n level) s =
       less (both (moved (Switched n (changed (kind_at s.switches n) at level (state_at s.switches n))) (arrived at s) tt)
       (does-if_accepted IsMachine (Unit {0}) refl (reported_by_change n level at s.switches) (set_switches (after_change n level at s.switches) (arrived at s)))) (λ w. omega arith)
@@ -446,9 +301,9 @@ module _ (plan : PlanView) where
   -- ---- the machine's work
 
   -- the coils that a mode holds are released
-  pub does-releases : (l : Licence) (m : ModeId) → (ActsAreOwn plan → l.by (owners.Mode m)) → (s : Machine) → Does plan (MayDo plan l) (releases_now m s) s (release_coils plan (owners.Mode m) s)
+  pub does-releases : (l : Licence) (m : ModeId) → (ActsAreOwn plan → l.by (owners.Mode m)) → (s : Machine) → Does plan (MayDo plan l) (releases_now plan m s) s (release_coils plan (owners.Mode m) s)
   does-releases l m may s =
-      all_do-does_now plan (MayDo plan l) (release_coil (owners.Mode m)) (release_now m) (λ coil. Unit {0})
+      all_do-does_now plan (MayDo plan l) (release_coil (owners.Mode m)) (release_now plan m) (λ coil. Unit {0})
       (λ coil t h. one coil t (is_held_by (owners.Mode m) (coil_at t.coils coil))) (coil_numbers plan) (λ k d there. tt) s
     where
       one : (coil : CoilId) (t : Machine) (held : Bool) → Does plan (MayDo plan l) (if held then Lines 1 else Lines 0) t (if held then ask_coil (owners.Mode m) (commands.Disable coil) t else t)
@@ -456,9 +311,9 @@ module _ (plan : PlanView) where
       one coil t false = quiet
 
   -- the devices of a mode, of events at which the machine does nothing
-  pub does-calls : (by : Owner → Type 0) → by owners.Machine → (call : Call) (m : ModeId) → by (owners.Mode m) → (s : Machine) → Does plan (MayDo plan (ordinary plan by ⊥)) (calls_now call m s) s (call_devices plan call m s)
+  pub does-calls : (by : Owner → Type 0) → by owners.Machine → (call : Call) (m : ModeId) → by (owners.Mode m) → (s : Machine) → Does plan (MayDo plan (ordinary plan by ⊥)) (calls_now plan call m s) s (call_devices plan call m s)
   does-calls by machine call m may s =
-      all_do-does_now plan (MayDo plan (ordinary plan by ⊥)) (call_device plan call) (call_now call) (λ r. is_owner (owners.Mode m) (row_at plan r).owner ≡ true)
+      all_do-does_now plan (MayDo plan (ordinary plan by ⊥)) (call_device plan call) (call_now plan call) (λ r. is_owner (owners.Mode m) (row_at plan r).owner ≡ true)
       (λ r t h. does-call by ⊥ machine call r (λ own. subst by (is_owner-same (owners.Mode m) (row_at plan r).owner h) may) t)
       (rows_of plan (owners.Mode m)) (filter_passes (λ r. is_owner (owners.Mode m) (row_at plan r).owner) (row_numbers plan)) s
 
@@ -466,10 +321,10 @@ module _ (plan : PlanView) where
   works : {c : Cost} {s t : Machine} → Does plan (MayDo plan (ordinary plan (λ owner. Unit {0}) ⊥)) c s t → Does plan (MayWork plan) c s t
   works = search (rules, does-weaker)
 
-  works-calls : (call : Call) (m : ModeId) (s : Machine) → Does plan (MayWork plan) (calls_now call m s) s (call_devices plan call m s)
+  works-calls : (call : Call) (m : ModeId) (s : Machine) → Does plan (MayWork plan) (calls_now plan call m s) s (call_devices plan call m s)
   works-calls call m s = works (does-calls (λ owner. Unit {0}) tt call m tt s)
 
-  pub does-before : (w : Work) (s : Machine) → Does plan (MayWork plan) (before_now w s) s (do_before plan w s)
+  pub does-before : (w : Work) (s : Machine) → Does plan (MayWork plan) (before_now plan w s) s (do_before plan w s)
   does-before Nothing s = quiet
   does-before (Mode m WillStart) s = quiet
   does-before (Mode m Starting) s = quiet
@@ -479,18 +334,18 @@ module _ (plan : PlanView) where
   does-before (Game which) s = quiet
 
   -- the scores of all players are told, if this holds
-  pub does-finals : (told : Bool) (s : Machine) → Does plan (MayWork plan) (finals_now told s) s (write_finals plan told s)
+  pub does-finals : (told : Bool) (s : Machine) → Does plan (MayWork plan) (finals_now plan told s) s (write_finals plan told s)
   does-finals true s =
       all_do-does plan (MayWork plan) (write_final plan) (λ player. Lines 1) (λ player. Unit {0}) (λ player t h. moved (Wrote owners.Machine (lines.Final player (score_of plan t.players player))) t (λ own. tt, tt, tt, tt))
       (range_with_len 1 (length s.players.players)) (λ k d there. tt) s
   does-finals false s = quiet
 
-  pub does-request : (by : Owner → Type 0) → by owners.Machine → (asks : Bool) (s : Machine) → Does plan (MayDo plan (ordinary plan by ⊥)) (request_now asks s) s (ask_ball plan asks s)
+  pub does-request : (by : Owner → Type 0) → by owners.Machine → (asks : Bool) (s : Machine) → Does plan (MayDo plan (ordinary plan by ⊥)) (request_now plan asks s) s (ask_ball plan asks s)
   does-request by machine true s = does-telling by ⊥ machine (Wanted 1) s
   does-request by machine false s = quiet
 
   -- the game goes on by an event that has this work
-  pub does-step : (which : GameEvent) (e : EventId) → work_of plan e ≡ Game which → (s : Machine) → Does plan (MayWork plan) (step_game_now which s) s (step_game plan which s)
+  pub does-step : (which : GameEvent) (e : EventId) → work_of plan e ≡ Game which → (s : Machine) → Does plan (MayWork plan) (step_game_now plan which s) s (step_game plan which s)
   does-step which e is s =
       let step = step_now plan which s in
       let stepped = do_move plan (Stepped which) s in
@@ -501,24 +356,24 @@ module _ (plan : PlanView) where
       (λ other t h. moved (Sent owners.Machine (game_event plan other)) t (λ own. tt, λ entries. game_event-below plan entries (game_has-event plan entries e which is) other, tt)) step.posts (λ k d there. tt) (ask_ball plan step.requests written))))
 
   -- devices of any owners are told by the machine's work
-  works-call : (call : Call) (r : RowId) (s : Machine) → Does plan (MayWork plan) (call_now call r s) s (call_device plan call r s)
+  works-call : (call : Call) (r : RowId) (s : Machine) → Does plan (MayWork plan) (call_now plan call r s) s (call_device plan call r s)
   works-call call r s = works (does-call (λ owner. Unit {0}) ⊥ tt call r (λ own. tt) s)
 
   -- the multiballs end, if only one ball is left
-  does-ends : (s : Machine) → Does plan (MayWork plan) (ends_now s) s (end_multiballs plan s)
+  does-ends : (s : Machine) → Does plan (MayWork plan) (ends_now plan s) s (end_multiballs plan s)
   does-ends s = by (in_play s.game == 1)
     where
-      by : (b : Bool) → Does plan (MayWork plan) (if b then each_now (call_device plan (calls.Act End)) (call_now (calls.Act End)) (multiball_rows plan) s else Lines 0) s
+      by : (b : Bool) → Does plan (MayWork plan) (if b then each_now (call_device plan (calls.Act End)) (call_now plan (calls.Act End)) (multiball_rows plan) s else Lines 0) s
           (if b then all_do (call_device plan (calls.Act End)) (multiball_rows plan) s else s)
-      by true = all_do-does_now plan (MayWork plan) (call_device plan (calls.Act End)) (call_now (calls.Act End)) (λ r. Unit {0}) (λ r t h. works-call (calls.Act End) r t) (multiball_rows plan) (λ k d there. tt) s
+      by true = all_do-does_now plan (MayWork plan) (call_device plan (calls.Act End)) (call_now plan (calls.Act End)) (λ r. Unit {0}) (λ r t h. works-call (calls.Act End) r t) (multiball_rows plan) (λ k d there. tt) s
       by false = quiet
 
   -- a ball has drained, which a ball save may save
-  does-drained : (e : EventId) → work_of plan e ≡ Game BallDrain → (o : Option RowId) (s : Machine) → Does plan (MayWork plan) (drained_now o s) s (drain_ball plan o s)
+  does-drained : (e : EventId) → work_of plan e ≡ Game BallDrain → (o : Option RowId) (s : Machine) → Does plan (MayWork plan) (drained_now plan o s) s (drain_ball plan o s)
   does-drained e is None s = both (does-step BallDrain e is s) (does-ends (step_game plan BallDrain s))
   does-drained e is (Some r) s = works-call (calls.Act Save) r s
 
-  does-game : (which : GameEvent) (e : EventId) → work_of plan e ≡ Game which → (s : Machine) → Does plan (MayWork plan) (game_now which s) s (do_game plan which s)
+  does-game : (which : GameEvent) (e : EventId) → work_of plan e ≡ Game which → (s : Machine) → Does plan (MayWork plan) (game_now plan which s) s (do_game plan which s)
   does-game which e is s = search (rules, does-drained, drain-is, does-step)
 
   -- a mode has stopped, and the ball may end
@@ -537,7 +392,7 @@ module _ (plan : PlanView) where
       by true = less (both (moved (Released m) s tt) (ends (ends_ball m s.game) (drop_hold m s))) (λ w. omega arith)
       by false = quiet
 
-  does-after_work : (kept : Bool) (w : Work) (e : EventId) → work_of plan e ≡ w → IsWorkAt plan e w → (s : Machine) → Does plan (MayWork plan) (after_now w s) s (do_after plan kept w s)
+  does-after_work : (kept : Bool) (w : Work) (e : EventId) → work_of plan e ≡ w → IsWorkAt plan e w → (s : Machine) → Does plan (MayWork plan) (after_now plan w s) s (do_after plan kept w s)
   does-after_work kept Nothing e is at s = quiet
   does-after_work kept (Mode m WillStart) e is at s = moved (Sent owners.Machine (mode_event plan m Starting)) s (λ own. tt, λ entries. mode_event-within plan entries m Starting at.0, tt)
   does-after_work kept (Mode m Starting) e is at s = moved (Sent owners.Machine (mode_event plan m Started)) s (λ own. tt, λ entries. mode_event-within plan entries m Started at.0, tt)
@@ -552,7 +407,7 @@ module _ (plan : PlanView) where
   does-after_work kept (Game which) e is at s = does-game which e is s
 
   -- whether a stop was kept or not
-  pub does-after : (kept : Bool) (e : EventId) (s : Machine) → Does plan (MayWork plan) (after_now (work_of plan e) s) s (do_after plan kept (work_of plan e) s)
+  pub does-after : (kept : Bool) (e : EventId) (s : Machine) → Does plan (MayWork plan) (after_now plan (work_of plan e) s) s (do_after plan kept (work_of plan e) s)
   does-after kept e s = does-after_work kept (work_of plan e) e refl (work_found plan e) s
 
   -- there is no work beyond the events of the plan

@@ -17,6 +17,8 @@ pub mod CoilActions
 pub mod GoodRun
 pub mod FreePosts
 pub mod Accepted
+pub mod Spent
+pub mod Steps
 pub mod AcceptedRuns
 pub mod GuardRuns
 -- what lemmas say of steps

@@ -15,7 +15,7 @@ use Rattle.player_game.specs.{Players.after_change, GameStep.{GameStep, game_ste
 use Rattle.switch_core.specs.{SwitchStep.SwitchState, Switches.set_state}
 use Rattle.written_machine.specs.{declared.line.Happening.Happening, FreePosts.{PostsAreFree, IsFree}}
 use Rattle.written_machine.specs.declared.line.Happening.TheVariants as lines
-use Rattle.cascade_rank.specs.Cost.{Cost, Lines, Both, price, cost_of_post}
+use Rattle.cascade_rank.specs.Cost.{Cost, Lines, Step, Both, price, cost_of_post}
 use Rattle.coil_guard.specs.{declared.command.Command.Command, Limits.IsWithin, Asked.limits_of}
 use Rattle.coil_guard.specs.declared.command.Command.TheVariants as commands
 use Rattle.written_machine.specs.{CoilActions.ActionsKeepLimits, Devices.ActsAreOwn}
@@ -78,7 +78,7 @@ cost_of_move plan (Began m) = cost_of_post (mode_event plan m WillStart)
 cost_of_move plan (Ended m) = cost_of_post (mode_event plan m Stopping)
 cost_of_move plan (Marked m state) = Lines 0
 cost_of_move plan (Released m) = Lines 0
-cost_of_move plan (Turned call r) = Lines 0
+cost_of_move plan (Turned call r) = Step
 cost_of_move plan (Asked owner command) = Lines 1
 cost_of_move plan (Booked owner call) = Lines 1
 cost_of_move plan (Varied v value) = Lines 0

@@ -1,8 +1,7 @@
-use Rattle.std.proofs.{Common.{ap, ◌∙◌}, lemmas.Result.IfOk-weaker}
-use Rattle.clap.specs.Words.{App, with_rule}
-use Rattle.command_line.specs.{CommandLine.path_rule, LiveCommand.live_app}
+use Rattle.std.proofs.lemmas.Result.{IfOk-weaker}
+use Rattle.command_line.proofs.LiveWords.{app_is_live}
 use Rattle.command_line.proofs.live.pinball_live.Goals as goal
 
 pub returns : goal.returns
-unfolding live_app
-returns c = IfOk-weaker c.with_path.result _ _ (λ r h. h ∙ ap (λ (a : App). with_rule a path_rule) c.in_ok-program.ensures) c.with_path.ensures
+returns c = IfOk-weaker c.with-3.result _ _ (λ made h. app_is_live _ _ _ _ _ _ _ c.in_ok-live_program.ensures c.path_argument-folder.ensures.rule c.flag-work.ensures.rule
+    c.flag-any_work.ensures.rule c.in_ok-with_folder.ensures c.in_ok-with_work.ensures h) c.with-3.ensures

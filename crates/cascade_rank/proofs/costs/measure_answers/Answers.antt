@@ -4,7 +4,7 @@ use Rattle.plan_tables.specs.{PlanView.row_at, Devices.list_count}
 use Rattle.device_objects.specs.Outcomes.{outcomes}
 use Rattle.cascade_rank.specs.Cost.{Cost, dearest_of, cost_of_answer_by}
 use Rattle.cascade_rank.proofs.{Alike.dearest_more, Outcomes.{outcomes-read, answer-within, answers-cost}}
-use Rattle.cascade_rank.proofs.costs.measure_call.Goals as goal
+use Rattle.cascade_rank.proofs.costs.measure_answers.Goals as goal
 
 pub measure_answer-cost-requires-clause-lists : goal.measure_answer-cost-requires-clause-lists
 measure_answer-cost-requires-clause-lists g c =

@@ -1,12 +1,12 @@
 use Rattle.std.proofs.Common.{◌≡◌, [], List, Global, IsSome, map, string_bytes, sym, ap, ◌∙◌, subst}
 use Rattle.std.proofs.lemmas.Result.{IfErr-weaker, IfOk-weaker}
 use Rattle.clap.specs.Words.{App, HasKind, Text, fault_of, found_of, is_simple, is_simple_and_free, matches_of, rows_of}
-use Rattle.command_line.specs.LiveCommand.{live_app, folder_in, folder_at}
-use Rattle.command_line.proofs.LiveWords.{live_app_is_simple, live_app_is_free, folder_answered, no_memory}
-use Rattle.command_line.proofs.live.read_folder.Goals as goal
+use Rattle.command_line.specs.LiveCommand.{live_app, asked_in, live_asked_at}
+use Rattle.command_line.proofs.LiveWords.{live_app_is_simple, live_app_is_free, live_answered, no_memory}
+use Rattle.command_line.proofs.live.read_live.Goals as goal
 
 pub returns-in-Ok-clause-asked : goal.returns-in-Ok-clause-asked
-unfolding folder_at
+unfolding live_asked_at
 returns-in-Ok-clause-asked c =
     let words : List Text = map (string_bytes {Z = Global}) c.args.words.now in
     let met : rows_of (found_of c.in-Ok.matches) ≡ matches_of live_app words =
@@ -14,10 +14,10 @@ returns-in-Ok-clause-asked c =
     ∙ ap (λ (a : App). matches_of a words) c.in_ok-pinball_live.ensures in
     let none : fault_of live_app words ≡ [] =
     sym (ap (λ (a : App). fault_of a words) c.in_ok-pinball_live.ensures) ∙ c.in-Ok.ensures.kinds (ap is_simple_and_free c.in_ok-pinball_live.ensures ∙ live_app_is_free) in
-    IfOk-weaker c.folder_of.result _ _ (λ ask h. folder_answered _ _ none ∙ ap folder_in (sym met) ∙ h) c.folder_of.ensures.asked
+    IfOk-weaker c.asked_of.result _ _ (λ ask h. live_answered _ _ none ∙ ap asked_in (sym met) ∙ h) c.asked_of.ensures.asked
 
 pub returns-in-Ok-clause-only : goal.returns-in-Ok-clause-only
-unfolding folder_at
+unfolding live_asked_at
 returns-in-Ok-clause-only c =
     let words : List Text = map (string_bytes {Z = Global}) c.args.words.now in
     let met : rows_of (found_of c.in-Ok.matches) ≡ matches_of live_app words =
@@ -25,10 +25,10 @@ returns-in-Ok-clause-only c =
     ∙ ap (λ (a : App). matches_of a words) c.in_ok-pinball_live.ensures in
     let none : fault_of live_app words ≡ [] =
     sym (ap (λ (a : App). fault_of a words) c.in_ok-pinball_live.ensures) ∙ c.in-Ok.ensures.kinds (ap is_simple_and_free c.in_ok-pinball_live.ensures ∙ live_app_is_free) in
-    IfErr-weaker c.folder_of.result _ _ (λ fault h some. h (subst IsSome (folder_answered _ _ none ∙ ap folder_in (sym met)) some)) c.folder_of.ensures.only
+    IfErr-weaker c.asked_of.result _ _ (λ fault h some. h (subst IsSome (live_answered _ _ none ∙ ap asked_in (sym met)) some)) c.asked_of.ensures.only
 
 pub returns-in-Err-clause-only : goal.returns-in-Err-clause-only
-unfolding folder_at
+unfolding live_asked_at
 returns-in-Err-clause-only c =
     let words : List Text = map (string_bytes {Z = Global}) c.args.words.now in
     let kinds : HasKind (fault_of live_app words) c.in-Err.error =

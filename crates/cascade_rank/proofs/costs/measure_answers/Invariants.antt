@@ -1,7 +1,7 @@
 use Rattle.std.proofs.Common.{ℕ, take}
 use Rattle.arrayvec.specs.ArrayVec.{ArrayVec}
 use Rattle.cascade_rank.specs.Cost.{dearest_of, cost_of_answer_by}
-use Rattle.cascade_rank.proofs.costs.measure_call.Given as goal
+use Rattle.cascade_rank.proofs.costs.measure_answers.Given as goal
 
 -- the dearest of the answers so far
 abbrev pub invariant-loop-answer : goal.invariant-loop-answer
