@@ -6,3 +6,4 @@ mod BoardLaws
 pub mod Following
 pub mod Lawful
 mod Slower
+mod Releasing

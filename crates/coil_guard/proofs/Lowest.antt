@@ -1,5 +1,5 @@
 -- The lowest coil of which something is true.
-use Rattle.std.proofs.Common.{rules, ◌≡◌, ℕ, ◌<◌, zero, suc, Bool, true, if◌then◌else◌, Option, Some, None, IfSome, List, [], ◌∷◌, length, slice_index_or, refl, ap, ap₂, sym, subst, inl, inr, arith}
+use Rattle.std.proofs.Common.{rules, ◌≡◌, ℕ, ◌<◌, zero, suc, Bool, true, false, if◌then◌else◌, Option, Some, None, IfSome, List, [], ◌∷◌, length, slice_index_or, refl, ap, ap₂, sym, subst, inl, inr, arith}
 use Rattle.std.proofs.lemmas.{Bool.cases_eq, Option.none-some}
 use Rattle.plan_tables.specs.declared.entries.CoilId.{CoilId}
 use Rattle.coil_guard.specs.{declared.state.CoilState.CoilState, Lowest.{first_of_two, lowest, IsLowest}, Coils.coil_at}
@@ -54,3 +54,13 @@ lowest-is test (suc n) = next-lowest test n (lowest test n) (test (record { 0 = 
 -- The lowest by one test is the lowest by another that says the same.
 pub lowest-by : (p q : CoilId → Bool) (n m : ℕ) → ((coil : CoilId) → p coil ≡ q coil) → n ≡ m → IsLowest q m (lowest p n)
 lowest-by p q n m same count = search (rules, lowest-same, lowest-is)
+
+-- ---- it is true of none
+
+pub none-below : (test : CoilId → Bool) (n : ℕ) → lowest test n ≡ None → (coil : CoilId) → coil.0 < n → test coil ≡ false
+none-below test n is = subst (IsLowest test n) is (lowest-is test n)
+
+pub none-from : (test : CoilId → Bool) (n : ℕ) → ((coil : CoilId) → coil.0 < n → test coil ≡ false) → lowest test n ≡ None
+none-from test zero none = refl
+none-from test (suc n) none =
+    ap₂ (λ a b. first_of_two a (if b then Some (record { 0 = n }) else None)) (none-from test n (λ coil within. none coil (omega arith))) (none (record { 0 = n }) (omega arith))

@@ -15,17 +15,21 @@ use std::marker::Model;
 #[derive(Drop)]
 pub struct Coils {
     coils: Vec<CoilState>,
+    /// For whom `release` put a coil off last.
+    releasing: Owner,
+    /// The number of a coil before which that owner holds none.
+    from: usize,
 }
 
 impl Model for Coils {
     ghost use Rattle.std.specs.Prelude.{List, length, ◌≤◌};
-    ghost use Rattle.coil_guard.specs.declared.state.CoilState.{CoilState};
+    ghost use Rattle.coil_guard.specs.{declared.state.CoilState.{CoilState}, Inside.HoldsNone};
 
     ghost Value = { List CoilState };
 
     ghost view = { λ s. s.coils.items };
 
-    ghost invariant = { λ s. length s.coils.items ≤ 256 };
+    ghost invariant = { λ s. (length s.coils.items ≤ 256) × (s.from ≤ length s.coils.items) × HoldsNone s.releasing s.coils.items s.from };
 }
 
 impl Coils {
@@ -34,6 +38,7 @@ impl Coils {
     ghost use Rattle.coil_guard.specs.SentCommands.{coil_of};
     ghost use Rattle.coil_guard.specs.Asked.{limits_of, after_asking, answer_asking};
     ghost use Rattle.coil_guard.specs.Coils.{all_off, after_pulse, answer_pulse, after_enable, answer_enable, after_disable, answer_disable, next_held, after_release, answer_release, next_on};
+    ghost use Rattle.coil_guard.specs.Inside.{HoldsNone};
 
     /// The coils of a plan, with their limits. They are off. Only this call takes memory.
     ///
@@ -49,7 +54,11 @@ impl Coils {
         for number in 0..count {
             coils.push_reserved(CoilState::off(plan.coil_limits(CoilId(number as u16))));
         }
-        Ok(Coils { coils })
+        Ok(Coils {
+            coils,
+            releasing: Owner::Machine,
+            from: 0,
+        })
     }
 
     /// Does what `pulse`, `enable` or `disable` does for a command that the owner asks for at the moment
@@ -106,6 +115,7 @@ impl Coils {
             return Answer::Skipped;
         }
         self.coils[number] = old.enabled(owner);
+        self.from = self.from.min(number);
         Answer::Sent(Command::Enable { coil, power })
     }
 
@@ -140,6 +150,8 @@ impl Coils {
         let coil = self.next_held(owner)?;
         let number = coil.0 as usize;
         self.coils[number] = self.coils[number].disabled();
+        self.releasing = owner;
+        self.from = number + 1;
         Some(Command::Disable { coil })
     }
 
@@ -161,11 +173,24 @@ impl Coils {
         ensures next { result ≡ next_held owner self.now }
         ensures within { IfSome result (λ c. c.0 < length self.now) }
     {
-        for (number, coil) in self.coils.iter().enumerate() {
-            if coil.is_held_by(owner) {
+        for number in self.first_of(owner)..self.coils.len() {
+            if self.coils[number].is_held_by(owner) {
                 return Some(CoilId(number as u16));
             }
         }
         None
+    }
+
+    /// The number of a coil before which the owner holds none. If a coil was put off last for the
+    /// same owner, those before it need not be looked at again, so that putting off all is one walk.
+    fn first_of(&self, owner: Owner) -> usize
+        ensures none { HoldsNone owner self.now result }
+        ensures within { result ≤ length self.now }
+    {
+        if self.releasing.is(owner) {
+            self.from
+        } else {
+            0
+        }
     }
 }

@@ -7,9 +7,9 @@ use Rattle.plan_tables.specs.declared.entries.{BindingId.BindingId, EventId.Even
 use Rattle.plan_tables.specs.{PlanView.{PlanView, no_binding, binding_at, places_of}, Valid.IsValid}
 use Rattle.plan_tables.proofs.BoundTo.{places_of-within, places_of-on}
 use Rattle.event_queue.{specs.{Handlers.runs_at, PlanOrder.by_priority}, proofs.{Put.length-put, Owned.has-event}}
-use Rattle.event_queue.specs.Inside.{put, IsOrdered, runs_before, IsOrderOf, HasOrders, also, without}
+use Rattle.event_queue.specs.Inside.{put, IsOrdered, runs_before, IsOrderOf, HasOrders, IsOwnedBy, also}
 use Rattle.event_queue.proofs.PlanOrder.{IsBelow, places_of-increase, filter-shorter, priority-length}
-use Rattle.event_queue.proofs.Joined.{also-other, without-other, without-itself, without-also, place-same, by_priority-in_order, joined}
+use Rattle.event_queue.proofs.Joined.{also-other, place-same, by_priority-in_order, joined}
 use Rattle.yaml_bytes.proofs.Each.{filter-agree}
 
 abbrev event : ℕ → EventId
@@ -62,13 +62,6 @@ module _ (plan : PlanView) where
         let room = (has.each e.0 d known).room in
         omega arith
 
-    -- and if it takes part, is this put into the order of the others
-    pub others-in_order : (takes : BindingId → Bool) → IsOrdered (runs_before plan) (by_priority plan (filter (without takes q) (places_of plan e)))
-    others-in_order takes = search (rules, by_priority-in_order, AllPairs-filter, places_of-increase)
-
-    pub order-with : (takes : BindingId → Bool) (orders : List (Vec BindingId Global)) → HasOrders plan takes orders → (d : Vec BindingId Global) → takes q ≡ true → (get_or orders e.0 d).items ≡ put (runs_before plan) q (by_priority plan (filter (without takes q) (places_of plan e)))
-    order-with takes orders has d took = search (rules, filter-agree, without-also, get_or, joins-event, without-itself)
-
     module _ (orders : List (Vec BindingId Global)) (v : Vec BindingId Global) where
       -- another order at the event alone
       changed : (takes other : BindingId → Bool) → HasOrders plan takes orders → ((p : BindingId) → p.0 ≢ q.0 → other p ≡ takes p) → IsOrderOf plan other e v → HasOrders plan other (slice_set orders e.0 v)
@@ -95,10 +88,6 @@ module _ (plan : PlanView) where
         order-added fresh is =
             changed takes (also takes q) has (also-other takes q)
             (record { places = is ∙ ap (put (runs_before plan) q) (has.each e.0 d known).places ∙ joins-event takes fresh; room = room })
-
-        -- the binding takes part no more
-        pub order-dropped : takes q ≡ true → ((rest : List BindingId) → (get_or orders e.0 d).items ≡ put (runs_before plan) q rest → v.items ≡ rest) → HasOrders plan (without takes q) (slice_set orders e.0 v)
-        order-dropped took is = search (rules, changed, without-other, order-with, room)
 
   -- ---- no binding takes part
 
@@ -142,3 +131,11 @@ module _ (plan : PlanView) where
 
       pub first-same : runs_at plan running here ≡ false → (p : BindingId) → first_of n p ≡ first_of (n + 1) p
       first-same rests p = search rules
+
+-- ---- the places of all modes, as they are listed
+
+module _ (plan : PlanView) where
+  -- the places of so many modes are listed
+  pub record HasFirstOwned (n : ℕ) (lists : List (Vec BindingId Global)) : Type 0 where
+    pub count : length lists ≡ n
+    pub each : (m : ℕ) (d : Vec BindingId Global) → m < n → IsOwnedBy plan (record { 0 = m }) (get_or lists m d).items

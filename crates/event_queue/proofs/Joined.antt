@@ -1,11 +1,11 @@
 -- Plan order of places when one more takes part: it is put into the order.
 use Rattle.std.proofs.Common.{rules, ◌≡◌, ◌≢◌, ℕ, suc, ◌<◌, nat_lt, ◌==◌, ◌&&◌, ◌||◌, not, Bool, true, false, true≢false, cond, List, [], ◌∷◌, filter, get_or, refl, ap, sym, subst, ◌∙◌, inl, inr, arith}
 use Rattle.std.specs.{List.{All, AllPairs, list_any}, Cmp.IsStrictWeakOrder}
-use Rattle.std.proofs.lemmas.Bool.{cases_eq, eq-eqb, ne_eqb, or_right, and_right, not_from_true, Decides.nat_tests}
+use Rattle.std.proofs.lemmas.Bool.{cases_eq, eq-eqb, ne_eqb, or_right, Decides.nat_tests}
 use Rattle.std.proofs.{lemmas.List.{Kept.AllPairs-filter, Sorted.All-permutation}, Math.Bool.or-false}
 use Rattle.plan_tables.specs.{declared.entries.BindingId.BindingId, PlanView.PlanView}
 use Rattle.event_queue.specs.{Handlers.priority_at, PlanOrder.{insert_place, by_priority}}
-use Rattle.event_queue.specs.Inside.{put, IsOrdered, runs_before, also, without}
+use Rattle.event_queue.specs.Inside.{put, IsOrdered, runs_before, also}
 use Rattle.event_queue.proofs.{Put.{ordered-put, put_comm}, Sort.by_priority-permutes, PlanOrder.IsBelow}
 use Rattle.yaml_bytes.proofs.Each.{filter-agree}
 
@@ -22,18 +22,8 @@ module _ (takes : BindingId → Bool) (q : BindingId) where
   pub also-other : (p : BindingId) → p.0 ≢ q.0 → also takes q p ≡ takes p
   also-other p other = ap (λ b. takes p || b) (ne_eqb q.0 p.0 (λ same. other (sym same))) ∙ or-false (takes p)
 
-  pub without-other : (p : BindingId) → p.0 ≢ q.0 → without takes q p ≡ takes p
-  without-other p other = search rules
-
   also-itself : (p : BindingId) → p.0 ≡ q.0 → also takes q p ≡ true
   also-itself p same = or_right (takes p) (q.0 == p.0) (eq-eqb q.0 p.0 (sym same))
-
-  pub without-itself : without takes q q ≡ false
-  without-itself = and_right (takes q) (not (q.0 == q.0)) (not_from_true (q.0 == q.0) (eq-eqb q.0 q.0 refl))
-
--- if it took part, it does so again if it is taken out and joins once more
-pub without-also : (takes : BindingId → Bool) (q : BindingId) → takes q ≡ true → (p : BindingId) → takes p ≡ also (without takes q) q p
-without-also takes q took p = search rules
 
 module _ (plan : PlanView) where
   -- ---- one place before another
@@ -44,7 +34,7 @@ module _ (plan : PlanView) where
   pub runs-order : IsStrictWeakOrder (runs_before plan)
   runs-order = search rules
 
-  runs-same : (p q : BindingId) → runs_before plan p q ≡ false → runs_before plan q p ≡ false → p ≡ q
+  pub runs-same : (p q : BindingId) → runs_before plan p q ≡ false → runs_before plan q p ≡ false → p ≡ q
   runs-same p q not neither = place-same p q (higher-same (priority_at plan p) p.0 (priority_at plan q) q.0 not neither)
 
   -- ---- places by priority, as places put into one another

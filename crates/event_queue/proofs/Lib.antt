@@ -9,3 +9,6 @@ mod OfEvent
 mod Joined
 mod Handling
 mod Owned
+mod Walk
+mod Groups
+mod Rests

@@ -1,6 +1,7 @@
 -- What the functions inside this crate see: items in order, and what alarms and handlers hold.
 use Rattle.std.specs.Prelude.{◌≡◌, ℕ, ◌+◌, ◌<◌, ◌≤◌, nat_lt, ◌==◌, ◌&&◌, ◌||◌, if◌then◌else◌, not, Bool, true, false, Option, None, Some, List, [], ◌∷◌, length, map, filter, slice_index_or, Vec, vec_capacity}
-use Rattle.std.specs.{List.{AllPairs, range_with_len, Sorted.IsPartitionPoint}, Global.Global}
+use Rattle.std.specs.List.{All, AllPairs, list_any, range_with_len, Sorted.{IsPermutation, IsPartitionPoint}}
+use Rattle.std.specs.Global.{Global}
 use Rattle.plan_tables.specs.declared.entries.{BindingId.BindingId, Owner.TheVariants.Mode}
 use Rattle.plan_tables.specs.declared.{entries.{EventId.EventId, ModeId.ModeId}, devices.RowId.RowId}
 use Rattle.plan_tables.specs.PlanView.{PlanView, binding_at, is_owner, places_of}
@@ -12,6 +13,15 @@ use Rattle.event_queue.specs.{Alarms.{comes_before, alarm_of}, Handlers.priority
 abbrev pub put : {X : Type 0} → (X → X → Bool) → X → List X → List X
 put before x [] = x ∷ []
 put before x (y ∷ ys) = if before y x then y ∷ put before x ys else x ∷ y ∷ ys
+
+-- items put into a list, one after the other
+abbrev pub put_all : {X : Type 0} → (X → X → Bool) → List X → List X → List X
+put_all before [] ys = ys
+put_all before (x ∷ xs) ys = put_all before xs (put before x ys)
+
+-- each item comes before all after it
+abbrev pub IsInTurn : {X : Type 0} → (X → X → Bool) → List X → Type 0
+IsInTurn before xs = AllPairs (λ x y. before x y ≡ true) xs
 
 -- no item comes before one that stands before it
 abbrev pub IsOrdered : {X : Type 0} → (X → X → Bool) → List X → Type 0
@@ -61,9 +71,20 @@ pub record HasOrders (plan : PlanView) (takes : BindingId → Bool) (orders : Li
 abbrev pub also : (BindingId → Bool) → BindingId → BindingId → Bool
 also takes place p = takes p || (place.0 == p.0)
 
--- what takes part, but for the binding at the place
-abbrev pub without : (BindingId → Bool) → BindingId → BindingId → Bool
-without takes place p = takes p && not (place.0 == p.0)
+-- what takes part, and the bindings at these places
+abbrev pub also_all : (BindingId → Bool) → List BindingId → BindingId → Bool
+also_all takes group p = takes p || list_any (λ q. q.0 == p.0) group
+
+-- what takes part, but for the bindings at these places
+abbrev pub without_all : (BindingId → Bool) → List BindingId → BindingId → Bool
+without_all takes group p = takes p && not (list_any (λ q. q.0 == p.0) group)
+
+-- places of one event, in the order in which their bindings run
+pub record IsGroup (plan : PlanView) (group : List BindingId) : Type 0 where
+  pub some : 0 < length group
+  pub within : All (λ p. p.0 < length plan.bindings) group
+  pub same : (first : BindingId) → All (λ p. (binding_at plan p).event.0 ≡ (binding_at plan (slice_index_or group 0 first)).event.0) group
+  pub in_turn : IsInTurn (runs_before plan) group
 
 -- the places of all bindings of a plan
 abbrev pub all_places : PlanView → List BindingId
@@ -73,7 +94,16 @@ all_places plan = map (λ n. record { 0 = n }) (range_with_len 0 (length plan.bi
 abbrev pub places_in : PlanView → ModeId → List BindingId
 places_in plan m = filter (λ p. is_owner (Mode m) (binding_at plan p).owner) (all_places plan)
 
+-- whether the binding at p is of a lower event than the one at q, or of the same event, and runs before it
+abbrev pub stands_before : PlanView → BindingId → BindingId → Bool
+stands_before plan p q = nat_lt (binding_at plan p).event.0 (binding_at plan q).event.0 || (((binding_at plan p).event.0 == (binding_at plan q).event.0) && runs_before plan p q)
+
+-- the places of a mode's bindings, by event, and those of an event in the order in which they run
+pub record IsOwnedBy (plan : PlanView) (m : ModeId) (own : List BindingId) : Type 0 where
+  pub permutation : IsPermutation (places_in plan m) own
+  pub in_turn : IsInTurn (stands_before plan) own
+
 -- for each mode of a plan the places of its bindings
 pub record HasOwned (plan : PlanView) (owned : List (Vec BindingId Global)) : Type 0 where
   pub count : length owned ≡ length plan.modes
-  pub each : (m : ℕ) (d : Vec BindingId Global) → m < length plan.modes → (slice_index_or owned m d).items ≡ places_in plan (record { 0 = m })
+  pub each : (m : ℕ) (d : Vec BindingId Global) → m < length plan.modes → IsOwnedBy plan (record { 0 = m }) (slice_index_or owned m d).items

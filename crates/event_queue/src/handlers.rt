@@ -1,6 +1,6 @@
 //! What handles an event, in the order in which it runs.
 
-use crate::orders::{add_place, drop_place, first_orders, owned_places};
+use crate::orders::{add_group, drop_group, first_orders, of_one_event, owned_places};
 use plan_tables::{BindingId, EventId, ModeId, Plan};
 use std::alloc::{AllocError, Global};
 use std::marker::Model;
@@ -13,11 +13,13 @@ pub struct Handlers<'p> {
     plan: &'p Plan,
     /// For each mode, whether it runs.
     running: Vec<bool>,
-    /// For each mode the places of its bindings.
+    /// For each mode the places of its bindings: those of an event together, in plan order.
     owned: Vec<Vec<BindingId>>,
     /// For each event the places of its handlers, in plan order. There is room for all that is
     /// bound to it.
     orders: Vec<Vec<BindingId>>,
+    /// Where an order is written down anew. There is room for the places of all bindings.
+    fresh: Vec<BindingId>,
 }
 
 impl<'p> Model for Handlers<'p> {
@@ -27,12 +29,12 @@ impl<'p> Model for Handlers<'p> {
 
     ghost view = { λ h. record { plan = h.plan.now; running = h.running.items } };
 
-    ghost use Rattle.std.specs.Prelude.{◌≡◌, length};
+    ghost use Rattle.std.specs.Prelude.{◌≡◌, ◌≤◌, length, vec_capacity};
     ghost use Rattle.plan_tables.specs.Valid.{IsValid};
     ghost use Rattle.event_queue.specs.Handlers.{runs_at};
     ghost use Rattle.event_queue.specs.Inside.{HasOrders, HasOwned};
 
-    ghost invariant = { λ h. (length h.running.items ≡ length h.plan.now.modes) × HasOwned h.plan.now h.owned.items × HasOrders h.plan.now (runs_at h.plan.now h.running.items) h.orders.items × IsValid h.plan.now };
+    ghost invariant = { λ h. (length h.running.items ≡ length h.plan.now.modes) × HasOwned h.plan.now h.owned.items × HasOrders h.plan.now (runs_at h.plan.now h.running.items) h.orders.items × (length h.plan.now.bindings ≤ vec_capacity h.fresh) × IsValid h.plan.now };
 }
 
 impl<'p> Handlers<'p> {
@@ -48,11 +50,13 @@ impl<'p> Handlers<'p> {
         let running = vec![in alloc; false; plan.mode_count()]?;
         let owned = owned_places(alloc, plan)?;
         let orders = first_orders(alloc, plan, &running)?;
+        let fresh = Vec::with_capacity(alloc, plan.binding_count())?;
         Ok(Handlers {
             plan,
             running,
             owned,
             orders,
+            fresh,
         })
     }
 
@@ -67,12 +71,16 @@ impl<'p> Handlers<'p> {
             running,
             owned,
             orders,
+            fresh,
         } = self;
         if running[mode.0 as usize] {
             return;
         }
-        for place in &owned[mode.0 as usize] {
-            add_place(orders, plan, *place);
+        let mut rest = owned[mode.0 as usize].as_slice();
+        'groups: while !rest.is_empty() {
+            let (group, after) = rest.split_at(of_one_event(plan, rest));
+            add_group(orders, fresh, plan, group);
+            rest = after;
         }
         running[mode.0 as usize] = true;
     }
@@ -88,12 +96,16 @@ impl<'p> Handlers<'p> {
             running,
             owned,
             orders,
+            fresh,
         } = self;
         if !running[mode.0 as usize] {
             return;
         }
-        for place in &owned[mode.0 as usize] {
-            drop_place(orders, plan, *place);
+        let mut rest = owned[mode.0 as usize].as_slice();
+        'groups: while !rest.is_empty() {
+            let (group, after) = rest.split_at(of_one_event(plan, rest));
+            drop_group(orders, fresh, plan, group);
+            rest = after;
         }
         running[mode.0 as usize] = false;
     }

@@ -1,37 +1,63 @@
 //! What takes part in the handling of each event, by priority.
 
-ghost use Rattle.std.specs.Prelude.{◌≡◌, ◌<◌, ◌≤◌, true, false, Bool, List, [], length, slice_index_or, vec_capacity, IfOk};
-ghost use Rattle.std.specs.List.{All};
+ghost use Rattle.std.specs.Prelude.{◌≡◌, ◌+◌, ◌<◌, ◌≤◌, ◌++◌, true, false, Bool, List, [], ◌∷◌, length, slice_index_or, vec_capacity, IfOk};
+ghost use Rattle.std.specs.{List.{All, AllPairs, AllWithin}, Ordering.is_lt};
 ghost use Rattle.plan_tables.specs.declared.entries.BindingId.{BindingId as Place};
-ghost use Rattle.plan_tables.specs.PlanView.{no_binding};
+ghost use Rattle.plan_tables.specs.PlanView.{binding_at, no_binding};
 ghost use Rattle.event_queue.specs.Handlers.{runs_at, takes_part};
-ghost use Rattle.event_queue.specs.Inside.{put, IsOrdered, IsPlaceOf, ranks_before, runs_before, HasOrders, HasOwned, also, without};
+ghost use Rattle.event_queue.specs.Inside.{put, put_all, IsOrdered, IsPlaceOf, IsInTurn, ranks_before, runs_before, stands_before, HasOrders, HasOwned, IsOwnedBy, IsGroup, also, also_all, without_all};
 
-use plan_tables::{Binding, BindingId, EventId, Owner, Plan};
+use plan_tables::{Binding, BindingId, EventId, ModeId, Owner, Plan};
 use std::alloc::{AllocError, Global};
+use std::cmp::Ordering;
 
-/// For each mode of a plan the places of its bindings.
+/// For each mode of a plan the places of its bindings: those of an event together, in plan order.
 pub(crate) fn owned_places(alloc: Global, plan: &Plan) -> Result<Vec<Vec<BindingId>>, AllocError>
     ensures { IfOk result (λ owned. HasOwned plan.now owned.items) }
 {
-    let mut owned = empty_lists(alloc, plan.mode_count())?;
-    for (number, binding) in plan.bindings().iter().enumerate() {
-        if let Owner::Mode(mode) = binding.owner {
-            owned[mode.0 as usize].push(BindingId(number as u16))?;
-        }
+    let modes = plan.mode_count();
+    let mut owned = Vec::with_capacity(alloc, modes)?;
+    for number in 0..modes {
+        let own = places_of_mode(alloc, plan, ModeId(number as u16))?;
+        owned.push(own)?;
     }
     Ok(owned)
 }
 
-/// So many empty lists.
-fn empty_lists(alloc: Global, count: usize) -> Result<Vec<Vec<BindingId>>, AllocError>
-    ensures { IfOk result (λ lists. (length lists.items ≡ count) × All (λ v. v.items ≡ []) lists.items) }
+/// The places of a mode's bindings: those of an event together, in plan order.
+fn places_of_mode(alloc: Global, plan: &Plan, mode: ModeId) -> Result<Vec<BindingId>, AllocError>
+    requires { mode.0 < length plan.now.modes }
+    ensures { IfOk result (λ own. IsOwnedBy plan.now mode own.items) }
 {
-    let mut lists = Vec::with_capacity(alloc, count)?;
-    for _ in 0..count {
-        lists.push(Vec::new(alloc))?;
+    let mut own = Vec::from_slice(alloc, plan.bindings_of_mode(mode))?;
+    own.sort_unstable_by(|one, other| compare(plan, *one, *other));
+    Ok(own)
+}
+
+/// Which of two places stands first, by [`stands_before`]. No place stands twice.
+fn compare(plan: &Plan, one: BindingId, other: BindingId) -> Ordering
+    ensures { is_lt result ≡ stands_before plan.now one other }
+{
+    if stands_before(plan, one, other) {
+        Ordering::Less
+    } else {
+        Ordering::Greater
     }
-    Ok(lists)
+}
+
+/// Whether a place is of a lower event than another one, or of the same event, and runs before it.
+fn stands_before(plan: &Plan, one: BindingId, other: BindingId) -> bool
+    ensures { result ≡ stands_before plan.now one other }
+{
+    let bindings = plan.bindings();
+    let (first, second) = (event_number(bindings, one), event_number(bindings, other));
+    let runs = runs_before(
+        priority(bindings, one),
+        one,
+        priority(bindings, other),
+        other,
+    );
+    first < second || first == second && runs
 }
 
 /// For each event of a plan the order of what takes part while these modes run.
@@ -66,7 +92,7 @@ fn rooms(alloc: Global, plan: &Plan) -> Result<Vec<Vec<BindingId>>, AllocError>
 }
 
 /// The binding at a place takes part from now on. It did not before.
-pub(crate) fn add_place(orders: &mut Vec<Vec<BindingId>>, plan: &Plan, place: BindingId)
+fn add_place(orders: &mut Vec<Vec<BindingId>>, plan: &Plan, place: BindingId)
     requires place { place.0 < length plan.now.bindings }
     requires orders { (takes : Place → Bool) × HasOrders plan.now takes orders.old.items × (takes place ≡ false) }
     ensures { (takes : Place → Bool) → HasOrders plan.now takes orders.old.items → takes place ≡ false → HasOrders plan.now (also takes place) orders.new.items }
@@ -75,14 +101,136 @@ pub(crate) fn add_place(orders: &mut Vec<Vec<BindingId>>, plan: &Plan, place: Bi
     put_in(&mut orders[event.0 as usize], plan, place);
 }
 
-/// The binding at a place takes part no more. It did before.
-pub(crate) fn drop_place(orders: &mut Vec<Vec<BindingId>>, plan: &Plan, place: BindingId)
-    requires place { place.0 < length plan.now.bindings }
-    requires orders { (takes : Place → Bool) × HasOrders plan.now takes orders.old.items × (takes place ≡ true) }
-    ensures { (takes : Place → Bool) → HasOrders plan.now takes orders.old.items → takes place ≡ true → HasOrders plan.now (without takes place) orders.new.items }
+/// Of places that stand by event, how many are of the event of the first one, from it on.
+pub(crate) fn of_one_event(plan: &Plan, places: &[BindingId]) -> usize
+    requires { 0 < length places.now }
+    ensures count { (0 < result) × (result ≤ length places.now) }
+    ensures same { (first : Place) → AllWithin (λ p. (binding_at plan.now p).event.0 ≡ (binding_at plan.now (slice_index_or places.now 0 first)).event.0) places.now 0 result }
 {
-    let event = plan.binding(place).event;
-    take_out(&mut orders[event.0 as usize], plan, place);
+    let bindings = plan.bindings();
+    let event = event_number(bindings, places[0]);
+    for number in 1..places.len() {
+        if event_number(bindings, places[number]) != event {
+            return number;
+        }
+    }
+    places.len()
+}
+
+/// The bindings at places of one event take part from now on. They did not before.
+pub(crate) fn add_group(
+    orders: &mut Vec<Vec<BindingId>>,
+    fresh: &mut Vec<BindingId>,
+    plan: &Plan,
+    group: &[BindingId],
+)
+    requires group { IsGroup plan.now group.now }
+    requires orders { (takes : Place → Bool) × HasOrders plan.now takes orders.old.items × All (λ p. takes p ≡ false) group.now }
+    requires room { length plan.now.bindings ≤ vec_capacity fresh.old }
+    ensures orders { (takes : Place → Bool) → HasOrders plan.now takes orders.old.items → All (λ p. takes p ≡ false) group.now → HasOrders plan.now (also_all takes group.now) orders.new.items }
+    ensures room { vec_capacity fresh.old ≤ vec_capacity fresh.new }
+{
+    let event = plan.binding(group[0]).event;
+    let order = &mut orders[event.0 as usize];
+    merge(fresh, plan, order, group);
+    replace(order, fresh);
+}
+
+/// The bindings at places of one event take part no more. They did before.
+pub(crate) fn drop_group(
+    orders: &mut Vec<Vec<BindingId>>,
+    fresh: &mut Vec<BindingId>,
+    plan: &Plan,
+    group: &[BindingId],
+)
+    requires group { IsGroup plan.now group.now }
+    requires orders { (takes : Place → Bool) × HasOrders plan.now takes orders.old.items × All (λ p. takes p ≡ true) group.now }
+    requires room { length plan.now.bindings ≤ vec_capacity fresh.old }
+    ensures orders { (takes : Place → Bool) → HasOrders plan.now takes orders.old.items → All (λ p. takes p ≡ true) group.now → HasOrders plan.now (without_all takes group.now) orders.new.items }
+    ensures room { vec_capacity fresh.old ≤ vec_capacity fresh.new }
+{
+    let event = plan.binding(group[0]).event;
+    let order = &mut orders[event.0 as usize];
+    part(fresh, plan, order, group);
+    replace(order, fresh);
+}
+
+/// Writes down an order with the places of a group among it. Each place is looked for only after
+/// the one before it, so that this is one walk.
+fn merge(fresh: &mut Vec<BindingId>, plan: &Plan, order: &[BindingId], group: &[BindingId])
+    requires ordered { IsOrdered (runs_before plan.now) order.now }
+    requires group { IsInTurn (runs_before plan.now) group.now }
+    requires room { length order.now + length group.now ≤ vec_capacity fresh.old }
+    ensures items { fresh.new.items ≡ put_all (runs_before plan.now) group.now order.now }
+    ensures capacity { vec_capacity fresh.old ≤ vec_capacity fresh.new }
+{
+    fresh.clear();
+    let mut left = order;
+    let mut rest = group;
+    while let [place, more @ ..] = rest {
+        let (before, after) = left.split_at(index_of(left, plan, *place));
+        add_all(fresh, before);
+        add_one(fresh, *place);
+        left = after;
+        rest = more;
+    }
+    add_all(fresh, left);
+}
+
+/// Writes down an order without the places of a group, which are among it. As `merge`, this is one
+/// walk.
+fn part(fresh: &mut Vec<BindingId>, plan: &Plan, order: &[BindingId], group: &[BindingId])
+    requires ordered { IsOrdered (runs_before plan.now) order.now }
+    requires group { IsInTurn (runs_before plan.now) group.now }
+    requires among { (others : List Place) × IsOrdered (runs_before plan.now) others × (order.now ≡ put_all (runs_before plan.now) group.now others) }
+    requires room { length order.now ≤ vec_capacity fresh.old }
+    ensures items { (others : List Place) → IsOrdered (runs_before plan.now) others → order.now ≡ put_all (runs_before plan.now) group.now others → fresh.new.items ≡ others }
+    ensures capacity { vec_capacity fresh.old ≤ vec_capacity fresh.new }
+{
+    fresh.clear();
+    let mut left = order;
+    let mut rest = group;
+    while let [place, more @ ..] = rest {
+        let (before, after) = left.split_at(index_of(left, plan, *place));
+        add_all(fresh, before);
+        left = &after[1..];
+        rest = more;
+    }
+    add_all(fresh, left);
+}
+
+/// From now on an order has these places. There has to be room for them.
+fn replace(order: &mut Vec<BindingId>, places: &[BindingId])
+    requires { length places.now ≤ vec_capacity order.old }
+    ensures items { order.new.items ≡ places.now }
+    ensures capacity { vec_capacity order.old ≤ vec_capacity order.new }
+{
+    order.clear();
+    add_all(order, places);
+}
+
+/// Adds places at the end of others. There has to be room for them.
+fn add_all(to: &mut Vec<BindingId>, places: &[BindingId])
+    requires { length to.old.items + length places.now ≤ vec_capacity to.old }
+    ensures items { to.new.items ≡ to.old.items ++ places.now }
+    ensures capacity { vec_capacity to.old ≤ vec_capacity to.new }
+{
+    match to.extend_from_slice(places) {
+        Ok(()) => {}
+        Err(_) => unreachable!(),
+    }
+}
+
+/// As `add_all`, of one place.
+fn add_one(to: &mut Vec<BindingId>, place: BindingId)
+    requires { length to.old.items < vec_capacity to.old }
+    ensures items { to.new.items ≡ to.old.items ++ place ∷ [] }
+    ensures capacity { vec_capacity to.old ≤ vec_capacity to.new }
+{
+    match to.push(place) {
+        Ok(()) => {}
+        Err(_) => unreachable!(),
+    }
 }
 
 /// Puts a place into an order, which has room for it.
@@ -99,23 +247,20 @@ fn put_in(order: &mut Vec<BindingId>, plan: &Plan, place: BindingId)
     }
 }
 
-/// Takes a place out of an order, of which it is one.
-fn take_out(order: &mut Vec<BindingId>, plan: &Plan, place: BindingId)
-    requires { (rest : List Place) × IsOrdered (runs_before plan.now) rest × (order.old.items ≡ put (runs_before plan.now) place rest) }
-    ensures items { (rest : List Place) → order.old.items ≡ put (runs_before plan.now) place rest → order.new.items ≡ rest }
-    ensures capacity { vec_capacity order.new ≡ vec_capacity order.old }
-{
-    let at = index_of(order, plan, place);
-    let _taken = order.remove(at);
-}
-
-/// How many places in an order run before this one, found by halving.
+/// How many places in an order run before this one. It looks at the first one, and then halves:
+/// those of a mode mostly stand together.
 fn index_of(order: &[BindingId], plan: &Plan, place: BindingId) -> usize
     requires { IsOrdered (runs_before plan.now) order.now }
     ensures { IsPlaceOf (runs_before plan.now) place order.now result }
 {
     let bindings = plan.bindings();
     let own = priority(bindings, place);
+    let Some(first) = order.first() else {
+        return 0;
+    };
+    if !runs_before(priority(bindings, *first), *first, own, place) {
+        return 0;
+    }
     order.partition_point(|other| runs_before(priority(bindings, *other), *other, own, place))
 }
 
@@ -125,6 +270,16 @@ fn runs_before(one: u32, first: BindingId, other: u32, second: BindingId) -> boo
     ensures { result ≡ ranks_before one first other second }
 {
     other < one || one == other && first.0 < second.0
+}
+
+/// The number of the event of the binding at a place, 0 if there is none.
+fn event_number(bindings: &[Binding], place: BindingId) -> u16
+    ensures { result ≡ (slice_index_or bindings.now place.0 no_binding).event.0 }
+{
+    match bindings.get(place.0 as usize) {
+        Some(binding) => binding.event.0,
+        None => 0,
+    }
 }
 
 /// The priority of the binding at a place, 0 if there is none.

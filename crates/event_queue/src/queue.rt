@@ -27,6 +27,12 @@ pub struct Queue {
     waiting: HeapCircularBuffer<Posted>,
 }
 
+/// What the room is written with.
+const ANY: Posted = Posted {
+    event: EventId(0),
+    owner: Owner::Machine,
+};
+
 impl Model for Queue {
     ghost use Rattle.event_queue.specs.Queue.{QueueView};
 
@@ -43,13 +49,17 @@ impl Queue {
     ghost use Rattle.std.specs.Prelude.{◌≡◌, IfOk};
     ghost use Rattle.event_queue.specs.Queue.{empty, IsPushed, IsTaken};
 
-    /// An empty queue in which at most `size` events may wait. Fails only by memory.
+    /// An empty queue in which at most `size` events may wait. Fails only by memory. Its room is
+    /// written once, so that no event waits for a page of memory later.
     pub fn new(alloc: Global, size: usize) -> Result<Queue, AllocError>
         ensures { IfOk result (λ q. q ≡ empty size) }
     {
-        Ok(Queue {
-            waiting: HeapCircularBuffer::with_capacity(alloc, size)?,
-        })
+        let mut waiting = HeapCircularBuffer::with_capacity(alloc, size)?;
+        for _ in 0..size {
+            let _ = waiting.try_push_back(ANY);
+        }
+        waiting.clear();
+        Ok(Queue { waiting })
     }
 
     /// Adds an event after all others.

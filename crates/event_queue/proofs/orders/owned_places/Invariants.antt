@@ -1,4 +1,4 @@
-use Rattle.event_queue.proofs.Owned.{HasFirstOwned}
+use Rattle.event_queue.proofs.Handling.{HasFirstOwned}
 use Rattle.event_queue.proofs.orders.owned_places.Given as goal
 
 abbrev pub invariant-loop-number : goal.invariant-loop-number

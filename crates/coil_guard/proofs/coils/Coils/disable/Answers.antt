@@ -1,20 +1,13 @@
-use Rattle.std.proofs.{Common.{rules, arith}, lemmas.Grind.common_steps}
+use Rattle.std.proofs.{Common.{rules, ◌≡◌, ◌<◌, ◌≤◌, false, List, length, ap, arith}, lemmas.List.length-set}
+use Rattle.coil_guard.{specs.{declared.state.CoilState.CoilState, CoilStep.is_held_by}, proofs.Releasing.still-none}
 use Rattle.coil_guard.proofs.coils.Coils.disable.Goals as goal
 
-pub returns-then-not-is_on_at-clause-state : goal.returns-then-not-is_on_at-clause-state
-returns-then-not-is_on_at-clause-state c = grind (arith, common_steps)
-
-pub returns-then-not-is_on_at-clause-answer : goal.returns-then-not-is_on_at-clause-answer
-returns-then-not-is_on_at-clause-answer c = grind (arith, common_steps)
-
-pub returns-then-not-is_on_at-clause-count : goal.returns-then-not-is_on_at-clause-count
-returns-then-not-is_on_at-clause-count c = search rules
-
-pub returns-clause-state : goal.returns-clause-state
-returns-clause-state c = grind (arith, common_steps)
-
-pub returns-clause-answer : goal.returns-clause-answer
-returns-clause-answer c = grind (arith, common_steps)
-
-pub returns-clause-count : goal.returns-clause-count
-returns-clause-count c = search rules
+pub invariant_of-self : goal.invariant_of-self
+invariant_of-self c =
+    let coils = c.self.inside.coils.items in
+    let there : c.args.coil.0 < length coils = omega (arith, c.requires, ap (λ (s : List CoilState). length s) c.self.view_is) in
+    let off : is_held_by c.self.inside.releasing c.disabled.result ≡ false = search rules in (
+      omega (arith, c.self.invariant.0, length-set coils c.args.coil.0 c.disabled.result),
+      omega (arith, c.self.invariant.1, length-set coils c.args.coil.0 c.disabled.result),
+      still-none c.self.inside.releasing coils c.args.coil c.disabled.result there c.self.inside.from c.self.inside.from (omega arith) c.self.invariant.2 (λ within. off),
+    )

@@ -1,5 +1,13 @@
-use Rattle.event_queue.{specs.Inside.HasOrders, proofs.Owned.joining}
+use Rattle.std.proofs.Common.{◌≤◌, length, slice_set, true, vec_capacity}
+use Rattle.event_queue.{specs.{Handlers.runs_at, Inside.{HasOrders, without_all}}, proofs.Rests.IsRest}
 use Rattle.event_queue.proofs.handlers.Handlers.add_owner.Given as goal
 
-abbrev pub invariant-loop-place : goal.invariant-loop-place
-invariant-loop-place l = HasOrders l.plan.now (joining l.plan.now l.running.items l.mode l.place-index) l.orders.items
+abbrev pub invariant-groups : goal.invariant-groups
+invariant-groups l = record {
+  orders : HasOrders l.plan.now (without_all (runs_at l.plan.now (slice_set l.running.items l.mode.0 true)) l.rest) l.orders.items;
+  rest : IsRest l.plan.now l.mode l.rest;
+  room : length l.plan.now.bindings ≤ vec_capacity l.fresh;
+}
+
+abbrev pub decreases-groups : goal.decreases-groups
+decreases-groups l = length l.rest
