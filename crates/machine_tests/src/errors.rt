@@ -8,7 +8,7 @@ use event_queue::Full;
 use mpf_plan::PlanFault;
 use pin_rig::{Refusal, RigFault, StepFault};
 use plan_tables::{EventId, RowId, TABLES, Table};
-use row_faults::{RowFault, RowFaultKind};
+use row_faults::{NameText, RowFault, RowFaultKind, TextName};
 use std::fmt::Display;
 use worked_rows::Pen;
 
@@ -43,16 +43,21 @@ fn say_faults_of_certificates(pen: &mut Pen) {
     say(pen, CertificateFault::Switch(Vec::new(pen.alloc), 5));
 }
 
+fn say_fault_of_rows(pen: &mut Pen) {
+    let Ok(text) = TextName::new(pen.alloc, b"") else {
+        return;
+    };
+    let fault = RowFault {
+        kind: RowFaultKind::TimerAtEnd,
+        text,
+        line: 3,
+        name: NameText::new(pen.alloc),
+    };
+    say(pen, Fault::Row(fault));
+}
+
 fn say_reports(pen: &mut Pen) {
-    say(
-        pen,
-        Fault::Row(RowFault {
-            kind: RowFaultKind::TimerAtEnd,
-            text: Vec::new(pen.alloc),
-            line: 3,
-            name: Vec::new(pen.alloc),
-        }),
-    );
+    say_fault_of_rows(pen);
     say(pen, Fault::Limit(Table::Events));
     say(pen, Fault::Cycle(Vec::new(pen.alloc)));
     say(pen, Fault::Bound);

@@ -10,5 +10,6 @@ pub mod Numbers
 pub mod Leads
 pub mod Routed
 pub mod Rising
+pub mod Plain
 mod Short
 mod Ungrouped

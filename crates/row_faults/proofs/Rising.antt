@@ -12,7 +12,7 @@ use Rattle.row_faults.specs.FaultText.{row_fault_number, row_fault_name, row_tit
 use Rattle.row_faults.specs.Rising.{HaveLines, is_before_next, are_rising}
 
 -- the byte of a title that is its number
-number_at : (k : RowFaultKind) (rest : List ℕ) → get_or (row_title k ++ rest) 6 0 ≡ 48 + row_fault_number k
+pub number_at : (k : RowFaultKind) (rest : List ℕ) → get_or (row_title k ++ rest) 6 0 ≡ 48 + row_fault_number k
 unfolding digits
 number_at Name rest = refl
 number_at _ rest = refl
@@ -59,11 +59,11 @@ same_digits (x ∷ ds) (y ∷ es) a b p q e =
     λ i. heads i ∷ rest i
 
 -- the place, part by part
-place_is : (text name : List ℕ) (line : ℕ) → row_place text line name ≡ spaced (escaped text) ++ (spaced (decimal line) ++ (spaced name ++ 10 ∷ []))
+pub place_is : (text name : List ℕ) (line : ℕ) → row_place text line name ≡ spaced (escaped text) ++ (spaced (decimal line) ++ (spaced name ++ 10 ∷ []))
 place_is text name line = search (rules, append_assoc)
 
 -- faults of one text that print the same line are on one line
-same_line : (f g : RowFaultView) → f.text ≡ g.text → f.line < 2 ^ 64 → g.line < 2 ^ 64 → row_fault_line f ≡ row_fault_line g → f.line ≡ g.line
+pub same_line : (f g : RowFaultView) → f.text ≡ g.text → f.line < 2 ^ 64 → g.line < 2 ^ 64 → row_fault_line f ≡ row_fault_line g → f.line ≡ g.line
 same_line f g texts f_low g_low e =
     let titles : row_title f.kind ≡ row_title g.kind = same_title f.kind g.kind (row_place f.text f.line f.name) (row_place g.text g.line g.name) e in
     let places : row_place f.text f.line f.name ≡ row_place g.text g.line g.name =

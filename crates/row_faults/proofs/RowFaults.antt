@@ -40,7 +40,7 @@ SameLines lines others = (q : List ℕ) → is_among lines q ≡ is_among others
 same_step : (lines others : List (List ℕ)) (line : List ℕ) → SameLines lines others → SameLines (line ∷ lines) (line ∷ others)
 same_step lines others line h q = ap (λ (b : Bool). bytes_eq line q || b) (h q)
 
-same_lines : (lines others : List (List ℕ)) (faults : List RowFaultView) → SameLines lines others → listed_once lines faults ≡ listed_once others faults
+pub same_lines : (lines others : List (List ℕ)) (faults : List RowFaultView) → SameLines lines others → listed_once lines faults ≡ listed_once others faults
 same_lines lines others [] h = refl
 same_lines lines others (f ∷ fs) h =
     rw (h (row_fault_line f), same_lines lines others fs h, same_lines (row_fault_line f ∷ lines) (row_fault_line f ∷ others) fs (same_step lines others (row_fault_line f) h)) refl

@@ -13,6 +13,7 @@ pub mod View
 -- what contracts of the functions inside this crate see
 pub mod Named
 pub mod Rising
+pub mod Plain
 pub mod Numbers
 pub mod Collected
 pub mod FaultsOf

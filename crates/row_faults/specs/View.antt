@@ -1,11 +1,11 @@
 -- What contracts see of faults.
-use Rattle.std.specs.{Prelude.{ℕ, List, map}, BTreeSet.BTreeSet, Global.Vec}
+use Rattle.std.specs.{Prelude.{ℕ, List, map}, BTreeSet.BTreeSet, Global.Vec, Rc.rc_slice_items}
 use Rattle.mpf_sections.specs.declared.balls.BallDevice as typed_balls
 use Rattle.mpf_sections.specs.{Rows.BallDevice, View.ball_device_view}
 use Rattle.row_faults.specs.{declared.fault.RowFault.RowFault, FaultView.RowFaultView}
 
 abbrev pub row_fault_view : RowFault → RowFaultView
-row_fault_view f = record { kind = f.kind; text = f.text.items; line = f.line; name = f.name.items }
+row_fault_view f = record { kind = f.kind; text = rc_slice_items f.text.letters; line = f.line; name = f.name.items }
 
 abbrev pub row_faults_view : List RowFault → List RowFaultView
 row_faults_view faults = map row_fault_view faults

@@ -1,6 +1,7 @@
 //! The faults that are found in a text, and what they depend on.
 
 ghost use Rattle.std.specs.Prelude.{◌≡◌, IfOk, OnOk};
+ghost use Rattle.std.specs.Rc.{rc_slice_items};
 ghost use Rattle.mpf_sections.specs.View.{name_view, name_at_view};
 ghost use Rattle.row_faults.specs.CoilFaults.{fault_at};
 ghost use Rattle.row_faults.specs.Collected.{Gains};
@@ -9,8 +10,10 @@ ghost use Rattle.row_faults.specs.FaultsOf.{fault_where};
 
 use crate::fault::{RowFault, RowFaultKind};
 use crate::reserved::ModeEvents;
+use crate::text_name::TextName;
 use machine_definitions::Definitions;
 use mpf_config::{Name, NameAt};
+use setting_values::values::NameText;
 use std::alloc::{AllocError, Global};
 use std::marker::Model;
 
@@ -23,17 +26,18 @@ pub(crate) struct Faults<'k, 'd> {
     /// The events of its modes.
     pub(crate) modes: &'k ModeEvents,
     /// The name of the text.
-    pub(crate) text: &'k [u8],
+    pub(crate) text: &'k TextName,
     pub(crate) found: Vec<RowFault>,
 }
 
 impl<'k, 'd> Model for Faults<'k, 'd> {
+    ghost use Rattle.std.specs.Rc.{rc_slice_items};
     ghost use Rattle.row_faults.specs.Collected.{FaultsView};
     ghost use Rattle.row_faults.specs.View.{keys_view, row_faults_view};
 
     ghost Value = { FaultsView };
 
-    ghost view = { λ f. record { rows = f.definitions.now; modes = keys_view f.modes.now; text = f.text.now; found = row_faults_view f.found.items } };
+    ghost view = { λ f. record { rows = f.definitions.now; modes = keys_view f.modes.now; text = rc_slice_items f.text.now.letters; found = row_faults_view f.found.items } };
 }
 
 /// The faults that were found.
@@ -57,16 +61,16 @@ pub(crate) fn at(name: &Name) -> NameAt<'_>
 fn fault_at(
     alloc: Global,
     kind: RowFaultKind,
-    text: &[u8],
+    text: &TextName,
     name: NameAt<'_>,
 ) -> Result<RowFault, AllocError>
-    ensures { IfOk result (λ fault. row_fault_view fault ≡ fault_at kind text.now (name_at_view name.entry)) }
+    ensures { IfOk result (λ fault. row_fault_view fault ≡ fault_at kind (rc_slice_items text.now.letters) (name_at_view name.entry)) }
 {
     Ok(RowFault {
         kind,
-        text: Vec::from_slice(alloc, text)?,
+        text: text.share()?,
         line: name.line,
-        name: Vec::from_slice(alloc, name.text)?,
+        name: NameText::from_slice(alloc, name.text)?,
     })
 }
 

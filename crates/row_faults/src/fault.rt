@@ -3,8 +3,11 @@
 ghost use Rattle.std.specs.Prelude.{◌≡◌};
 ghost use Rattle.row_faults.specs.FaultText.{row_fault_number, row_fault_name};
 
+use crate::text_name::TextName;
+use setting_values::values::NameText;
+
 /// What can be wrong with the rows of a text.
-#[derive(Clone, Copy, Debug, PartialEq, Eq)]
+#[derive(Clone, Copy, Debug, PartialEq, Eq, Hash)]
 pub enum RowFaultKind {
     /// A reserved event is posted: one of a game, or of a mode that the machine text lists. Or a
     /// variable is changed that the game alone sets, or whose change posts a reserved event. Or no
@@ -57,14 +60,15 @@ impl RowFaultKind {
 }
 
 /// What is wrong with the rows of a text.
-#[derive(Debug, Drop)]
+#[derive(Drop)]
+#[derive_where(Debug, PartialEq, Eq, Hash)]
 pub struct RowFault {
     pub kind: RowFaultKind,
     /// The name of the text.
-    pub text: Vec<u8>,
+    pub text: TextName,
     /// The line of what is at fault, counted from 1.
     pub line: u32,
     /// The name that is at fault: that of the event, the variable, the coil, the switch, the
     /// profile, the shot, the timer or the ball device.
-    pub name: Vec<u8>,
+    pub name: NameText,
 }

@@ -2,11 +2,12 @@
 
 ghost use Rattle.std.specs.Prelude.{◌≡◌, OnOk};
 ghost use Rattle.std.specs.Io.KnownBytes.{Appends};
+ghost use Rattle.std.specs.Rc.{rc_slice_items};
 ghost use Rattle.row_faults.specs.FaultText.{row_title, row_place, row_fault_line};
 ghost use Rattle.row_faults.specs.View.{row_fault_view};
 
 use crate::fault::{RowFault, RowFaultKind};
-use mpf_config::write_escaped;
+use crate::text_name::TextName;
 use std::io::{self, Write};
 
 /// Writes the line of a fault.
@@ -29,11 +30,11 @@ fn write_title<W: Write>(kind: RowFaultKind, writer: &mut W) -> io::Result<()>
 }
 
 /// Writes where a fault of a row is, and what is at fault.
-fn write_place<W: Write>(text: &[u8], line: u32, name: &[u8], writer: &mut W) -> io::Result<()>
-    ensures { OnOk result (Appends (W.contents writer.old) (W.contents writer.new) (row_place text.now line name.now)) }
+fn write_place<W: Write>(text: &TextName, line: u32, name: &[u8], writer: &mut W) -> io::Result<()>
+    ensures { OnOk result (Appends (W.contents writer.old) (W.contents writer.new) (row_place (rc_slice_items text.now.letters) line name.now)) }
 {
     writer.write_all(b" ")?;
-    write_escaped(text, writer)?;
+    text.write(writer)?;
     write!(writer, " {line} ")?;
     writer.write_all(name)?;
     writer.write_all(b"\n")

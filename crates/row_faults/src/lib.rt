@@ -15,8 +15,11 @@ mod routes;
 pub mod rows;
 mod shot_faults;
 mod targets;
+pub mod text_name;
 mod variable_faults;
 
 pub use fault::{RowFault, RowFaultKind};
 pub use fault_text::write_row_fault;
 pub use rows::faults_of_rows;
+pub use setting_values::values::NameText;
+pub use text_name::TextName;

@@ -3,12 +3,14 @@
 ghost use Rattle.std.specs.Prelude.{◌≡◌, ◌<◌, ◌^◌, [], true, not, IfOk};
 ghost use Rattle.yaml_subset.specs.Keys.{is_among, copies_view};
 ghost use Rattle.row_faults.specs.RowFaults.{listed_once};
+ghost use Rattle.row_faults.specs.Plain.{ArePlain, IsPlain};
 ghost use Rattle.row_faults.specs.Rising.{HaveLines, are_rising, is_before_next};
 ghost use Rattle.row_faults.specs.View.{row_fault_view, row_faults_view};
 ghost use Rattle.row_faults.specs.FaultsOf.{GainsLine, printed_line};
 
 use crate::fault::RowFault;
 use crate::fault_text::write_row_fault;
+use indexmap::IndexSet;
 use std::alloc::{AllocError, Global};
 use std::borrow::CowSlice;
 use yaml_subset::keys::{KeyHashing, KeySet, no_keys, take_key};
@@ -23,6 +25,9 @@ pub(crate) fn listed_once(
 {
     if are_rising(&faults) {
         return Ok(faults);
+    }
+    if are_plain(&faults) {
+        return first_of_each(alloc, hashing, faults);
     }
     first_of_each_line(alloc, hashing, faults)
 }
@@ -55,8 +60,66 @@ fn is_before_next(fault: &RowFault, after: &[RowFault]) -> bool
     }
 }
 
-/// The same as [`listed_once`], by the lines of all faults. They are hashed as the bundle says, whose
-/// parts they are.
+/// Whether the names of all texts of these are printed as they are, and as one word. Two of these
+/// print the same line if and only if they are equal.
+fn are_plain(faults: &[RowFault]) -> bool
+    ensures { result ≡ true → ArePlain (row_faults_view faults.now) }
+{
+    let mut rest = faults;
+    while let [fault, after @ ..] = rest {
+        if !is_plain(fault) {
+            return false;
+        }
+        rest = after;
+    }
+    true
+}
+
+/// Whether the name of its text is printed as it is, and as one word.
+fn is_plain(fault: &RowFault) -> bool
+    ensures { result ≡ true → IsPlain (row_fault_view fault.now) }
+{
+    // (the number of a line is below 2^64)
+    let _line = fault.line;
+    fault.text.is_plain()
+}
+
+/// The same as [`listed_once`], of faults that print the same line only if they are equal. So no
+/// line is made, which would take far more memory than the fault. They are hashed as the bundle
+/// says, whose parts they are.
+fn first_of_each(
+    alloc: Global,
+    hashing: KeyHashing,
+    faults: Vec<RowFault>,
+) -> Result<Vec<RowFault>, AllocError>
+    requires { ArePlain (row_faults_view faults.items) }
+    ensures { IfOk result (λ listed. row_faults_view listed.items ≡ listed_once [] (row_faults_view faults.items)) }
+{
+    let each = each_once(alloc, hashing, faults)?;
+    let mut listed = Vec::with_capacity(alloc, each.len())?;
+    for fault in each {
+        listed.push(fault)?;
+    }
+    Ok(listed)
+}
+
+/// The same, as a set.
+fn each_once(
+    alloc: Global,
+    hashing: KeyHashing,
+    faults: Vec<RowFault>,
+) -> Result<IndexSet<RowFault, KeyHashing>, AllocError>
+    requires { ArePlain (row_faults_view faults.items) }
+    ensures { IfOk result (λ each. row_faults_view each.keys ≡ listed_once [] (row_faults_view faults.items)) }
+{
+    let mut each = IndexSet::with_hasher(alloc, hashing);
+    for fault in faults {
+        each.insert(fault)?;
+    }
+    Ok(each)
+}
+
+/// The same as [`listed_once`], by the lines of all faults. They are hashed in the same way.
 fn first_of_each_line(
     alloc: Global,
     hashing: KeyHashing,

@@ -17,6 +17,7 @@ use crate::once::listed_once;
 use crate::reserved::{ModeEvents, add_posts, add_texts, events_of_modes};
 use crate::routes::add_route_faults;
 use crate::shot_faults::{Shots, add_groups, add_shots, shots_for_groups};
+use crate::text_name::TextName;
 use crate::variable_faults::add_variable_players;
 use indexmap::IndexSet;
 use machine_definitions::Definitions;
@@ -91,6 +92,7 @@ fn add_modes<'a>(
 fn add_all(faults: &mut Vec<RowFault>, own: Vec<RowFault>) -> Result<(), AllocError>
     ensures { OnOk result (GainsFaults faults.old faults.new (row_faults_view own.items)) }
 {
+    faults.reserve(own.len())?;
     for fault in own {
         faults.push(fault)?;
     }
@@ -111,11 +113,12 @@ fn faults_of_text<'a>(
     ensures taken { IfOk result (λ _. Takes taken.old taken.new (listed_by_sections definitions.now sections.now)) }
 {
     let own = shots_for_groups(alloc, definitions.config().hashing, sections)?;
+    let name = TextName::new(alloc, text)?;
     let mut faults = Faults {
         alloc,
         definitions,
         modes,
-        text,
+        text: &name,
         found: Vec::new(alloc),
     };
     add_sections(&mut faults, taken, &own, sections)?;

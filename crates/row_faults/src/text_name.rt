@@ -1,0 +1,91 @@
+//! The names of texts, as faults have them.
+
+ghost use Rattle.std.specs.Prelude.{◌≡◌, not, IfOk, OnOk};
+ghost use Rattle.std.specs.List.{list_any};
+ghost use Rattle.std.specs.Rc.{rc_slice_items};
+ghost use Rattle.std.specs.Io.KnownBytes.{Appends};
+ghost use Rattle.mpf_config.specs.Escaped.{escaped};
+ghost use Rattle.row_faults.specs.Plain.{is_mark, is_plain};
+
+use mpf_config::write_escaped;
+use std::alloc::{AllocError, Global};
+use std::io::{self, Write};
+use std::rc::RcSlice;
+
+/// The name of a text. All faults of the text share its letters.
+#[derive(Drop)]
+#[derive_where(Debug, PartialEq, Eq, Hash)]
+pub struct TextName {
+    letters: RcSlice<u8>,
+    /// Whether it is printed as it is, and as one word.
+    #[derive_where(skip)]
+    plain: bool,
+    ghost same: { plain ≡ is_plain (rc_slice_items letters) },
+}
+
+impl TextName {
+    /// The name with these letters.
+    ///
+    /// # Errors
+    ///
+    /// Memory ran out.
+    pub fn new(alloc: Global, letters: &[u8]) -> Result<Self, AllocError>
+        ensures { IfOk result (λ name. rc_slice_items name.letters ≡ letters.now) }
+    {
+        let plain = is_plain(letters);
+        let letters = RcSlice::from_slice(alloc, letters)?;
+        Ok(TextName { letters, plain })
+    }
+
+    /// The same name, with the same letters.
+    pub(crate) fn share(&self) -> Result<Self, AllocError>
+        ensures { IfOk result (λ name. rc_slice_items name.letters ≡ rc_slice_items self.now.letters) }
+    {
+        let letters = self.letters.clone()?;
+        let plain = self.plain;
+        Ok(TextName { letters, plain })
+    }
+
+    /// Its letters.
+    pub fn as_bytes(&self) -> &[u8]
+        ensures { result.now ≡ rc_slice_items self.now.letters }
+    {
+        &self.letters
+    }
+
+    /// Whether it is printed as it is, and as one word.
+    pub(crate) fn is_plain(&self) -> bool
+        ensures { result ≡ is_plain (rc_slice_items self.now.letters) }
+    {
+        self.plain
+    }
+
+    /// Writes it as a report has it.
+    pub(crate) fn write<W: Write>(&self, writer: &mut W) -> io::Result<()>
+        ensures { OnOk result (Appends (W.contents writer.old) (W.contents writer.new) (escaped (rc_slice_items self.now.letters))) }
+    {
+        if self.plain {
+            return writer.write_all(&self.letters);
+        }
+        write_escaped(&self.letters, writer)
+    }
+}
+
+/// Whether none of these bytes is a space, and none is to be escaped.
+fn is_plain(letters: &[u8]) -> bool
+    ensures { result ≡ is_plain letters.now }
+{
+    !has_mark(letters)
+}
+
+fn has_mark(letters: &[u8]) -> bool
+    ensures { result ≡ list_any is_mark letters.now }
+{
+    letters.iter().any(|byte| is_mark(*byte))
+}
+
+fn is_mark(byte: u8) -> bool
+    ensures { result ≡ is_mark byte }
+{
+    byte <= b' ' || byte == 127
+}
