@@ -1,11 +1,11 @@
 -- One event step more in plan order, from a core whose steps all have room.
-use Rattle.std.proofs.Common.{rules, ◌≡◌, ℕ, ◌+◌, ◌-◌, ◌<◌, List, ◌∷◌, length, refl, ap, sym, ◌∙◌, subst, arith}
+use Rattle.std.proofs.Common.{rules, ◌≡◌, ◌≢◌, ℕ, ◌+◌, ◌-◌, ◌<◌, List, [], ◌∷◌, length, refl, ap, sym, ◌∙◌, subst, arith}
 use Rattle.plan_tables.specs.PlanView.{PlanView}
 use Rattle.event_queue.specs.declared.queue.Posted.{Posted}
 use Rattle.written_machine.specs.declared.line.Happening.TheVariants as happenings
 use Rattle.written_machine.specs.{Machine.{Machine, write}, EventStep.taken}
 use Rattle.written_machine.specs.PlanOrder.{plan_step_from, plan_step, plan_steps}
-use Rattle.written_machine.proofs.{Growth.event-grows, PlanSteps.plan_steps-more}
+use Rattle.written_machine.proofs.{Growth.event-grows, PlanSteps.{plan_steps-more, plan_steps-add}}
 use Rattle.machine_core.specs.Core.{CoreView, CanCall, HasHandlers, IsWithin, StaysWithin, after, follow, after_taken}
 
 -- an event that is taken, and what is done then, is an event step
@@ -72,5 +72,33 @@ module _ (start now : CoreView) (stays : StaysWithin start)
       pub next-steps : next ≡ follow (plan_steps plan (count + 1)) start
       next-steps = search (rules, plan-stays, written-is, steps-are)
 
-      pub next-smaller : next.room - length next.machine.lines < now.room - length now.machine.lines
-      next-smaller = search (rules, handled-room, plan-stays, written-is, line-more)
+-- ---- a core that has advanced
+
+module _ (start now : CoreView) (stays : StaysWithin start) (count : ℕ) (is : now ≡ follow (plan_steps start.plan count) start) where
+  plan-is : now.plan ≡ start.plan
+  plan-is = ap (λ (c : CoreView). c.plan) is
+
+  -- it still has room for all that follows
+  pub now-stays : StaysWithin now
+  now-stays n =
+      subst (λ (plan : PlanView). IsWithin now.room (plan_steps plan n now.machine)) (sym plan-is)
+      (subst (λ (room : ℕ). IsWithin room (plan_steps start.plan n now.machine)) (sym (ap (λ (c : CoreView). c.room) is))
+      (subst (IsWithin start.room) (plan_steps-add start.plan count n start.machine ∙ sym (ap (λ (c : CoreView). plan_steps start.plan n c.machine) is)) (stays (count + n))))
+
+  module _ (new : CoreView) (new_is : new ≡ follow (plan_step now.plan) now) where
+    pub advanced-steps : new ≡ follow (plan_steps start.plan (count + 1)) start
+    advanced-steps = search (rules, plan-is, plan_steps-more)
+
+    more-lines : (ps : List Posted) → now.machine.waiting ≡ ps → now.machine.waiting ≢ [] → length now.machine.lines < length (plan_step start.plan now.machine).lines
+    more-lines [] none waits = absurd (waits none)
+    more-lines (first ∷ rest) some waits =
+        subst (λ (s : Machine). length now.machine.lines < length s.lines) (sym (step-is start now stays count is first rest some)) (line-more start now stays count is first rest some)
+
+    pub advanced-smaller : now.machine.waiting ≢ [] → new.room - length new.machine.lines < now.room - length now.machine.lines
+    advanced-smaller waits =
+        let more = more-lines now.machine.waiting refl waits in
+        let fits = (now-stays 1).lines in
+        let lines = ap (λ (c : CoreView). length c.machine.lines) new_is in
+        let same = ap (λ (plan : PlanView). length (plan_step plan now.machine).lines) plan-is in
+        let room = ap (λ (c : CoreView). c.room) new_is in
+        omega arith

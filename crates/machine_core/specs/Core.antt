@@ -1,5 +1,5 @@
 -- The state of a machine with its room, and what is done with it.
-use Rattle.std.specs.Prelude.{◌≡◌, ℕ, ◌<◌, ◌≤◌, ◌^◌, Bool, Option, Some, None, List, [], ◌∷◌, length}
+use Rattle.std.specs.Prelude.{◌≡◌, ◌≢◌, ℕ, ◌<◌, ◌≤◌, ◌^◌, Bool, true, false, Option, Some, None, List, [], ◌∷◌, length}
 use Rattle.plan_tables.specs.{PlanView.PlanView, declared.entries.{GameEvent.GameEvent, EventId.EventId}, Valid.HasGame}
 use Rattle.plan_tables.specs.declared.entries.Work.{Work, TheVariants.{Nothing, Mode, Game}}
 use Rattle.player_game.specs.{declared.game.GameWork.GameWork, GameStep.{GameStep, game_step}}
@@ -7,7 +7,7 @@ use Rattle.switch_core.specs.Switches.{IsComplete}
 use Rattle.event_queue.specs.{declared.queue.Posted.Posted, PlanOrder.by_priority}
 use Rattle.mode_stack.specs.Modes.{running_of}
 use Rattle.written_machine.specs.Machine.{Machine, all_do, do_handler, home_of, set_game, set_players}
-use Rattle.written_machine.specs.{Devices.HasDevices, NextAlarm.next_alarm, PlanOrder.plan_steps}
+use Rattle.written_machine.specs.{Devices.HasDevices, NextAlarm.next_alarm, PlanOrder.{plan_step, plan_steps}}
 use Rattle.written_machine.specs.EventStep.{work_before, work_after, handlers_in}
 use Rattle.written_machine.specs.Run.{Stimulus, SwitchChange, Alarm, Wait}
 
@@ -99,6 +99,11 @@ pub record IsWithin (room : ℕ) (s : Machine) : Type 0 where
 -- the machine stays within these bounds after each number of event steps in plan order
 abbrev pub StaysWithin : CoreView → Type 0
 StaysWithin c = (n : ℕ) → IsWithin c.room (plan_steps c.plan n c.machine)
+
+-- one event step in plan order, as an event waits; or nothing, as none does
+abbrev pub HasAdvanced : CoreView → Bool → CoreView → Type 0
+HasAdvanced old true new = (old.machine.waiting ≢ []) × (new ≡ follow (plan_step old.plan) old)
+HasAdvanced old false new = (old.machine.waiting ≡ []) × (new ≡ old)
 
 -- so many event steps in plan order that nothing waits any more
 pub record HasSettled (old new : CoreView) : Type 0 where

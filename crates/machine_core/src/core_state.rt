@@ -148,12 +148,32 @@ fn waiting_parts<'p>(
     ensures lines { IfOk result (λ w. w.lines.items ≡ []) }
     ensures room { IfOk result (λ w. room ≤ vec_capacity w.lines) }
 {
+    let alarms = Alarms::new(alloc, plan.rows().len() as u16)?;
+    let queue = Queue::new(alloc, room)?;
+    let handlers = Handlers::new(alloc, plan)?;
+    let lines = room_for_lines(alloc, room)?;
     Ok(WaitingParts {
-        alarms: Alarms::new(alloc, plan.rows().len() as u16)?,
-        queue: Queue::new(alloc, room)?,
-        handlers: Handlers::new(alloc, plan)?,
-        lines: Vec::with_capacity(alloc, room)?,
+        alarms,
+        queue,
+        handlers,
+        lines,
     })
+}
+
+/// No lines, with room for so many. The room is written once, so that no line waits for a page of
+/// memory later.
+fn room_for_lines(alloc: Global, room: usize) -> Result<Vec<Line>, AllocError>
+    ensures lines { IfOk result (λ lines. lines.items ≡ []) }
+    ensures room { IfOk result (λ lines. room ≤ vec_capacity lines) }
+{
+    let any = Line {
+        moment: 0,
+        owner: Owner::Machine,
+        happening: Happening::Event(EventId(0)),
+    };
+    let mut lines = vec![in alloc; any; room]?;
+    lines.clear();
+    Ok(lines)
 }
 
 impl<'p, D: Device> Core<'p, D> {

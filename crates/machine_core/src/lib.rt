@@ -17,5 +17,5 @@ mod tellings;
 
 pub use core_state::Core;
 pub use fault::CoreFault;
-pub use parts::{begin, settle};
+pub use parts::{advance, begin, settle};
 pub use stimulus::{Source, Stimulus};

@@ -12,7 +12,7 @@ ghost use Rattle.written_machine.specs.Machine.{all_do, post, post_if, release_b
 ghost use Rattle.written_machine.specs.EventStep.{is_kept, do_before, do_after};
 ghost use Rattle.written_machine.specs.Run.{begin as begun, fire as fired};
 ghost use Rattle.written_machine.specs.NextAlarm.{next_alarm};
-ghost use Rattle.machine_core.specs.Core.{IsWhole, CanCall, HasHandlers, IsWorkOf, IsPlayable, IsWithin, StaysWithin, HasSettled, after, follow, after_taken};
+ghost use Rattle.machine_core.specs.Core.{IsWhole, CanCall, HasHandlers, IsWorkOf, IsPlayable, IsWithin, StaysWithin, HasAdvanced, HasSettled, after, follow, after_taken};
 ghost use Rattle.machine_core.specs.Inside.{kept_at};
 ghost use Rattle.machine_core.specs.Stimuli.{source_view, stimulus_view};
 
@@ -146,9 +146,25 @@ pub fn settle<D: Device>(core: &mut Core<'_, D>)
     ensures settled { HasSettled core.old core.new }
     ensures calls { CanCall core.new }
 {
-    while let Some(first) = core.take() {
-        core.write(first.owner, Happening::Event(first.event));
-        take_step(core, first.event);
+    while advance(core) {}
+}
+
+/// Takes one event step, in plan order, and says so; or says that no event waits, and does nothing.
+/// The rest is as of `settle`: there has to be room for this step and all that follow.
+pub fn advance<D: Device>(core: &mut Core<'_, D>) -> bool
+    requires handlers { HasHandlers core.old }
+    requires calls { CanCall core.old }
+    requires room { StaysWithin core.old }
+    ensures advanced { HasAdvanced core.old result core.new }
+    ensures calls { CanCall core.new }
+{
+    match core.take() {
+        Some(first) => {
+            core.write(first.owner, Happening::Event(first.event));
+            take_step(core, first.event);
+            true
+        }
+        None => false,
     }
 }
 

@@ -1,5 +1,6 @@
-//! A device that sees what the board has taken when the device is stopped. At the end of a rig, whether it is shut down
-//! or dropped, halted or not, all coils are turned off before a device is stopped.
+//! A device that sees what the board has taken when the device is hit or stopped. At the end of a rig, whether it is
+//! shut down or dropped, halted or not, all coils are turned off before a device is stopped. And each event step sends
+//! its commands before the next one begins.
 
 use crate::cases::{Subject, assert_rows};
 use crate::fuses::board_of;
@@ -15,7 +16,7 @@ use std::cell::Cell;
 use std::rc::Rc;
 use worked_rows::Pen;
 
-/// A counter that notes how many commands the board had taken when it was stopped first.
+/// A counter that notes how many commands the board had taken when it was hit or stopped first.
 #[derive(Drop)]
 struct Witness {
     counter: Counter,
@@ -28,6 +29,12 @@ fn count_of(taken: &Taken) -> usize {
     match taken.try_borrow() {
         Ok(taken) => taken.len(),
         Err(_) => usize::MAX,
+    }
+}
+
+impl Witness {
+    fn note(&self) {
+        self.seen.set(self.seen.get().min(count_of(&self.taken)));
     }
 }
 
@@ -55,7 +62,7 @@ impl Device for Witness {
     }
 
     fn stop(&mut self, now: u64, world: World) -> Outcome {
-        self.seen.set(self.seen.get().min(count_of(&self.taken)));
+        self.note();
         self.counter.stop(now, world)
     }
 
@@ -68,6 +75,7 @@ impl Device for Witness {
     }
 
     fn act(&mut self, act: Act, now: u64, world: World) -> Outcome {
+        self.note();
         self.counter.act(act, now, world)
     }
 }
@@ -98,8 +106,8 @@ fn run<D: Device>(alloc: Global, checked: &Checked, device: D, board: FuseBoard,
     }
 }
 
-/// How many commands a board had taken when the device was stopped, and how many at the end, if the board faults at
-/// its command of a number. There are none if memory runs out.
+/// How many commands a board had taken when the device was hit or stopped first, and how many at the end, if the board
+/// faults at its command of a number. There are none if memory runs out.
 fn counts_of(
     alloc: Global,
     checked: &Checked,
@@ -114,7 +122,8 @@ fn counts_of(
 }
 
 /// Answers to a number and a word: how many commands a board that faults at its command of this number has taken when
-/// the device is stopped, and how many at the end. The word says how the rig ends: `dropped`, or `shut_down`.
+/// the device is hit or stopped first, and how many at the end. The word says how the rig ends: `dropped`, or
+/// `shut_down`.
 pub(crate) fn ended(pen: &mut Pen, checked: &Checked, words: &str) {
     match counts_of(
         pen.alloc,
@@ -128,7 +137,8 @@ pub(crate) fn ended(pen: &mut Pen, checked: &Checked, words: &str) {
 }
 
 // The switch pulses one coil and enables another. Both are turned off at the end. If the board faults at command 1, the
-// rig is halted: it turns off the coil of that command alone.
+// rig is halted: it turns off the coil of that command alone. In the second machine the device is hit in the next event
+// step: the board has both commands by then.
 const ENDS: &str = "\
 switches:
   s: {debounce: quick}
@@ -148,7 +158,24 @@ ends 1 shut_down => (1, 1)
 ends 2 dropped => (3, 3)
 ends 2 shut_down => (3, 3)
 ends 3 dropped => (3, 3)
-ends 3 shut_down => (3, 3)";
+ends 3 shut_down => (3, 3)
+
+switches:
+  s: {debounce: quick}
+coils:
+  c:
+  d: {allow_enable: yes}
+coil_player:
+  s_active: {c: pulse, d: enable}
+event_player:
+  s_active: hit
+counters:
+  hits:
+    count_events: hit
+?
+ends 0 dropped => (2, 4)
+ends 1 dropped => (0, 1)
+ends 2 shut_down => (1, 3)";
 
 #[test]
 fn ends(rt: HostRuntime) {

@@ -5,7 +5,7 @@ ghost use Rattle.std.specs.Prelude.{◌≡◌, length};
 ghost use Rattle.cascade_rank.specs.Weights.{IsWithinLimit};
 
 use crate::cases::{Subject, add, assert_rows};
-use cascade_rank::{Weights, find, switch_cost, verify};
+use cascade_rank::{Weights, find, switch_cost, verify, work_bound};
 use event_queue::{Handlers, Posted, Queue};
 use mpf_config::Config;
 use mpf_plan::plan;
@@ -104,6 +104,7 @@ fn told(pen: &mut Pen, plan: &Plan, word: &str, rest: &str) {
         "find" => add_least(pen, plan),
         "verify" => judged(pen, plan, rest),
         "costs" => add_costs(pen, plan),
+        "work" => add(pen, &work_bound(pen.alloc, plan)),
         "queue" => queued(pen, rest),
         _ => add_entry(pen, plan, word, rest.parse::<u16>().unwrap_or(u16::MAX)),
     }
@@ -346,6 +347,7 @@ verify 3 1 1 1 1 => Err(WrongEvents)
 verify 99999 1 1 1 => Ok(Bound(100000))
 verify 100000 1 1 1 => Err(BoundTooLarge)
 costs => 4 Ok(Bound(4))
+work => Ok(Within(5))
 
 switches:
   s_a:
@@ -355,6 +357,7 @@ event_player:
   s_a_active: x
 ?
 costs => 3 5 Ok(Bound(5))
+work => Ok(Within(5))
 
 switches:
   s_ball:
@@ -388,6 +391,7 @@ verify 1 2147483648 3 => Err(Short(EventId(0), 4294967297))
 verify 3 1 100000 => Ok(Bound(0))
 verify 3 1 100001 => Err(BoundTooLarge)
 costs => Ok(Bound(0))
+work => Ok(Within(0))
 
 event_player:
   e0: e1
@@ -431,6 +435,7 @@ event_player:
 find => 99999 1 314 1
 verify 99999 1 314 1 => Ok(Bound(100000))
 costs => 100000 Ok(Bound(100000))
+work => Ok(Within(100319))
 
 switches:
   s_left:
@@ -441,11 +446,45 @@ event_player:
 find => BoundTooLarge
 verify 100000 1 314 1 => Err(BoundTooLarge)
 costs => none
+work => Ok(Within(100320))
+
+switches:
+  s:
+    events_when_activated: e
+counters:
+  c: {count_events: z, enable_events: [e, e]}
+?
+costs => 3 Ok(Bound(3))
+work => Ok(Within(7))
+
+switches:
+  s:
+event_player:
+  s_active: «1000 e1, »
+  e1: «1000 e2, »
+  e2: «1000 e3, »
+  e3: «1000 e4, »
+?
+work => Ok(Within(1002002002003))
+
+switches:
+  s:
+event_player:
+  s_active: «1000 e1, »
+  e1: «1000 e2, »
+  e2: «1000 e3, »
+  e3: «1000 e4, »
+  e4: «1000 e5, »
+  e5: «1000 e6, »
+  e6: «1000 e7, »
+?
+work => Ok(Beyond)
 
 event_player:
   e0: e1, e0
 ?
 find => Cycle([EventId(0)])
+work => Err(Cycle([EventId(0)]))
 
 event_player:
   e0: e1

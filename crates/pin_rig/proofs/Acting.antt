@@ -91,6 +91,14 @@ module _ (c : CheckedView) (core : CoreView) (driver : DriverView) (shown : ℕ)
         early = omega (arith, early, moment-begin c.plan stimulus core.machine);
       }
 
+  -- the lines of so many event steps can be sent
+  steps-sendable : (n : ℕ) → All (IsSendable (length driver.sent)) (plan_steps c.plan n begun).lines
+  steps-sendable n =
+      let there = plan_steps c.plan n begun in
+      let (count, steps) = plan_steps-event_steps c.plan n begun in
+      sent-sendable there.moment core.machine.coils (length driver.sent) there.lines (omega (arith, early, moment-after c.plan stimulus core.machine count there steps))
+      (ap (λ (s : List CoilState). length s) (sym (held.all_sent running))) (cascade-agrees c.plan stimulus core.machine count there steps).sent
+
   module _ (new : CoreView) (settled : HasSettled begun_core new) where
     -- as many steps as the bound allows lead to the same state
     same : plan_steps c.plan c.bound begun ≡ new.machine
@@ -114,10 +122,6 @@ module _ (c : CheckedView) (core : CoreView) (driver : DriverView) (shown : ℕ)
 
     late : new.machine.moment < 2 ^ 40
     late = omega (arith, early, moment-after c.plan stimulus core.machine count new.machine steps)
-
-    -- its lines can be sent
-    sendable : All (IsSendable (length driver.sent)) new.machine.lines
-    sendable = sent-sendable new.machine.moment core.machine.coils (length driver.sent) new.machine.lines late (ap (λ (s : List CoilState). length s) (sym (held.all_sent running))) agrees.sent
 
     plan-again : new.plan ≡ c.plan
     plan-again = ap (λ (v : CoreView). v.plan) settled.new_is ∙ held.plan_is
@@ -198,12 +202,14 @@ module _ (c : CheckedView) (core : CoreView) (driver : DriverView) (shown : ℕ)
     pub now-stays : StaysWithin now
     now-stays = subst StaysWithin (sym now-is) begun-stays
 
+    pub now-sendable : (n : ℕ) → All (IsSendable (length driver.sent)) (plan_steps now.plan n now.machine).lines
+    now-sendable n =
+        subst (λ (v : CoreView). All (IsSendable (length driver.sent)) (plan_steps v.plan n v.machine).lines) (sym now-is)
+        (subst (λ (p : PlanView). All (IsSendable (length driver.sent)) (plan_steps p n begun).lines) (sym held.plan_is) (steps-sendable n))
+
     module _ (new : CoreView) (settled : HasSettled now new) where
       settled-here : HasSettled begun_core new
       settled-here = subst (λ (v : CoreView). HasSettled v new) now-is settled
-
-      pub can-send : (ls : List Line) → ls ≡ new.machine.lines → All (IsSendable (length driver.sent)) ls
-      can-send ls is = subst (All (IsSendable (length driver.sent))) (sym is) (sendable new settled-here)
 
       module _ (sent : DriverView) (counted : length sent.sent ≡ length driver.sent) (place : ℕ) (ls : List Line) (lines_are : ls ≡ new.machine.lines) where
         module _ (whole : HasSent ls driver sent) (place_is : place ≡ length ls) where

@@ -1,6 +1,7 @@
 //! The controller: the machine of a configuration that was accepted, one input at a time.
 #![tactic(auto)]
 
+mod cascade;
 pub mod exchange;
 pub mod input;
 pub mod law;

@@ -2,13 +2,14 @@
 
 ghost use Rattle.std.specs.Prelude.{◌≡◌};
 
+use crate::cascade::run_cascade;
 use crate::exchange::Refusal;
 use crate::input::{Input, RigFault, StepFault, check_moment};
 use coil_driver::{Driver, ShutReport};
 use coil_guard::{Board, Coils};
 use config_checker::Checked;
 use device_objects::{Device, DeviceState, is_same_row, is_same_state};
-use machine_core::{Core, Stimulus, begin, settle};
+use machine_core::{Core, Stimulus, begin};
 use plan_tables::RowId;
 use std::alloc::Global;
 use std::marker::Model;
@@ -17,10 +18,10 @@ use written_machine::Line;
 /// The machine of an accepted configuration with its board, between two stimuli: no event waits, and
 /// a run of the plan leads to its state. Moments are milliseconds, below 2^40.
 ///
-/// At each stimulus the machine goes through its whole cascade, and then the commands of its lines
-/// are sent to the board, in order. At the first one that the board does not take the rig is
-/// halted: it sends nothing more, and refuses every input. `now`, `next_due` and `state` are those
-/// of the end of the cascade then too.
+/// At each stimulus the machine goes through its whole cascade. The commands of its lines are sent
+/// to the board in order, after each event step. At the first one that the board does not take the
+/// rig is halted: it sends nothing more, and refuses every input. The cascade goes on, and `now`,
+/// `next_due` and `state` are those of its end then too.
 ///
 /// A rig that is dropped sends the commands that `shut_down` sends.
 pub struct Rig<'c, D: Device, B: Board> {
@@ -111,8 +112,9 @@ impl<'c, D: Device, B: Board> Rig<'c, D, B> {
     }
 
     /// Takes one input, and runs the whole cascade that it begins, the handlers of each event in
-    /// plan order. Then it sends the commands of the lines to the board, in order. It returns the
-    /// lines of the input and of its event steps, in the order in which they came. After a refusal,
+    /// plan order. It sends the commands of the lines to the board in order: those of the input
+    /// itself, and then those of each event step, before the next one begins. It returns the lines
+    /// of the input and of its event steps, in the order in which they came. After a refusal,
     /// `trace` still returns the lines of the step before.
     ///
     /// # Errors
@@ -261,8 +263,7 @@ impl<'c, D: Device, B: Board> Rig<'c, D, B> {
     {
         let stimulus = self.judge(input)?;
         begin(&mut self.core, stimulus);
-        settle(&mut self.core);
-        match self.driver.serve(self.core.lines()) {
+        match run_cascade(&mut self.core, &mut self.driver) {
             None => {
                 self.shown = self.core.lines().len();
                 Ok(())
