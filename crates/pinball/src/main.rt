@@ -10,7 +10,7 @@ use pinball_shell::{
     BUNDLE_LIMIT, Failure, ShellFault, Verdict, check_bundle, load_bundle, play_text, read_all,
     status, verify_bundle,
 };
-use row_devices::device_of;
+use row_devices::devices_of;
 use std::alloc::Global;
 use std::fs;
 use std::io::{self, BufWriter, Read, Write};
@@ -132,13 +132,8 @@ fn play_log<L: Read, W: Write>(
     log: &mut L,
     writer: &mut W,
 ) -> Result<Verdict, ShellFault> {
-    let mut devices = Vec::new(alloc);
-    for row in checked.plan().rows() {
-        if let Some(device) = device_of(row) {
-            devices.push(device)?;
-        }
-    }
     let board = MemoryBoard::new(alloc)?;
+    let devices = devices_of(alloc, checked.plan().rows())?;
     play_text(alloc, checked, devices, board, log, writer)
 }
 
