@@ -68,10 +68,38 @@ def resting(count: int) -> bytes:
     return with_modes(f"{switches}coils:\n  c:\nball_devices:\n{devices}", {})
 
 
+# ---- a mode that starts and stops again and again
+
+TOGGLED = MODE.replace("s_active", "t_active").replace("never", "t_inactive")
+
+
+def with_handlers(count: int) -> bytes:
+    """A mode with so many handlers of an event, of which the machine has as many."""
+    handlers = "event_player:\n" + "".join(f"  e{{current_player.score >= {n}}}: a\n" for n in range(count))
+    return with_modes(SWITCHES + handlers, {"m": TOGGLED + handlers})
+
+
+def with_coils(count: int) -> bytes:
+    """A mode that holds so many coils while it runs."""
+    coils = "coils:\n" + "".join(f"  c_{n}: {{allow_enable: yes}}\n" for n in range(count))
+    held = "".join(f"    c_{n}: enable\n" for n in range(count))
+    return with_modes(SWITCHES + coils, {"m": f"{TOGGLED}coil_player:\n  mode_m_started:\n{held}"})
+
+
+def with_counters(count: int) -> bytes:
+    """A mode with so many counters."""
+    counters = "".join(f"  k_{n}: {{count_events: e}}\n" for n in range(count))
+    return with_modes(SWITCHES, {"m": f"{TOGGLED}counters:\n{counters}"})
+
+
 ALL = (
     Growing("ticks of timers", (128, 512), 1.3, timers, ticks),
     Growing("stopped modes that handle an event", (0, 64), 1.1, stopped, lambda _: toggles(CHANGES)),
     Growing("ball devices at rest, hits of the playfield", (30, 240), 1.2, resting, lambda _: toggles(CHANGES)),
+    # (the larger has twice as much to do; with coils it also writes twice as many lines)
+    Growing("starts and stops of a mode with handlers", (4000, 8000), 2.1, with_handlers, lambda _: toggles(100)),
+    Growing("starts and stops of a mode that holds coils", (128, 256), 1.05, with_coils, lambda _: toggles(1000)),
+    Growing("starts and stops of a mode with counters", (512, 1024), 2.1, with_counters, lambda _: toggles(1000)),
 )
 
 

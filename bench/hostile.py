@@ -28,6 +28,7 @@ LOGS = (8 * MIB, 16 * MIB)
 RUNS = 3
 # The bars.
 TIMES_ORDINARY = 5
+TIMES_FOUND = 6  # of the texts that were found later
 MEMORY_OF_TEXT = 40  # bytes for each byte of a bundle
 DOUBLED = 2.05
 DOUBLED_LOG = 2.1
@@ -44,18 +45,21 @@ def made(size: int, of_seven: int) -> dict[str, bytes]:
 
 def dear_texts(program: str, path: pathlib.Path, bars: Bars) -> None:
     """A line for each text: its instructions for each byte, beside those of the ordinary text, and its memory."""
-    print(f"check of texts: instructions for each of {COUNTED} bytes, bar {TIMES_ORDINARY} times the ordinary text;")
+    print(f"check of texts: instructions for each of {COUNTED} bytes, bar {TIMES_ORDINARY} times the ordinary text,")
+    print(f"and {TIMES_FOUND} times from '{next(iter(tiny.FOUND))}' on;")
     print(f"memory for each of {WEIGHED} bytes, bar {MEMORY_OF_TEXT} bytes")
     ordinary = 0.0
-    large = made(WEIGHED, WEIGHED)
-    for what, bundle in made(COUNTED, COUNTED // tiny.MODES).items():
+    large = made(WEIGHED, WEIGHED) | tiny.found(WEIGHED)
+    found = tiny.found(COUNTED)
+    for what, bundle in (made(COUNTED, COUNTED // tiny.MODES) | found).items():
+        most = TIMES_FOUND if what in found else TIMES_ORDINARY
         path.write_bytes(bundle)
         count = counted([program, "check"], path)
         each = count.instructions / len(bundle)
         print(f"{f'{what} ({count.status})':38} {each:7.0f} ", end="")
         if ordinary:
             ratio = each / ordinary
-            print(f"{ratio:6.2f} {bars.judged(ratio, TIMES_ORDINARY)}", end="")
+            print(f"{ratio:6.2f} {bars.judged(ratio, most)}", end="")
         else:
             ordinary = each
             print(" " * 14, end="")

@@ -5,12 +5,14 @@ PROGRAM is pinball, and LIVE pinball_live, proved. First it counts the instructi
 again, and the other only waits. Of each a short log is taken away from a longer one, so that reading the configuration
 and making the machine are left out. Then it plays a game of FOLDER over pipes, line by line, and hits a slingshot many
 times: it times each hit from before its line is written until the line of the coil has been read, and until the answer
-has ended. Beside it stand the same lines through `cat`: what pipes, the kernel and Python take. It ends with status 1
-where a line costs more than its bar, or the times do."""
+has ended. Beside it stand the same lines through `cat`: what pipes, the kernel and Python take. At last it times the
+first change of a switch, and later ones, of a machine in which each writes 90,000 lines. It ends with status 1 where a
+line costs more than its bar, or the times do."""
 import dataclasses
 import os
 import pathlib
 import re
+import statistics
 import subprocess
 import sys
 import tempfile
@@ -29,6 +31,9 @@ GAME = (
     "0 s_trough_1 1", "0 s_trough_2 1", "1000 s_start 1", "1100 s_start 0", "1500 s_trough_1 0", "2100 s_plunger 1",
     "2700 s_plunger 0")
 SWITCH, COIL = "s_left_sling", b"coil c_left_sling pulse"
+POSTS = 300  # of an event, each of which posts another one 299 times
+STARTS, CHANGES = 9, 12
+MOST_FIRST = 1.3  # times a later change
 PARTS = {"least": 0, "p50": 500, "p90": 900, "p99": 990, "p99.9": 999, "most": 1000}
 MOMENT = re.compile(rb"^\d+", re.MULTILINE)
 
@@ -115,6 +120,49 @@ def show(what: str, times: list[int]) -> None:
     print(f"{what:32}" + "".join(f"{at(times, part):9.1f}" for part in PARTS.values()))
 
 
+def large(folder: pathlib.Path) -> None:
+    """A machine in which a change of a switch writes 90,000 lines."""
+    posts, more = ", ".join(["a"] * POSTS), ", ".join(["b"] * (POSTS - 1))
+    text = f"#config_version=6\nswitches:\n  s: {{debounce: quick}}\nevent_player:\n  s_active: {posts}\n  a: {more}\n"
+    (folder / "config").mkdir()
+    (folder / "config/config.yaml").write_text(text)
+
+
+def changes(live: str, folder: str) -> list[int]:
+    """Nanoseconds for each of the first changes after a start."""
+    found = []
+    with subprocess.Popen([live, folder], bufsize=0, stdin=subprocess.PIPE, stdout=subprocess.PIPE) as process:
+        assert process.stdin and process.stdout
+        inlet, outlet = process.stdin.fileno(), process.stdout.fileno()
+        os.read(outlet, ROOM)
+        for n in range(2 * CHANGES):
+            begun, last = time.perf_counter_ns(), b""
+            os.write(inlet, b"%d s %d\n" % (n, 1 - n % 2))
+            while b"\ndue -\n" not in last:
+                piece = os.read(outlet, ROOM)
+                if not piece:
+                    sys.exit(f"{live} has ended")
+                last = last[-8:] + piece
+            if n % 2 == 0:
+                found.append(time.perf_counter_ns() - begun)
+        process.stdin.close()
+    return found
+
+
+def first_change(live: str) -> bool:
+    """Whether the first change takes as long as a later one."""
+    with tempfile.TemporaryDirectory() as name:
+        large(pathlib.Path(name))
+        all_changes = [changes(live, name) for _ in range(STARTS)]
+    first = statistics.median(it[0] for it in all_changes) / 1e6
+    later = statistics.median(time for it in all_changes for time in it[1:]) / 1e6
+    ratio = first / later
+    judged = "met" if ratio <= MOST_FIRST else "not met"
+    print(f"\na change of 90,000 lines: the first {first:.2f} ms, a later one {later:.2f} ms, {ratio:.2f} times, "
+          f"bar {MOST_FIRST} {judged}")
+    return ratio <= MOST_FIRST
+
+
 def main(program: str, live: str, folder: str) -> int:
     is_well = True
     log = pathlib.Path(folder, "log").read_bytes()
@@ -135,6 +183,7 @@ def main(program: str, live: str, folder: str) -> int:
     if at(times.to_end, PARTS["p99"]) > MOST_MICROSECONDS:
         print(f"p99 is above {MOST_MICROSECONDS:.0f} microseconds")
         is_well = False
+    is_well &= first_change(live)
     return 0 if is_well else 1
 
 

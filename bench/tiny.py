@@ -63,6 +63,16 @@ FILLED = {
 # What is between the brackets of one list.
 LISTED = {"empty lists": "[],", "empty mappings": "{},", "empty texts": "'',", "keys alone": "{a: },"}
 MODES = 7
+LONG = "m" * 64  # the longest name of a mode
+UNKNOWN = 16  # names to a list
+ITEMS = 1000  # of one mapping
+# The same, of the texts that were found later.
+FOUND = {
+    "ball devices of 16 unknown switches": ("ball_devices:\n", f": {{ball_switches: {' '.join(LETTERS[:UNKNOWN])}}}"),
+    "accruals of 16 lists of one event": ("accruals:\n", f": {{events: [{'[a],' * 16}]}}"),
+    "sequences of 16 steps": ("sequences:\n", f": {{events: [{'a,' * 16}]}}"),
+}
+NESTED = "[[[[[[[]]]]]]],"
 
 
 def names(length: int) -> Iterator[str]:
@@ -101,6 +111,45 @@ def texts(size: int, of_seven: int) -> dict[str, bytes]:
     made["shots beside a mode"] = stacked.bundle(beside, {"m_0": VERSION})
     made[f"shots of {MODES} modes"] = of_modes("shots:\n", 4, MODES, of_seven)
     return made
+
+
+def found(size: int) -> dict[str, bytes]:
+    """Bundles of texts of so many bytes that were found later: those before them did not show what they cost."""
+    made = {kind: bundle(entries(front, names(3), rest, size)) for kind, (front, rest) in FOUND.items()}
+    made["lists in lists"] = bundle(listed(NESTED, size))
+    made["groups of 16 unknown shots"] = of_long("shot_groups:\n", unknown_shots(), size)
+    made["items of unknown coils"] = of_long("coil_player:\n", unknown_coils(), size)
+    return made
+
+
+def chunks(named: Iterator[str], count: int) -> Iterator[list[str]]:
+    """Lists of so many names each."""
+    while chunk := list(itertools.islice(named, count)):
+        yield chunk
+
+
+def unknown_shots() -> Iterator[str]:
+    """Groups of shots that no text defines."""
+    for name, shots in zip(names(3), chunks(names(3), UNKNOWN)):
+        yield f" {name}: {{shots: {' '.join(shots)}}}\n"
+
+
+def unknown_coils() -> Iterator[str]:
+    """Events, each of which pulses coils that no text defines."""
+    for event, coils in zip(names(2), chunks(names(3), ITEMS)):
+        yield f" {event}: {{{','.join(f'{coil}: pulse' for coil in coils)}}}\n"
+
+
+def of_long(front: str, made: Iterator[str], size: int) -> bytes:
+    """As many of these lines as fit into so many bytes, in the text of a mode whose name is long."""
+    text = VERSION + front
+    parts, length = [text], len(text)
+    for line in made:
+        length += len(line)
+        if length > size:
+            break
+        parts.append(line)
+    return stacked.bundle(f"{VERSION}modes: {LONG}\n", {LONG: "".join(parts)})
 
 
 def own_posts(size: int) -> str:

@@ -52,7 +52,8 @@ def feed(process: subprocess.Popen[bytes], parts: list[bytes]) -> None:
 def answered(live: Path, folder: Path, parts: list[bytes]) -> tuple[bytes, int]:
     """What pinball_live writes, without its lines `due`, and its status."""
     with subprocess.Popen(
-        [live, folder], bufsize=0, stdin=subprocess.PIPE, stdout=subprocess.PIPE, stderr=subprocess.DEVNULL) as process:
+        [live, "--any-work", folder], bufsize=0, stdin=subprocess.PIPE, stdout=subprocess.PIPE,
+        stderr=subprocess.DEVNULL) as process:
         assert process.stdout
         writing = threading.Thread(target=feed, args=(process, parts))
         writing.start()

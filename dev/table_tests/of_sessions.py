@@ -226,6 +226,20 @@ def a_machine_that_is_refused_is_not_played() -> None:
 
 
 @test
+def a_machine_of_too_much_work_is_not_played() -> None:
+    with tempfile.TemporaryDirectory() as room:
+        program = Path(room) / "live"
+        program.write_text("#!/bin/sh\necho work 1000001\necho 'refused: the work bound is above 1000000'\nexit 1\n")
+        program.chmod(0o755)
+        try:
+            Live(str(program), COMPLETE, SLOW)
+        except Refused as refused:
+            assert str(refused).startswith("work 1000001\nrefused: the work bound"), refused
+        else:
+            raise AssertionError("it is played")
+
+
+@test
 def a_line_that_is_refused_is_reported() -> None:
     for answers in (replayed(COMPLETE), Live(programs["live"], COMPLETE, SLOW)):
         answers.ask("10 s_ramp 1")

@@ -13,7 +13,7 @@ from .adopt import command as adopt
 from .answers import Answer, answer_of, complaint_of
 from .findings import Finding, as_json, cure_of, finding_of, shown
 from .printed import clean
-from .program import NoAnswer, Program, path_of
+from .program import NoAnswer, Program, path_of, work_bound
 from .scenery import Scenery
 from .texts import MACHINE, Log, read_texts, write_texts
 from .ways import Cure
@@ -28,6 +28,7 @@ LINE_NUMBERS = (
 MAY_BE_MORE = "There may be others that come after the last of these: mend it, and look again."
 CUT_SHORT = "There may be others, as time ran out: mend these, and look again; or give it more time by --within SECONDS."
 MOST_IN_FULL = 8  # findings; more are listed in short form
+MOST_STEPS = 1_000_000  # that `pinball_live` takes
 MOST_CURES = 200  # that `explain` looks for in the texts: each may take milliseconds
 MOST_NAMES = 3  # of switches that are named, and not counted
 MOST_OF_YES = 10_000  # lines of a certificate, which has one for each event and switch
@@ -136,8 +137,26 @@ def write_explain(asked: argparse.Namespace) -> int:
     elif of_yes:
         print("yes: the machine is accepted. What that promises is in docs/promises.md.")
         answer = answer_of("\n".join(of_yes))
-        print(f"{longest(answer)}\n" if answer.switches else "")
+        if answer.switches:
+            print(longest(answer))
+        if asked.dir:
+            print(work_words(Path(asked.dir)))
+        print()
     return 0
+
+
+def work_words(folder: Path) -> str:
+    """How much work a change of a switch or an alarm may be."""
+    bound = work_bound(folder)
+    if not bound:
+        return "`pinball_live --work DIR` says how much work a change or an alarm can be (docs/live.md)."
+    if bound.isdecimal() and int(bound) <= MOST_STEPS:
+        return f"A change of a switch, or an alarm, causes at most {int(bound):,} lines and steps (docs/live.md)."
+    many = f"{int(bound):,}" if bound.isdecimal() else "2^64 - 1 or more"
+    return (
+        f"A change of a switch, or an alarm, may cause {many} lines and steps. `pinball_live` runs no machine above\n"
+        f"{MOST_STEPS:,} without --any-work (docs/live.md). Fewer handlers of one event, or fewer posts of it, make it less."
+    )
 
 
 def shown_whole(finding: Finding) -> str:

@@ -14,6 +14,8 @@ TOP = Path(__file__).resolve().parents[2]
 FINDER = TOP / "tools/program"  # a release has none: its program is in bin/
 RELEASED = TOP.parents[1] / "bin/pinball"
 
+LIVE = "pinball_live"
+
 
 class NoAnswer(Exception):
     """There is no program, or it has no answer."""
@@ -76,6 +78,29 @@ def kept_unproved() -> str | None:
         return None
     ran = subprocess.run([FINDER, "--unproved", "--kept"], capture_output=True, text=True)
     return ran.stdout.strip() if ran.returncode == 0 else None
+
+
+def find_live(given: str | None, pinball: str) -> str | None:
+    """The path of `pinball_live`, which answers line by line: the one that was given, or beside `pinball`, or of these
+    sources, or on the PATH. None where there is none."""
+    if given:
+        if not os.access(given, os.X_OK) or os.path.isdir(given):
+            raise NoAnswer(f"{given} is not a program")
+        return os.path.abspath(given)
+    beside = [Path(pinball).with_name(LIVE), TOP / "crates" / LIVE / "out" / LIVE]
+    return next((str(it) for it in beside if os.access(it, os.X_OK)), shutil.which(LIVE))
+
+
+def work_bound(folder: Path) -> str | None:
+    """The work bound of a machine, or `beyond`, as `pinball_live` says it. None where there is no such program, or
+    where it has no answer."""
+    try:
+        live = find_live(None, find(None).path)
+        said = Program(live, "").output(["--work", path_of(folder)]) if live else ""
+    except NoAnswer:
+        return None
+    words = said.split()
+    return words[1] if len(words) == 2 and words[0] == "work" else None
 
 
 def find(given: str | None) -> Program:

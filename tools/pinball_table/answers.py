@@ -199,7 +199,7 @@ class Live(Answers):
         try:
             self.answer(LOADING)
         except Gone as gone:
-            if gone.lines and gone.lines[-1] == "no":
+            if gone.lines and (gone.lines[-1] == "no" or gone.lines[-1].startswith("refused: ")):
                 raise Refused("\n".join(gone.lines)) from None
             raise
 

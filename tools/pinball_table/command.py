@@ -1,8 +1,6 @@
 """The words of the command line."""
 import argparse
 import errno
-import os
-import shutil
 import signal
 import sys
 import threading
@@ -11,7 +9,7 @@ from pathlib import Path
 from typing import Callable
 
 from pinball_help import program as programs
-from pinball_help.program import TOP, NoAnswer
+from pinball_help.program import LIVE, NoAnswer, find_live
 from pinball_help.texts import MACHINE
 
 from .answers import Answers, Gone, Live, Refused, Replay
@@ -26,7 +24,6 @@ from .smart_table import SmartTable
 
 ABOUT = "Plays a machine in a browser: a simulated table answers the coils, or a board does. It proves nothing."
 PORT = 8470
-LIVE = "pinball_live"
 AT_LAST = 0.3  # s: the pages hear of the end
 
 
@@ -45,16 +42,6 @@ def parser() -> argparse.ArgumentParser:
         "--board-patience", type=float, metavar="S", default=PATIENCE, help=f"how long it may be silent ({PATIENCE})"
     )
     return one
-
-
-def find_live(given: str | None, pinball: str) -> str | None:
-    """The program that answers line by line, if there is one."""
-    if given:
-        if not os.access(given, os.X_OK) or os.path.isdir(given):
-            raise NoAnswer(f"{given} is not a program")
-        return os.path.abspath(given)
-    beside = [Path(pinball).with_name(LIVE), TOP / "crates" / LIVE / "out" / LIVE]
-    return next((str(it) for it in beside if os.access(it, os.X_OK)), shutil.which(LIVE))
 
 
 def answers_of(asked: argparse.Namespace) -> tuple[Callable[[], Answers], str]:
@@ -135,7 +122,8 @@ def main() -> int:
         return play(asked)
     except Refused as refused:
         print(refused)
-        print(f"pinball-table: refused: pinball-help errors {asked.dir} says more", file=sys.stderr)
+        more = f"pinball-help errors {asked.dir}" if str(refused).endswith("no") else "docs/live.md"
+        print(f"pinball-table: refused: {more} says more", file=sys.stderr)
         return 1
     except (NoAnswer, NotNow, Gone, BoardFailure) as error:
         print(f"pinball-table: {error}", file=sys.stderr)

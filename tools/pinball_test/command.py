@@ -5,9 +5,8 @@ from pathlib import Path
 from typing import Iterator
 
 from pinball_help import program
-from pinball_help.program import NoAnswer, Program
+from pinball_help.program import LIVE, NoAnswer, Program, find_live
 from pinball_help.texts import MACHINE
-from pinball_table.command import LIVE, find_live
 
 from . import junit, report
 from .reading import read_tests

@@ -20,7 +20,7 @@ TOOLS = {
 FOLDERS = ("DIR", "FOLDER", "MPF_FOLDER", "NEW_FOLDER", "COPY")
 FILES = ("CERT", "LOG", "FILE", "PATH", "TEST", "DEVICE")
 # Lines of a help: `  <DIR>  what it is`, `  -h, --help  what it does`, `  check  what it does`.
-ROW = re.compile(r"  (?P<what>\S+(?: [^\s]+)*)(?:  +(?P<about>\S.*))?")
+ROW = re.compile(r"  (?:    (?=--))?(?P<what>\S+(?: [^\s]+)*)(?:  +(?P<about>\S.*))?")
 OPTION = re.compile(r"(?P<names>-\S+(?:, -\S+)*)(?: <(?P<value>\w+)>)?")
 PLACE = re.compile(r"<(?P<needed>\w+)>|\[(?P<free>\w+)\]")
 
