@@ -1,4 +1,4 @@
--- The most steps that one stimulus can take: its lines, the handlers that are looked at, and the calls of devices.
+-- The most lines and steps that one stimulus can take. A step is a handler that is looked at, or a call of a device.
 use Rattle.std.specs.Prelude.{◌≡◌, ℕ, ◌-◌, ◌<◌, ◌≤◌, ◌^◌, None, Some, Result, Ok, Err}
 use Rattle.plan_tables.specs.{PlanView.PlanView, declared.entries.EventId.EventId}
 use Rattle.cascade_rank.specs.{declared.fault.RankFault.RankFault, Weights.bound_at, Ranks.rank_at}
@@ -9,7 +9,7 @@ use Rattle.cascade_rank.specs.{View.IfRank, Finding.cycle, Cycle.{first_open, cy
 abbrev pub work_bound_of : PlanView → ℕ
 work_bound_of plan = bound_at 1 plan (rank_at 1 plan)
 
--- so many steps: beyond is what is no less than the greatest number of 64 bits
+-- so many lines and steps: beyond is what is no less than the greatest number of 64 bits
 abbrev pub IsBoundOf : ℕ → WorkBound → Type 0
 IsBoundOf steps (Within n) = (n ≡ steps) × (steps < 2 ^ 64 - 1)
 IsBoundOf steps Beyond = 2 ^ 64 - 1 ≤ steps

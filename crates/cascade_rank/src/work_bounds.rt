@@ -1,8 +1,8 @@
-//! The most steps that one stimulus can take.
+//! The most lines and steps that one stimulus can take.
 //!
 //! A bound counts lines. A handler whose condition is not met writes none, nor does a device that answers no list, and
-//! yet they take time. Here each of these is a step too. The least weights in lines and steps are found as those in
-//! lines are.
+//! yet they take time. So a handler that is looked at is a step here, and so is a call of a device. The least weights in
+//! lines and steps are found as those in lines are.
 
 ghost use Rattle.std.specs.Prelude.{◌≡◌, ◌-◌, ◌^◌, None, length, IfOk};
 ghost use Rattle.cascade_rank.specs.Cycle.{first_open};
@@ -21,8 +21,8 @@ use crate::walk::{first_left, walk};
 use plan_tables::{EventId, Plan};
 use std::alloc::{AllocError, Global};
 
-/// The most steps that one stimulus can take: lines, handlers that are looked at, and calls of devices.
-/// It says nothing of time.
+/// The most lines and steps that one stimulus can take, added up. A step is a handler that is looked at, or
+/// a call of a device. It says nothing of time.
 #[derive(Clone, Copy, Debug)]
 pub enum WorkBound {
     /// So many: less than 2^64 - 1.
@@ -31,7 +31,7 @@ pub enum WorkBound {
     Beyond,
 }
 
-/// The most steps that one stimulus can take.
+/// The most lines and steps that one stimulus can take.
 ///
 /// # Errors
 ///

@@ -78,6 +78,7 @@ impl<B: Board> Driver<B> {
     /// It answers `None` if the board has taken all of them. Else it answers the place of the line
     /// whose command the board has not taken, counted from 0. Nothing more is sent then, and the
     /// driver is halted. It does not ask whether the driver was halted before.
+    #[inline(always)]
     pub fn serve(&mut self, lines: &[Line]) -> Option<usize>
         requires { All (IsSendable (length self.old.sent)) lines.now }
         ensures served { IsServed lines.now result self.old self.new }
@@ -93,6 +94,7 @@ impl<B: Board> Driver<B> {
     }
 
     /// Sends the command of a line, if it has one.
+    #[inline(always)]
     fn serve_line(&mut self, line: &Line) -> Result<(), BoardFault>
         requires { IsSendable (length self.old.sent) line.now }
         ensures served { MatchResult result (λ _. HasSent (line.now ∷ []) self.old self.new) (λ _. HasNotSent line.now self.old self.new) }
@@ -107,6 +109,7 @@ impl<B: Board> Driver<B> {
     }
 
     /// Sends a command. If the board does not take it, its coil is remembered.
+    #[inline(never)]
     fn send(&mut self, command: Command) -> Result<(), BoardFault>
         ensures { MatchResult result (λ _. HasSentAlone command self.old self.new) (λ _. HasFaultedAt command self.old self.new) }
     {

@@ -139,6 +139,7 @@ fn post_each<D: Device>(core: &mut Core<'_, D>, owner: Owner, events: &[EventId]
 ///
 /// No event waits then. The core again has the handlers of the modes that run, and its devices can
 /// be called.
+#[inline(never)]
 pub fn settle<D: Device>(core: &mut Core<'_, D>)
     requires handlers { HasHandlers core.old }
     requires calls { CanCall core.old }
@@ -151,6 +152,7 @@ pub fn settle<D: Device>(core: &mut Core<'_, D>)
 
 /// Takes one event step, in plan order, and says so; or says that no event waits, and does nothing.
 /// The rest is as of `settle`: there has to be room for this step and all that follow.
+#[inline(always)]
 pub fn advance<D: Device>(core: &mut Core<'_, D>) -> bool
     requires handlers { HasHandlers core.old }
     requires calls { CanCall core.old }

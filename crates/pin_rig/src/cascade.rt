@@ -42,6 +42,7 @@ pub(crate) fn run_cascade<D: Device, B: Board>(
 
 /// Sends the commands of the lines from a place on, as `serve` does; those of the lines before it
 /// were sent. It answers the place of a line among all lines.
+#[inline(always)]
 fn serve_rest<B: Board>(driver: &mut Driver<B>, lines: &[Line], from: usize) -> Option<usize>
     requires from { from ≤ length lines.now }
     requires sendable { All (IsSendable (length driver.old.sent)) lines.now }

@@ -49,8 +49,8 @@ pub fn device_of(row: &DeviceRow) -> Option<RowDevice>
     }
 }
 
-/// The devices of these rows, in their order, each in its first state. A row that no device can
-/// have is left out.
+/// The devices of these rows, in their order, each in its first state. It promises nothing if a row is
+/// of a bank above the limits, which no plan has.
 ///
 /// # Errors
 ///
