@@ -16,7 +16,7 @@ from sources.citable import items_of
 from sources.rooms import TOP, listed
 
 PAGES = ("docs/promises.md", "docs/layers.md")
-OF_TESTS = ("acceptance", "machine_tests", "reading_tests", "worked_rows")
+OF_TESTS = ("acceptance", "reading_tests", "worked_rows")
 # The end of a paragraph, or what begins an item or a row.
 BETWEEN = re.compile(r"\n\n|\n(?= *- |\|)")
 CODE = re.compile(r"`([^`]+)`")

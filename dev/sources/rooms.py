@@ -5,6 +5,7 @@ other. A room has a copy of a crate and of those below it, with what their last 
 import os
 import shutil
 import subprocess
+from collections.abc import Iterable
 from functools import cache
 from pathlib import Path
 
@@ -57,6 +58,25 @@ def room_of(crate: str, room: Path) -> Path:
                 shutil.copytree(folder / "out" / kept, room / "crates" / name / "out" / kept, copy_function=copied)
     subprocess.run(["git", "init", "-q", room], check=True)
     return room / "crates" / crate
+
+
+def crate_without_proof(room: Path, name: str, uses: Iterable[str], source: Path) -> Path:
+    """Makes a crate of the .rattle files in a folder, in a repository that has copies of the crates that it uses, and
+    returns the crate's folder. `rt try` runs it without a proof. (The gate refuses .rt files outside of crates.)"""
+    used = frozenset().union(*(below(it) for it in uses if it in listed()))
+    for crate in used:
+        for part in ("src", "specs", "proofs"):
+            if (TOP / "crates" / crate / part).is_dir():
+                shutil.copytree(TOP / "crates" / crate / part, room / "crates" / crate / part)
+    lines = [listed()[it] for it in listed() if it in used] + [f"{name}: {' '.join(uses)}"]
+    (room / "crates.txt").write_text("\n".join(lines) + "\n")
+    subprocess.run(["git", "init", "-q", room], check=True)
+    folder = room / "crates" / name
+    for file in source.rglob("*.rattle"):
+        copy = (folder / "src" / file.relative_to(source)).with_suffix(".rt")
+        copy.parent.mkdir(parents=True, exist_ok=True)
+        shutil.copy(file, copy)
+    return folder
 
 
 @cache
