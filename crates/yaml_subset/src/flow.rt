@@ -186,6 +186,21 @@ fn least_pairs(text: &[u8]) -> usize {
     if begins_with(b'}', text) { 0 } else { 1 }
 }
 
+// The most items for which room is made before they are read.
+const LIKELY_ITEMS: usize = 16;
+
+// How many items a list likely has, of whose text this is left: one more than there are commas before a bracket closes.
+fn likely_items(text: &[u8]) -> usize {
+    let mut items = usize::from(!begins_with(b']', text));
+    for byte in text {
+        if *byte == b']' || items == LIKELY_ITEMS {
+            break;
+        }
+        items = items.saturating_add(usize::from(*byte == b','));
+    }
+    items
+}
+
 // A list, read from after its bracket on.
 #[cycle(flow)]
 #[tactic(auto, unfolding(crate::specs::Flow::flow_list_at))]
@@ -198,8 +213,8 @@ fn list(
 ) -> Result<(Tree<'_>, &[u8]), Halt>
     ensures { GivesOrHalts flow_view result (flow_list_at number (flow_value_at number (flow_at levels number)) after.now) }
 {
-    let mut items = Vec::new(alloc);
     let mut text = start(number, after)?;
+    let mut items = Vec::with_capacity(alloc, likely_items(text))?;
     while !begins_with(b']', text) {
         let (item, rest) = value(alloc, hashing, levels, number, text)?;
         items.push(item)?;

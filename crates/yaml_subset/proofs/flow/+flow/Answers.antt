@@ -36,7 +36,7 @@ list-returns-in_err-text t c =
 
 pub list-loop-alloc-init : goal.list-loop-alloc-init
 list-loop-alloc-init t c =
-    rw c.new-items.ensures.items (begun c.args.number 93 (item_in c.args.levels c.args.number) c.args.after.now c.in_ok-text.text.now c.in_ok-text.ensures)
+    rw c.in_ok-items.ensures.items (begun c.args.number 93 (item_in c.args.levels c.args.number) c.args.after.now c.in_ok-text.text.now c.in_ok-text.ensures)
 
 pub list-returns-in_err-item : goal.list-returns-in_err-item
 unfolding flow_list_at
