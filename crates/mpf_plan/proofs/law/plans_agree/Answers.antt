@@ -1,0 +1,4 @@
+use Rattle.mpf_plan.proofs.{PartsAgree.plans_agree, law.plans_agree.Goals as goal}
+
+pub returns : goal.returns
+returns c = plans_agree
