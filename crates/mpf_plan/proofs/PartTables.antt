@@ -368,29 +368,29 @@ module _ (names : Names) (n : List ℕ) where
         heard = t.heard ++ flat_map (hears (record { 0 = last i })) (enumerate_from 0 d.listens);
       })
 
-  part_step : (t : Core) (place : Place) (p : Part) → IsFit t.modes t.priority place p → fold step t (stream place p) ≡ grown t p
-  part_step t place (switch name kind confirms a i) is =
+  part_step : (S : Type 0) → S → (t : Core) (place : Place) (p : Part) → IsFit S t.modes t.priority place p → fold step t (stream place p) ≡ grown t p
+  part_step S has t place (switch name kind confirms a i) is =
       fold-append step t (map active a) (map inactive i)
       ∙ ap (λ u. fold step u (map inactive i)) (mapped_step active (λ u e. refl) a t)
       ∙ mapped_step inactive (λ u e. refl) i t
       ∙ plus-none t
-  part_step t place (coil name limits) is = plus-none t
-  part_step t place (game min_balls balls_per_game max_players) is = plus-none t
-  part_step t place (mode name s) is = plus-none (record t { modes = t.modes + 1; priority = s.priority })
-  part_step t place (handler w e (run es)) is = runner_step t place w e es is.0 is.1
-  part_step t place (handler w e (start m)) is = handler_step t place w e Start (targets.Start m) is.0 (ap targets.Start (sym is.1)) refl
-  part_step t place (handler w e (stop m)) is = handler_step t place w e Stop (targets.Stop m) is.0 (ap targets.Stop (sym is.1)) refl
-  part_step t place (handler w e (act_on r act)) is = handler_step t place w e (On r.0 act) (targets.Act r act) is refl refl
-  part_step t place (device w d) is = device_step t place w d is.0 is.1.count
-  part_step t place (mention table name) is = plus-none t
-  part_step t place unknown is = plus-none t
+  part_step S has t place (coil name limits) is = plus-none t
+  part_step S has t place (game min_balls balls_per_game max_players) is = plus-none t
+  part_step S has t place (mode name s) is = plus-none (record t { modes = t.modes + 1; priority = s.priority })
+  part_step S has t place (handler w e (run es)) is = runner_step t place w e es is.0 is.1
+  part_step S has t place (handler w e (start m)) is = handler_step t place w e Start (targets.Start m) is.0 (ap targets.Start (sym is.1)) refl
+  part_step S has t place (handler w e (stop m)) is = handler_step t place w e Stop (targets.Stop m) is.0 (ap targets.Stop (sym is.1)) refl
+  part_step S has t place (handler w e (act_on r act)) is = handler_step t place w e (On r.0 act) (targets.Act r act) is refl refl
+  part_step S has t place (device w d) is = device_step t place w d is.0 (is.1.count has)
+  part_step S has t place (mention table name) is = plus-none t
+  part_step S has t place unknown is = plus-none t
 
-  pub parts_step : (xs : List Sited) (t : Core) → AreFit t.modes t.priority xs → fold step t (streams xs) ≡ fold grown t (parts_in xs)
-  parts_step [] t fit = refl
-  parts_step (x ∷ xs) t fit =
+  pub parts_step : (S : Type 0) → S → (xs : List Sited) (t : Core) → AreFit S t.modes t.priority xs → fold step t (streams xs) ≡ fold grown t (parts_in xs)
+  parts_step S has [] t fit = refl
+  parts_step S has (x ∷ xs) t fit =
       fold-append step t (stream x.0 x.1) (streams xs)
-      ∙ ap (λ u. fold step u (streams xs)) (part_step t x.0 x.1 fit.0)
-      ∙ parts_step xs (grown t x.1) fit.1
+      ∙ ap (λ u. fold step u (streams xs)) (part_step S has t x.0 x.1 fit.0)
+      ∙ parts_step S has xs (grown t x.1) fit.1
 
   -- ---- tables
 

@@ -31,11 +31,11 @@ module _ (names : Names) where
   handlers_none make none [] = refl
   handlers_none make none (x ∷ xs) = ap₂ (λ a b. a ++ b) (none x) (handlers_none make none xs)
 
-  text_none : (whose : Whose) (ps : List Part) → All (IsOfText whose) ps → flat_map (plan_mode names) ps ≡ []
-  text_none whose [] all = refl
-  text_none whose (p ∷ ps) all = ap₂ (λ a b. a ++ b) (by p (All-head (IsOfText whose) p ps all)) (text_none whose ps (All-tail (IsOfText whose) p ps all))
+  text_none : (S : Type 0) (whose : Whose) (ps : List Part) → All (IsOfText S whose) ps → flat_map (plan_mode names) ps ≡ []
+  text_none S whose [] all = refl
+  text_none S whose (p ∷ ps) all = ap₂ (λ a b. a ++ b) (by p (All-head (IsOfText S whose) p ps all)) (text_none S whose ps (All-tail (IsOfText S whose) p ps all))
     where
-      by : (p : Part) → IsOfText whose p → plan_mode names p ≡ []
+      by : (p : Part) → IsOfText S whose p → plan_mode names p ≡ []
       by (mode n s) is = absurd is
       by _ is = refl
 
@@ -60,25 +60,25 @@ module _ (names : Names) where
       one true e = refl
       one false e = refl
 
-  modes_made : (rows : Rows) → HaveStates rows → (k n : ℕ) (ms : List ModeRows) → map (mode_of names) ms ≡ flat_map (plan_mode names) (modes_parts rows k n ms)
-  modes_made rows states k n [] = refl
-  modes_made rows states k n (m ∷ ms) =
+  modes_made : (rows : Rows) (k n : ℕ) (ms : List ModeRows) → map (mode_of names) ms ≡ flat_map (plan_mode names) (modes_parts rows k n ms)
+  modes_made rows k n [] = refl
+  modes_made rows k n (m ∷ ms) =
       let s = mode_settings m.sections in
       let whose = of_the_mode (record { 0 = k }) s in
       let first = mode_parts (record { 0 = k }) m.name s in
       let text = text_parts rows whose Mode n m.sections in
       let rest = modes_parts rows (suc k) (rows_after_text Mode n m.sections) ms in
-      ap (λ r. mode_of names m ∷ r) (modes_made rows states (suc k) (rows_after_text Mode n m.sections) ms)
-      ∙ ap₂ (λ a b. a ++ b) (sym (flat_map-append (plan_mode names) first text ∙ ap₂ (λ a b. a ++ b) (mode_made (record { 0 = k }) m.name s) (text_none whose text (text_of rows states whose Mode n m.sections)))) refl
+      ap (λ r. mode_of names m ∷ r) (modes_made rows (suc k) (rows_after_text Mode n m.sections) ms)
+      ∙ ap₂ (λ a b. a ++ b) (sym (flat_map-append (plan_mode names) first text ∙ ap₂ (λ a b. a ++ b) (mode_made (record { 0 = k }) m.name s) (text_none (HaveStates rows) whose text (text_of rows whose Mode n m.sections)))) refl
       ∙ sym (flat_map-append (plan_mode names) (first ++ text) rest)
 
-  all_modes : (rows : Rows) → HaveStates rows → map (mode_of names) rows.modes ≡ flat_map (plan_mode names) (parts_of rows)
+  all_modes : (rows : Rows) → map (mode_of names) rows.modes ≡ flat_map (plan_mode names) (parts_of rows)
   unfolding parts_of
-  all_modes rows states =
+  all_modes rows =
       let text = text_parts rows own Machine 0 rows.machine in
       let after = rows_after_text Machine 0 rows.machine in
-      modes_made rows states 0 after rows.modes
-      ∙ ap (λ r. r ++ flat_map (plan_mode names) (modes_parts rows 0 after rows.modes)) (sym (text_none own text (text_of rows states own Machine 0 rows.machine)))
+      modes_made rows 0 after rows.modes
+      ∙ ap (λ r. r ++ flat_map (plan_mode names) (modes_parts rows 0 after rows.modes)) (sym (text_none (HaveStates rows) own text (text_of rows own Machine 0 rows.machine)))
       ∙ sym (flat_map-append (plan_mode names) text (modes_parts rows 0 after rows.modes))
 
   -- ---- the game
@@ -109,7 +109,7 @@ module _ (names : Names) where
 
 -- ---- the plan of rows
 
-module _ (rows : Rows) (states : HaveStates rows) where
+module _ (rows : Rows) where
   abbrev cs : List Contribution
   cs = contributions_of rows
 
@@ -122,7 +122,7 @@ module _ (rows : Rows) (states : HaveStates rows) where
   -- ---- names
 
   uses_same : noted cs ≡ flat_map part_uses parts
-  uses_same = ap noted (streams_sited rows) ∙ parts_noted xs (fit_steady 0 0 xs (rows_fit rows states)) ∙ ap (flat_map part_uses) (parts_sited rows)
+  uses_same = ap noted (streams_sited rows) ∙ parts_noted xs (fit_steady (HaveStates rows) 0 0 xs (rows_fit rows)) ∙ ap (flat_map part_uses) (parts_sited rows)
 
   names_same : (t : Table) → names_from cs t ≡ names_of parts t
   unfolding names_of
@@ -141,101 +141,102 @@ module _ (rows : Rows) (states : HaveStates rows) where
 
   -- ---- tables
 
-  abbrev names : Names
-  names = names_from cs
+  module _ (states : HaveStates rows) where
+    abbrev names : Names
+    names = names_from cs
 
-  module _ (n : List ℕ) where
-    abbrev none : Core
-    none = core_of (blank names).plan []
+    module _ (n : List ℕ) where
+      abbrev none : Core
+      none = core_of (blank names).plan []
 
-    abbrev all : Core
-    all = fold (step names n) none cs
+      abbrev all : Core
+      all = fold (step names n) none cs
 
-    grown_all : all ≡ fold (grown names n) none parts
-    grown_all = ap (fold (step names n) none) (streams_sited rows) ∙ parts_step names n xs none (rows_fit rows states) ∙ ap (fold (grown names n) none) (parts_sited rows)
+      grown_all : all ≡ fold (grown names n) none parts
+      grown_all = ap (fold (step names n) none) (streams_sited rows) ∙ parts_step names n (HaveStates rows) states xs none (rows_fit rows) ∙ ap (fold (grown names n) none) (parts_sited rows)
 
-    made : core_of (plan_from cs) all.heard ≡ fold (grown names n) none parts
-    made = same_fold names n cs (blank names) [] ∙ grown_all
+      made : core_of (plan_from cs) all.heard ≡ fold (grown names n) none parts
+      made = same_fold names n cs (blank names) [] ∙ grown_all
 
-    heard_same : in_turn (λ b c after. listener_here n b c) [] cs ≡ flat_map (λ p. listeners n p.row p.part) (placed parts)
+      heard_same : in_turn (λ b c after. listener_here n b c) [] cs ≡ flat_map (λ p. listeners n p.row p.part) (placed parts)
+      unfolding placed
+      heard_same =
+          sym (heard_in_turn names n cs [] none refl)
+          ∙ ap (λ t. t.heard) grown_all
+          ∙ table_all names n (λ t. t.heard) (λ row list p. listeners n row p) (λ t p. refl) parts none
+
+    core : plan_from cs ≡ plan_then rows
+    core = computed-plan rows
+
+    bindings_same : (plan_then rows).bindings ≡ flat_map (λ p. bindings_in names p.row p.list p.part) (placed parts)
     unfolding placed
-    heard_same =
-        sym (heard_in_turn names n cs [] none refl)
-        ∙ ap (λ t. t.heard) grown_all
-        ∙ table_all names n (λ t. t.heard) (λ row list p. listeners n row p) (λ t p. refl) parts none
+    bindings_same =
+        ap (λ plan. plan.bindings) (sym core) ∙ ap (λ t. t.bindings) (made []) ∙ table_all names [] (λ t. t.bindings) (λ row list p. bindings_in names row list p) (λ t p. refl) parts (none [])
 
-  core : plan_from cs ≡ plan_then rows
-  core = computed-plan rows
+    lists_same : (plan_then rows).lists ≡ flat_map (λ p. actions_in names p.row p.part) (placed parts)
+    unfolding placed
+    lists_same = ap (λ plan. plan.lists) (sym core) ∙ ap (λ t. t.lists) (made []) ∙ table_all names [] (λ t. t.lists) (λ row list p. actions_in names row p) (λ t p. refl) parts (none [])
 
-  bindings_same : (plan_then rows).bindings ≡ flat_map (λ p. bindings_in names p.row p.list p.part) (placed parts)
-  unfolding placed
-  bindings_same =
-      ap (λ plan. plan.bindings) (sym core) ∙ ap (λ t. t.bindings) (made []) ∙ table_all names [] (λ t. t.bindings) (λ row list p. bindings_in names row list p) (λ t p. refl) parts (none [])
+    rows_same : (plan_then rows).rows ≡ flat_map (λ p. device_row p.row p.part) (placed parts)
+    unfolding placed
+    rows_same = ap (λ plan. plan.rows) (sym core) ∙ ap (λ t. t.rows) (made []) ∙ table_all names [] (λ t. t.rows) (λ row list p. device_row row p) (λ t p. refl) parts (none [])
 
-  lists_same : (plan_then rows).lists ≡ flat_map (λ p. actions_in names p.row p.part) (placed parts)
-  unfolding placed
-  lists_same = ap (λ plan. plan.lists) (sym core) ∙ ap (λ t. t.lists) (made []) ∙ table_all names [] (λ t. t.lists) (λ row list p. actions_in names row p) (λ t p. refl) parts (none [])
+    row_lists_same : (plan_then rows).row_lists ≡ flat_map (λ p. first_list p.list p.part) (placed parts)
+    unfolding placed
+    row_lists_same = ap (λ plan. plan.row_lists) (sym core) ∙ ap (λ t. t.row_lists) (made []) ∙ table_all names [] (λ t. t.row_lists) (λ row list p. first_list list p) (λ t p. refl) parts (none [])
 
-  rows_same : (plan_then rows).rows ≡ flat_map (λ p. device_row p.row p.part) (placed parts)
-  unfolding placed
-  rows_same = ap (λ plan. plan.rows) (sym core) ∙ ap (λ t. t.rows) (made []) ∙ table_all names [] (λ t. t.rows) (λ row list p. device_row row p) (λ t p. refl) parts (none [])
+    switch_is : (n : List ℕ) → switch_then names cs n ≡ switch_called names parts n
+    switch_is n =
+        let heard = flat_map (λ p. listeners n p.row p.part) (placed parts) in
+        (λ i. switch_read n
+          (in_turn (λ b c after. reading_here n b c) [] (streams_sited rows i))
+          (heard_same n i)
+          (in_turn (λ b c after. active_here names n b c) [] (streams_sited rows i))
+          (in_turn (λ b c after. inactive_here names n b c) [] (streams_sited rows i)))
+        ∙ switch_same names n xs heard
+        ∙ ap (λ ps. record (slice_index_or (flat_map (switch_for names n) ps) 0 no_switch) { name = n; listeners = heard }) (parts_sited rows)
 
-  row_lists_same : (plan_then rows).row_lists ≡ flat_map (λ p. first_list p.list p.part) (placed parts)
-  unfolding placed
-  row_lists_same = ap (λ plan. plan.row_lists) (sym core) ∙ ap (λ t. t.row_lists) (made []) ∙ table_all names [] (λ t. t.row_lists) (λ row list p. first_list list p) (λ t p. refl) parts (none [])
+    coil_is : AreCoilsApart rows → (n : List ℕ) → coil_then cs n ≡ coil_called parts n
+    coil_is apart n =
+        let given_in : flat_map given_coil (streams xs) ≡ map (λ c. (c.name.text, limits_of_coil c)) (flat_map coils_in rows.machine) = ap (flat_map given_coil) (sym (streams_sited rows)) ∙ coils_given rows in
+        let limits = ap (λ ds. unwrap_or (limits_called ds n) no_coil.limits) (streams_sited rows)
+          ∙ limits_same xs (flat_map coils_in rows.machine) given_in apart n no_coil.limits
+          ∙ ap (λ ps. slice_index_or (flat_map (limits_for n) ps) 0 no_coil.limits) (parts_sited rows) in
+        λ i. record { name = n; limits = limits i }
 
-  switch_is : (n : List ℕ) → switch_then names cs n ≡ switch_called names parts n
-  switch_is n =
-      let heard = flat_map (λ p. listeners n p.row p.part) (placed parts) in
-      (λ i. switch_read n
-        (in_turn (λ b c after. reading_here n b c) [] (streams_sited rows i))
-        (heard_same n i)
-        (in_turn (λ b c after. active_here names n b c) [] (streams_sited rows i))
-        (in_turn (λ b c after. inactive_here names n b c) [] (streams_sited rows i)))
-      ∙ switch_same names n xs heard
-      ∙ ap (λ ps. record (slice_index_or (flat_map (switch_for names n) ps) 0 no_switch) { name = n; listeners = heard }) (parts_sited rows)
+    each : {X : Type 0} (f g : List ℕ → X) → ((n : List ℕ) → f n ≡ g n) → (ns : List (List ℕ)) → map f ns ≡ map g ns
+    each f g same ns = λ i. map (λ n. same n i) ns
 
-  coil_is : AreCoilsApart rows → (n : List ℕ) → coil_then cs n ≡ coil_called parts n
-  coil_is apart n =
-      let given_in : flat_map given_coil (streams xs) ≡ map (λ c. (c.name.text, limits_of_coil c)) (flat_map coils_in rows.machine) = ap (flat_map given_coil) (sym (streams_sited rows)) ∙ coils_given rows in
-      let limits = ap (λ ds. unwrap_or (limits_called ds n) no_coil.limits) (streams_sited rows)
-        ∙ limits_same xs (flat_map coils_in rows.machine) given_in apart n no_coil.limits
-        ∙ ap (λ ps. slice_index_or (flat_map (limits_for n) ps) 0 no_coil.limits) (parts_sited rows) in
-      λ i. record { name = n; limits = limits i }
+    game_same : (plan_then rows).game ≡ last_or None (flat_map (rules_in names) parts)
+    unfolding plan_then
+    game_same = ap (λ ds. last_or None (flat_map (rules_here names) ds)) (streams_sited rows) ∙ ap (last_or None) (all_rules names xs) ∙ ap (λ ps. last_or None (flat_map (rules_in names) ps)) (parts_sited rows)
 
-  each : {X : Type 0} (f g : List ℕ → X) → ((n : List ℕ) → f n ≡ g n) → (ns : List (List ℕ)) → map f ns ≡ map g ns
-  each f g same ns = λ i. map (λ n. same n i) ns
+    tables_same : AreCoilsApart rows → plan_then rows ≡ plan_by names parts
+    unfolding plan_then plan_by
+    tables_same apart = λ i. record {
+      modes = all_modes names rows i;
+      events = names Events;
+      switches = each (switch_then names cs) (switch_called names parts) switch_is (names Switches) i;
+      coils = each (coil_then cs) (coil_called parts) (coil_is apart) (names Coils) i;
+      lists = lists_same i;
+      bindings = bindings_same i;
+      rows = rows_same i;
+      row_lists = row_lists_same i;
+      variables = names Variables;
+      game = game_same i;
+    }
 
-  game_same : (plan_then rows).game ≡ last_or None (flat_map (rules_in names) parts)
-  unfolding plan_then
-  game_same = ap (λ ds. last_or None (flat_map (rules_here names) ds)) (streams_sited rows) ∙ ap (last_or None) (all_rules names xs) ∙ ap (λ ps. last_or None (flat_map (rules_in names) ps)) (parts_sited rows)
+    pub plan_same : AreCoilsApart rows → plan_then rows ≡ plan_of rows
+    unfolding plan_of
+    plan_same apart = tables_same apart ∙ (λ i. plan_by (λ t. names_same t i) parts)
 
-  tables_same : AreCoilsApart rows → plan_then rows ≡ plan_by names parts
-  unfolding plan_then plan_by
-  tables_same apart = λ i. record {
-    modes = all_modes names rows states i;
-    events = names Events;
-    switches = each (switch_then names cs) (switch_called names parts) switch_is (names Switches) i;
-    coils = each (coil_then cs) (coil_called parts) (coil_is apart) (names Coils) i;
-    lists = lists_same i;
-    bindings = bindings_same i;
-    rows = rows_same i;
-    row_lists = row_lists_same i;
-    variables = names Variables;
-    game = game_same i;
-  }
-
-  pub plan_same : AreCoilsApart rows → plan_then rows ≡ plan_of rows
-  unfolding plan_of
-  plan_same apart = tables_same apart ∙ (λ i. plan_by (λ t. names_same t i) parts)
-
-  pub answer_same : AreCoilsApart rows → plan_at_then rows ≡ plan_at rows
-  unfolding plan_at_then plan_at
-  answer_same apart = λ i. cond (lacking_same i) (Err no_such_name) (fitting (plan_same apart i) (first_above (plan_same apart i)))
+    pub answer_same : AreCoilsApart rows → plan_at_then rows ≡ plan_at rows
+    unfolding plan_at_then plan_at
+    answer_same apart = λ i. cond (lacking_same i) (Err no_such_name) (fitting (plan_same apart i) (first_above (plan_same apart i)))
 
 pub plans_agree : PlansAgree
 plans_agree = record {
   plan = λ rows states apart. plan_same rows states apart;
   answer = λ rows states apart. answer_same rows states apart;
-  lacking = λ rows states. lacking_same rows states;
+  lacking = lacking_same;
 }

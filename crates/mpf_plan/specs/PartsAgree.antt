@@ -17,9 +17,9 @@ AreCoilsApart rows = AllPairs (λ c d. c.name.text ≢ d.name.text) (flat_map co
 abbrev pub HaveStates : Rows → Type 0
 HaveStates rows = All (λ s. All (λ p. 1 ≤ length (profile_of p).states) (shot_profiles_in s)) (all_sections rows)
 
--- The plan of rows is the same, and so is the answer: which names they lack, and which table is above its limit.
+-- Of all rows the same names are lacking. If both hold, the plan is the same, and so is the answer: the plan, or that
+-- names are lacking, or which table is above its limit.
 pub record PlansAgree : Type 0 where
+  pub lacking : (rows : Rows) → Uses.lacks_name (contributions_of rows) ≡ PlanByParts.lacks_name (parts_of rows)
   pub plan : (rows : Rows) → HaveStates rows → AreCoilsApart rows → PlanOf.plan_of rows ≡ PlanByParts.plan_of rows
   pub answer : (rows : Rows) → HaveStates rows → AreCoilsApart rows → PlanOf.plan_at rows ≡ PlanByParts.plan_at rows
-  pub lacking : (rows : Rows) → HaveStates rows
-      → Uses.lacks_name (contributions_of rows) ≡ PlanByParts.lacks_name (parts_of rows)
