@@ -1,15 +1,14 @@
 -- What the streams of parts say that a coil may be sent is what its part says, if no two coils have one name.
-use Rattle.std.proofs.Common.{rules, ◌≡◌, ◌≢◌, ℕ, zero, suc, ◌<◌, Bool, true, false, if◌then◌else◌, List, [], ◌∷◌, ◌++◌, length, map, fold, slice_index_or, Option, None, Some, refl, sym, ◌∙◌, ap, ap₂, subst, arith}
-use Rattle.std.specs.{Prelude.unwrap_or, Str.bytes_eq, List.{AllPairs, flat_map, list_any}}
+use Rattle.std.proofs.Common.{◌≡◌, ◌≢◌, ℕ, suc, ◌<◌, Bool, true, false, if◌then◌else◌, List, [], ◌∷◌, ◌++◌, length, map, fold, slice_index_or, Option, None, Some, refl, sym, ◌∙◌, ap, ap₂, subst, arith}
+use Rattle.std.specs.{Prelude.unwrap_or, Str.bytes_eq, List.{AllPairs, flat_map}}
 use Rattle.std.proofs.lemmas.{Slice.Eq.bytes_eq-Decides, Grind.flat_map-append}
 use Rattle.mpf_sections.specs.Rows.{Coil}
 use Rattle.plan_tables.specs.declared.entries.CoilLimits.{CoilLimits}
 use Rattle.plan_contributions.specs.Contributions.{active, inactive}
 use Rattle.row_contributions.specs.{Facts.given_coil, CoilEntries.limits_of_coil}
-use Rattle.mpf_plan.specs.ByName.{latest_limits, limits_called}
-use Rattle.mpf_plan.specs.Parts.{Part, switch, coil}
-use Rattle.mpf_plan.specs.PlanByParts.{limits_for}
-use Rattle.mpf_plan.proofs.{PartStreams.{Sited, parts_in, streams}, PartTells.{IsQuiet, told, none_both, none_map, parts_told}}
+use Rattle.mpf_plan.specs.{ByName.{latest_limits, limits_called}, Parts.{Part, switch, coil}, PlanByParts.limits_for}
+use Rattle.mpf_plan.proofs.PartStreams.{Sited, parts_in, streams}
+use Rattle.mpf_plan.proofs.PartTells.{IsQuiet, told, none_both, none_map, parts_told}
 
 quiet_coil : IsQuiet given_coil
 quiet_coil = record {

@@ -1,37 +1,40 @@
 -- What holds of the parts of rows: each has the owner and the priority of its place, and each device as many effect
 -- lists as its settings say, which change no variable.
-use Rattle.std.proofs.Common.{rules, ◌≡◌, ℕ, zero, suc, ◌+◌, ◌-◌, ◌*◌, ◌<◌, ◌≤◌, Bool, true, false, if◌then◌else◌, List, [], ◌∷◌, ◌++◌, map, length, refl, sym, ap, ap₂, subst, ◌∙◌, append_assoc, Option, None, Some, codes, arith}
+use Rattle.std.proofs.Common.{rules, ◌≡◌, ℕ, suc, ◌+◌, ◌-◌, ◌*◌, ◌≤◌, Bool, true, false, if◌then◌else◌, List, [], ◌∷◌, ◌++◌, map, length, refl, sym, ap, ap₂, subst, ◌∙◌, append_assoc, Option, None, Some, codes, arith}
 use Rattle.std.specs.{Prelude.IfSome, List.{flat_map, All}, Str.bytes_eq}
-use Rattle.std.proofs.lemmas.List.{length-append, length-map, Elements.{All-nil, All-cons, All-head, All-tail, All-append, All-map}}
-use Rattle.std.proofs.lemmas.Grind.{flat_map-append}
+use Rattle.std.proofs.lemmas.{List.{length-append, length-map}, Grind.flat_map-append}
+use Rattle.std.proofs.lemmas.List.Elements.{All-nil, All-cons, All-head, All-tail, All-append, All-map}
 use Rattle.mpf_values.specs.Events.{Event}
 use Rattle.mpf_config.specs.Rows.{ModeRows, Rows}
 use Rattle.mpf_sections.specs.Rows.{Written, Entry, Player, Shot, ShotGroup, BallDevice, ModeSettings, Content, entries, players, entry as single, listed, Counter, StepBlock, Timer, BallSave, Multiball, Flipper, Autofire, SectionRows}
-use Rattle.mpf_sections.specs.Typed.{switches_name, event_player_name, event_player_of, mode_settings, switch_of, counters_name, accruals_name, sequences_name, timers_name, counter_of, step_block_of, timer_of}
-use Rattle.mpf_sections.specs.TypedCoils.{coils_name, coil_player_name, flippers_name, autofire_coils_name, coil_of, coil_player_of, flipper_of, autofire_of}
-use Rattle.mpf_sections.specs.TypedGame.{variable_player_name, game_name, variable_player_of, game_of}
+use Rattle.mpf_sections.specs.Typed.{switches_name, event_player_name, event_player_of, mode_settings, counters_name, accruals_name, sequences_name, timers_name, counter_of, step_block_of, timer_of}
+use Rattle.mpf_sections.specs.TypedCoils.{coils_name, coil_player_name, flippers_name, autofire_coils_name, coil_player_of, flipper_of, autofire_of}
+use Rattle.mpf_sections.specs.TypedGame.{variable_player_name, game_name, variable_player_of}
 use Rattle.mpf_sections.specs.TypedShots.{shots_name, shot_groups_name, shot_of, shot_group_of}
 use Rattle.mpf_sections.specs.TypedBalls.{ball_devices_name, ball_device_of}
 use Rattle.mpf_sections.specs.TypedSaves.{ball_saves_name, multiballs_name, ball_save_of, multiball_of}
 use Rattle.machine_definitions.specs.Shots.{Profile, standard_profile, profile_of_name}
-use Rattle.plan_tables.specs.{Devices.list_count, declared.{devices.{Act.Act, Settings.Settings}, entries.ModeId.ModeId}}
+use Rattle.plan_tables.specs.{Devices.list_count, declared.table.Table.TheVariants.Switches}
+use Rattle.plan_tables.specs.declared.{devices.Settings.Settings, entries.ModeId.ModeId}
 use Rattle.plan_tables.specs.declared.devices.Settings.TheVariants as kinds
 use Rattle.plan_tables.specs.declared.entries.Owner.TheVariants as owners
-use Rattle.plan_tables.specs.declared.table.Table.TheVariants.{Switches}
-use Rattle.plan_rows.specs.declared.{place.Place.{Place, TheVariants.{Machine, Control, Mode}}, destination.Destination.Destination}
-use Rattle.plan_rows.specs.{Members.{Members, first_profile, members_of}, Seats.{Seat, seat_of, destination_of, rows_after_text}}
-use Rattle.plan_rows.specs.Rows.{Row, entry, alone, shot, group, ball_device, player, of_mode, shot_row, group_row, ball_device_row, other_row, entry_row, rows_from, rows_in, text_rows}
+use Rattle.plan_rows.specs.declared.place.Place.{Place, TheVariants.{Machine, Control, Mode}}
+use Rattle.plan_rows.specs.{declared.destination.Destination.Destination, Members.{Members, first_profile}}
+use Rattle.plan_rows.specs.Seats.{Seat, seat_of, destination_of, rows_after_text}
+use Rattle.plan_rows.specs.Rows.{Row, entry, alone, shot, group, ball_device, player, shot_row, group_row, ball_device_row, other_row, entry_row, rows_from, rows_in}
 use Rattle.plan_contributions.specs.Effects.{Effect, posts, works, changes}
-use Rattle.row_contributions.specs.{CoilEntries.{item_effect, flipper_device, autofire_device}, VariableEntries.item_change, BallEntries.{ball_lists, ball_device_from}}
+use Rattle.row_contributions.specs.CoilEntries.{item_effect, flipper_device, autofire_device}
+use Rattle.row_contributions.specs.{VariableEntries.item_change, BallEntries.{ball_lists, ball_device_from}}
 use Rattle.row_contributions.specs.ShotEntries.{shot_events, group_events, shot_lists, state_lists, group_lists, shot_acts, lone_device, group_device}
 use Rattle.row_contributions.specs.SaveEntries.{save_device, multiball_device, save_device_of}
 use Rattle.row_contributions.specs.DeviceEntries.{Device, counter_device, step_device, step_settings, timer_device, device_of, texts, events, always}
 use Rattle.row_contributions.specs.Contributions.{machine_device, stops_at_ball_end, stops_at_game_end}
-use Rattle.row_contributions.proofs.{Before.All-every, RowFacts.all_block, CoilFacts.{all_flips, fires}, SaveFacts.{all_save, all_multiball}, ShotFacts.{posts_of_shot, posts_of_group, found_such, first_such}}
+use Rattle.row_contributions.proofs.{RowFacts.all_block, CoilFacts.{all_flips, fires}}
+use Rattle.row_contributions.proofs.SaveFacts.{all_save, all_multiball}
+use Rattle.row_contributions.proofs.ShotFacts.{posts_of_shot, posts_of_group, found_such, first_such}
 use Rattle.mpf_plan.specs.{ByNumber.{owner_at, priority_at}, PartsAgree.HaveStates}
 use Rattle.mpf_plan.specs.Parts.{Part, Whose, own, control, of_the_mode, run, start, stop, act_on, switch, coil, game, mode, handler, device, mention, unknown, where_some, where_true, unknown_unless, seated, mode_parts, entry_parts, alone_parts, player_parts, row_parts, text_parts}
-use Rattle.mpf_plan.proofs.PartStreams.{IsSteady, IsSteadyPart, Sited, parts_in}
-use Rattle.mpf_plan.proofs.PartRows.{at, modes_sited, sited_of}
+use Rattle.mpf_plan.proofs.{PartStreams.{IsSteady, IsSteadyPart, Sited, parts_in}, PartRows.{at, modes_sited, sited_of}}
 
 -- ---- profiles and places
 
@@ -144,9 +147,9 @@ module _ (S : Type 0) where
   unfolding device_of
   whole_device_of section e =
       pick (bytes_eq section counters_name) _ _ (whole_counter (counter_of e))
-        (pick (bytes_eq section accruals_name) _ _ (whole_steps (kinds.Accrual (step_settings (step_block_of e))) (step_block_of e) refl)
-          (pick (bytes_eq section sequences_name) _ _ (whole_steps (kinds.Sequence (step_settings (step_block_of e))) (step_block_of e) refl)
-            (pick (bytes_eq section timers_name) _ _ (whole_timer (timer_of e)) (whole_save_of section e))))
+      (pick (bytes_eq section accruals_name) _ _ (whole_steps (kinds.Accrual (step_settings (step_block_of e))) (step_block_of e) refl)
+      (pick (bytes_eq section sequences_name) _ _ (whole_steps (kinds.Sequence (step_settings (step_block_of e))) (step_block_of e) refl)
+      (pick (bytes_eq section timers_name) _ _ (whole_timer (timer_of e)) (whole_save_of section e))))
 
   whole_machine_device : (machine : List SectionRows) (section : List ℕ) (e : Entry) → IfSome (machine_device machine section e) IsWhole
   whole_machine_device machine section e =
@@ -203,8 +206,8 @@ module _ (S : Type 0) where
     unfolding player_parts
     of_player section p =
         either (bytes_eq section event_player_name) _ _ (one _ (refl, All-map IsPlayed posts (texts (event_player_of p).posts) (λ i d within. tt)))
-          (either (bytes_eq section coil_player_name) _ _ (one _ (refl, All-map IsPlayed (item_effect machine) (coil_player_of p).items (λ i d within. tt)))
-            (either (bytes_eq section variable_player_name) _ _ (one _ (refl, All-map IsPlayed item_change (variable_player_of p).items (λ i d within. tt))) none))
+        (either (bytes_eq section coil_player_name) _ _ (one _ (refl, All-map IsPlayed (item_effect machine) (coil_player_of p).items (λ i d within. tt)))
+        (either (bytes_eq section variable_player_name) _ _ (one _ (refl, All-map IsPlayed item_change (variable_player_of p).items (λ i d within. tt))) none))
 
     of_seated : (p : Profile) (s : Shot) (seat : Option Seat) → (S → HasState p) → Are (seated whose p s seat)
     of_seated p s None some = one (device whose (lone_device p s)) (refl, whole_lone p s some)
@@ -259,8 +262,8 @@ module _ (S : Type 0) where
       row_of_entry : (place : Place) (name : List ℕ) (e : Entry) → OfText (entry_row rows place seat to name e)
       row_of_entry place name e =
           when (bytes_eq name shots_name) (shot_row rows place seat (shot_of e)) (if bytes_eq name shot_groups_name then group_row rows place seat (shot_group_of e) else other_row to place name e)
-            (row_shot place (shot_of e) _ _ _ (profiles (shot_of e).profile.text))
-            (when (bytes_eq name shot_groups_name) (group_row rows place seat (shot_group_of e)) (other_row to place name e) (row_group place (shot_group_of e) _ (firsts (shot_group_of e).shots)) (row_other place name e))
+          (row_shot place (shot_of e) _ _ _ (profiles (shot_of e).profile.text))
+          (when (bytes_eq name shot_groups_name) (group_row rows place seat (shot_group_of e)) (other_row to place name e) (row_group place (shot_group_of e) _ (firsts (shot_group_of e).shots)) (row_other place name e))
 
       each : {X : Type 0} (f : X → Row) → ((x : X) → OfText (f x)) → (xs : List X) → Are (flat_map (row_parts machine whose) (map f xs))
       each f is [] = none
@@ -276,7 +279,7 @@ module _ (S : Type 0) where
       in_sections place [] = none
       in_sections place (s ∷ ss) =
           subst Are (sym (flat_map-append (row_parts machine whose) (rows_from rows place seat to s.name s.content) (rows_in rows place seat to ss)))
-            (both (flat_map (row_parts machine whose) (rows_from rows place seat to s.name s.content)) (flat_map (row_parts machine whose) (rows_in rows place seat to ss)) (in_content place s.name s.content) (in_sections place ss))
+          (both (flat_map (row_parts machine whose) (rows_from rows place seat to s.name s.content)) (flat_map (row_parts machine whose) (rows_in rows place seat to ss)) (in_content place s.name s.content) (in_sections place ss))
 
   -- ---- owners
 
@@ -343,13 +346,15 @@ module _ (S : Type 0) where
         let on = map (λ e. handler (control s) e (start m)) (events s.starts) in
         let off = map (λ e. handler (control s) e (stop m)) (events s.stops) in
         let ball = where_true (stops_at_ball_end s) (handler (control s) (always (codes "ball_ending")) (stop m)) in
-        let end = where_true (stops_at_game_end s) (handler (control s) (always (codes "game_ending")) (stop m)) in
-        (tt, subst (AreFit (k + 1) s.priority)
-          (ap (λ r. at Control on ++ r) (at-append Control off ball (at Control end ++ rest))
-            ∙ at-append Control on (off ++ ball) (at Control end ++ rest)
-            ∙ at-append Control (on ++ (off ++ ball)) end rest
-            ∙ ap (λ ps. at Control ps ++ rest) (ap (λ ps. ps ++ end) (sym (append_assoc on off ball))))
-          (starts_fit (events s.starts) _ (stops_fit (events s.stops) _ (stop_fit (stops_at_ball_end s) (always (codes "ball_ending")) _ (stop_fit (stops_at_game_end s) (always (codes "game_ending")) rest fit)))))
+        let end = where_true (stops_at_game_end s) (handler (control s) (always (codes "game_ending")) (stop m)) in (
+          tt,
+          subst (AreFit (k + 1) s.priority)
+              (ap (λ r. at Control on ++ r) (at-append Control off ball (at Control end ++ rest))
+              ∙ at-append Control on (off ++ ball) (at Control end ++ rest)
+              ∙ at-append Control (on ++ (off ++ ball)) end rest
+              ∙ ap (λ ps. at Control ps ++ rest) (ap (λ ps. ps ++ end) (sym (append_assoc on off ball))))
+              (starts_fit (events s.starts) _ (stops_fit (events s.stops) _ (stop_fit (stops_at_ball_end s) (always (codes "ball_ending")) _ (stop_fit (stops_at_game_end s) (always (codes "game_ending")) rest fit)))),
+        )
 
   -- such parts change no variables in lists of devices
   pub fit_steady : (k q : ℕ) (xs : List Sited) → AreFit k q xs → All IsSteadyPart (parts_in xs)
@@ -381,8 +386,8 @@ module _ (rows : Rows) where
       let after = rows_after_text Mode n r.sections in
       let next : k + 1 ≡ suc k = omega arith in
       mode_fit Has k s q r.name _
-        (text_fit Has (k + 1) s.priority Mode (of_the_mode id s) (λ i. owners.Mode (now Has k s i), refl) (text_parts rows (of_the_mode id s) Mode n r.sections) (text_of (of_the_mode id s) Mode n r.sections) (modes_sited rows (suc k) after rs)
-          (subst (λ j. AreFit Has j s.priority (modes_sited rows (suc k) after rs)) (sym next) (modes_fit (suc k) s.priority after rs)))
+      (text_fit Has (k + 1) s.priority Mode (of_the_mode id s) (λ i. owners.Mode (now Has k s i), refl) (text_parts rows (of_the_mode id s) Mode n r.sections) (text_of (of_the_mode id s) Mode n r.sections) (modes_sited rows (suc k) after rs)
+      (subst (λ j. AreFit Has j s.priority (modes_sited rows (suc k) after rs)) (sym next) (modes_fit (suc k) s.priority after rs)))
 
   pub rows_fit : AreFit Has 0 0 (sited_of rows)
   rows_fit =

@@ -1,7 +1,6 @@
 -- The stream of contributions of a row, of a text, and of all rows, is that of its parts.
 use Rattle.std.proofs.Common.{◌≡◌, ℕ, suc, Bool, true, false, if◌then◌else◌, List, [], ◌∷◌, ◌++◌, map, refl, sym, ap, ap₂, ◌∙◌, append-nil, append_assoc, Option, None, Some, codes}
-use Rattle.std.specs.{List.{flat_map}, Str.bytes_eq}
-use Rattle.std.proofs.lemmas.{Grind.{flat_map-append}}
+use Rattle.std.{specs.{List.flat_map, Str.bytes_eq}, proofs.lemmas.Grind.flat_map-append}
 use Rattle.mpf_values.specs.Events.{Event}
 use Rattle.mpf_config.specs.Rows.{ModeRows, Rows}
 use Rattle.mpf_sections.specs.Rows.{Written, Entry, Player, SectionRows, Shot, ShotGroup, BallDevice, ModeSettings, VariableItem, CoilItem, Content, entries, players, entry as single, listed}
@@ -11,16 +10,16 @@ use Rattle.mpf_sections.specs.TypedGame.{variable_player_name, game_name, variab
 use Rattle.mpf_sections.specs.TypedShots.{shots_name, shot_groups_name, shot_of, shot_group_of}
 use Rattle.mpf_sections.specs.TypedBalls.{ball_devices_name, ball_device_of}
 use Rattle.machine_definitions.specs.Shots.{Profile}
-use Rattle.plan_tables.specs.declared.{devices.Act.Act, entries.ModeId.ModeId}
-use Rattle.plan_tables.specs.declared.table.Table.TheVariants.{Switches}
-use Rattle.plan_rows.specs.declared.{place.Place.{Place, TheVariants.{Machine, Control, Mode}}, destination.Destination.Destination}
-use Rattle.plan_rows.specs.Members.{Members}
+use Rattle.plan_tables.specs.declared.{devices.Act.Act, entries.ModeId.ModeId, table.Table.TheVariants.Switches}
+use Rattle.plan_rows.specs.declared.place.Place.{Place, TheVariants.{Machine, Control, Mode}}
+use Rattle.plan_rows.specs.{declared.destination.Destination.Destination, Members.Members}
 use Rattle.plan_rows.specs.Seats.{Seat, seat_of, destination_of, rows_after_text}
-use Rattle.plan_rows.specs.Rows.{Row, entry, alone, shot, group, ball_device, player, of_mode, shot_row, group_row, entry_row, ball_device_row, other_row, rows_from, rows_in, text_rows, modes_rows, rows_of}
-use Rattle.plan_contributions.specs.declared.contribution.Aim.{TheVariants.{Run, On}}
-use Rattle.plan_contributions.specs.Effects.{Effect, posts}
-use Rattle.plan_contributions.specs.Contributions.{Contribution, does}
-use Rattle.row_contributions.specs.{ShotEntries.{shot_acts, lone_device, group_device}, BallEntries.{is_known, ball_device_from}, CoilEntries.item_effect, VariableEntries.item_change}
+use Rattle.plan_rows.specs.Rows.{Row, entry, alone, shot, group, ball_device, player, shot_row, group_row, entry_row, ball_device_row, other_row, rows_from, rows_in, text_rows, modes_rows}
+use Rattle.plan_contributions.specs.declared.contribution.Aim.TheVariants.{Run, On}
+use Rattle.plan_contributions.specs.{Effects.{Effect, posts}, Contributions.{Contribution, does}}
+use Rattle.row_contributions.specs.ShotEntries.{shot_acts, lone_device, group_device}
+use Rattle.row_contributions.specs.BallEntries.{is_known, ball_device_from}
+use Rattle.row_contributions.specs.{CoilEntries.item_effect, VariableEntries.item_change}
 use Rattle.row_contributions.specs.DeviceEntries.{Device, device_of, texts, always, events}
 use Rattle.row_contributions.specs.Contributions.{bound, act_at, device_contributions, where_device, machine_device, row_contributions, entry_contributions, machine_entry_contributions, alone_contributions, player_entry_contributions, player_contributions, coil_player_contributions, variable_player_contributions, item_contributions, switch_contributions, coil_contributions, game_contributions, shot_contributions, group_contributions, ball_device_contributions, starter, stopper, stopper_where, mode_contributions, stops_at_ball_end, stops_at_game_end, unknown_unless as lacking_unless, shot_switch, seated as seated_then, given_by, contributions_of}
 use Rattle.mpf_plan.specs.Parts.{Part, Whose, run, act_on, handler, device, mention, entry_parts, alone_parts, player_parts, row_parts, text_parts, modes_parts, parts_of, where_some, where_true, unknown_unless, seated, switch_part, game_part, own, control, of_the_mode, start, stop, mode_parts, mode as mode_part}
@@ -92,7 +91,7 @@ module _ (machine : List SectionRows) (whose : Whose) where
   unfolding machine_entry_contributions entry_parts switch_contributions coil_contributions
   machine_entries section e =
       either Machine (bytes_eq section coils_name) _ _ _ _ refl
-        (either Machine (bytes_eq section switches_name) _ _ _ _ (one Machine (switch_contributions machine (switch_of e)) (switch_part machine (switch_of e)) refl) (devices Machine whose (machine_device machine section e)))
+      (either Machine (bytes_eq section switches_name) _ _ _ _ (one Machine (switch_contributions machine (switch_of e)) (switch_part machine (switch_of e)) refl) (devices Machine whose (machine_device machine section e)))
 
   entries_same : (place : Place) (section : List ℕ) (e : Entry) → entry_contributions machine place section e ≡ own_streams place (entry_parts machine whose place section e)
   unfolding entry_contributions entry_parts
@@ -111,10 +110,10 @@ module _ (machine : List SectionRows) (whose : Whose) where
   players_same place section p =
       let posted = texts (event_player_of p).posts in
       either place (bytes_eq section event_player_name) _ _ _ _ (ran place whose (event_player_of p).event.event (map (λ e. does (posts e)) posted) (map posts posted) (posting place posted))
-        (either place (bytes_eq section coil_player_name) _ _ _ _
-          (ran place whose (coil_player_of p).event.event (map (λ item. does (item_effect machine item)) (coil_player_of p).items) (map (item_effect machine) (coil_player_of p).items) (working place machine (coil_player_of p).items))
-          (either place (bytes_eq section variable_player_name) _ _ _ _
-            (ran place whose (variable_player_of p).event.event (flat_map item_contributions (variable_player_of p).items) (map item_change (variable_player_of p).items) (changing place (variable_player_of p).items)) refl))
+      (either place (bytes_eq section coil_player_name) _ _ _ _
+      (ran place whose (coil_player_of p).event.event (map (λ item. does (item_effect machine item)) (coil_player_of p).items) (map (item_effect machine) (coil_player_of p).items) (working place machine (coil_player_of p).items))
+      (either place (bytes_eq section variable_player_name) _ _ _ _
+      (ran place whose (variable_player_of p).event.event (flat_map item_contributions (variable_player_of p).items) (map item_change (variable_player_of p).items) (changing place (variable_player_of p).items)) refl))
 
   abbrev Same : Place → Row → Type 0
   Same place r = row_contributions machine r ≡ own_streams place (row_parts machine whose r)
@@ -181,8 +180,8 @@ module _ (machine : List SectionRows) (whose : Whose) where
         each : (e : Entry) → Same place (entry_row rows place seat to name e)
         each e =
             when place (bytes_eq name shots_name) (shot_row rows place seat (shot_of e)) (if bytes_eq name shot_groups_name then group_row rows place seat (shot_group_of e) else other_row to place name e)
-              (shot_same place (shot_of e) _ _ _)
-              (when place (bytes_eq name shot_groups_name) (group_row rows place seat (shot_group_of e)) (other_row to place name e) (group_same place (shot_group_of e) _) (other_same place name e))
+            (shot_same place (shot_of e) _ _ _)
+            (when place (bytes_eq name shot_groups_name) (group_row rows place seat (shot_group_of e)) (other_row to place name e) (group_same place (shot_group_of e) _) (other_same place name e))
     content_same place name (players ps) = same-map place (player place name) (player_same place name) ps
     content_same place name (single e) = same-map place (alone place name) (single_same place name) (e ∷ [])
     content_same place name (listed ws) = refl
@@ -213,13 +212,13 @@ module _ (m : ModeId) (name : List ℕ) (s : ModeSettings) where
       let ball = where_true (stops_at_ball_end s) (handler (control s) (always (codes "ball_ending")) (stop m)) in
       let end = where_true (stops_at_game_end s) (handler (control s) (always (codes "game_ending")) (stop m)) in
       ap (λ r. stream Control (mode_part name s) ++ r)
-        (ap₂ (λ a b. a ++ b)
-          (ap₂ (λ a b. a ++ b)
-            (ap₂ (λ a b. a ++ b) (starting (events s.starts)) (stopping (events s.stops)) ∙ sym (streams-append Control on off))
-            (ended_by (stops_at_ball_end s) (codes "ball_ending"))
-            ∙ sym (streams-append Control (on ++ off) ball))
-          (ended_by (stops_at_game_end s) (codes "game_ending"))
-          ∙ sym (streams-append Control (on ++ off ++ ball) end))
+      (ap₂ (λ a b. a ++ b)
+      (ap₂ (λ a b. a ++ b)
+      (ap₂ (λ a b. a ++ b) (starting (events s.starts)) (stopping (events s.stops)) ∙ sym (streams-append Control on off))
+      (ended_by (stops_at_ball_end s) (codes "ball_ending"))
+      ∙ sym (streams-append Control (on ++ off) ball))
+      (ended_by (stops_at_game_end s) (codes "game_ending"))
+      ∙ sym (streams-append Control (on ++ off ++ ball) end))
 
 -- ---- all rows
 
@@ -285,9 +284,9 @@ modes_streams rows k n (m ∷ ms) =
     let rest = modes_rows rows after ms in
     let text_sited = at Mode (text_parts rows whose Mode n m.sections) in
     ap₂ (λ a b. a ++ b) (mode_same (record { 0 = k }) m.name s ∙ sym (streams_at Control first))
-      (flat_map-append (row_contributions rows.machine) text rest
-        ∙ ap₂ (λ a b. a ++ b) (text_streams rows whose Mode n m.sections) (modes_streams rows (suc k) after ms)
-        ∙ sym (streams-append-sited text_sited (modes_sited rows (suc k) after ms)))
+    (flat_map-append (row_contributions rows.machine) text rest
+    ∙ ap₂ (λ a b. a ++ b) (text_streams rows whose Mode n m.sections) (modes_streams rows (suc k) after ms)
+    ∙ sym (streams-append-sited text_sited (modes_sited rows (suc k) after ms)))
     ∙ sym (streams-append-sited (at Control first) (text_sited ++ modes_sited rows (suc k) after ms))
 
 pub streams_sited : (rows : Rows) → contributions_of rows ≡ streams (sited_of rows)

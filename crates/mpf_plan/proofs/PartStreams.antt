@@ -1,20 +1,19 @@
 -- The stream of contributions of a part, and that it uses the same names in the same order.
-use Rattle.std.proofs.Common.{rules, ◌≡◌, ℕ, suc, ◌==◌, Bool, true, false, cond, if◌then◌else◌, ◌||◌, List, [], ◌∷◌, ◌++◌, map, filter, refl, sym, ap, ap₂, ◌∙◌, append-nil, append_assoc, Option, None, Some}
-use Rattle.std.specs.{List.{flat_map, list_any, All}}
-use Rattle.std.proofs.lemmas.{Grind.{flat_map-append}, List.{Elements.{All-head, All-tail}, Folds.list_any-append}}
+use Rattle.std.proofs.Common.{◌≡◌, ℕ, suc, ◌==◌, Bool, true, false, cond, if◌then◌else◌, ◌||◌, List, [], ◌∷◌, ◌++◌, map, filter, refl, sym, ap, ap₂, ◌∙◌, append-nil, append_assoc, Option, None, Some}
+use Rattle.std.specs.List.{flat_map, list_any, All}
+use Rattle.std.proofs.lemmas.{Grind.flat_map-append, List.Elements.{All-head, All-tail}}
 use Rattle.mpf_values.specs.Events.{Event, Condition}
-use Rattle.plan_tables.specs.declared.devices.{Act.Act}
-use Rattle.plan_tables.specs.declared.table.Table.{Table, TheVariants.{Events, Switches, Variables}}
+use Rattle.plan_tables.specs.declared.{devices.Act.Act, table.Table.{Table, TheVariants.{Events, Switches}}}
 use Rattle.plan_tables.specs.Limits.{order_of}
 use Rattle.machine_definitions.specs.{GameEvents.game_event_names, Players.player_event}
 use Rattle.plan_rows.specs.declared.place.Place.{Place}
 use Rattle.plan_contributions.specs.declared.contribution.Aim.{Aim, TheVariants.{Run, Start, Stop, Do, On}}
-use Rattle.plan_contributions.specs.{Effects.{Effect, posts, changes}, UsedNames.{used, uses, given, name_in_table, given_names}}
+use Rattle.plan_contributions.specs.{Effects.{Effect, posts, changes}, UsedNames.{used, name_in_table}}
 use Rattle.plan_contributions.specs.Contributions.{Contribution, gives, reads, active, inactive, mode as the_mode, does, does_in, mentions, unknown as nothing, coil as the_coil, plays}
 use Rattle.row_contributions.specs.Contributions.{bound, act_binding, effects_from, listens_from, later_events, device_contributions, under_where}
 use Rattle.mpf_plan.specs.Uses.{Names, is_lacking, is_unknown as is_nothing, lacks}
 use Rattle.mpf_plan.specs.Parts.{Part, run, start, stop, act_on, handler, device, switch, coil, game, mode, mention, unknown}
-use Rattle.mpf_plan.specs.PlanByParts.{Use, uses_of, in_table, condition_uses, event_uses, effect_uses, lists_in, settings_uses, part_uses}
+use Rattle.mpf_plan.specs.PlanByParts.{Use, uses_of, in_table, condition_uses, event_uses, effect_uses, settings_uses, part_uses}
 
 -- ---- the stream of a part, at its place
 
@@ -157,9 +156,9 @@ part_noted : (place : Place) (p : Part) → IsSteadyPart p → noted (stream pla
 unfolding device_contributions
 part_noted place (switch n kind confirms a i) is =
     ap (λ r. (Switches, n) ∷ r)
-      (noted-append (map active a) (map inactive i)
-        ∙ ap₂ (λ x y. x ++ y) (noted-map Events active (λ n. refl) a) (noted-map Events inactive (λ n. refl) i)
-        ∙ sym (uses-append Events a i))
+    (noted-append (map active a) (map inactive i)
+    ∙ ap₂ (λ x y. x ++ y) (noted-map Events active (λ n. refl) a) (noted-map Events inactive (λ n. refl) i)
+    ∙ sym (uses-append Events a i))
     ∙ sym (append-nil (settings_uses (switch n kind confirms a i)))
 part_noted place (coil n limits) is = refl
 part_noted place (game min_balls balls_per_game max_players) is = refl
@@ -176,10 +175,10 @@ part_noted place (device whose d) is =
     let lists = flat_map (flat_map effect_uses) d.lists in
     noted-append (listens_from 0 d.listens) (flat_map (act_binding place) d.handled ++ (map (mentions Events) d.mentioned ++ effects_from 0 d.lists))
     ∙ ap₂ (λ a b. a ++ b) (listened 0 d.listens)
-      (noted-append (flat_map (act_binding place) d.handled) (map (mentions Events) d.mentioned ++ effects_from 0 d.lists)
-        ∙ ap₂ (λ a b. a ++ b) (handled_noted place d.handled)
-          (noted-append (map (mentions Events) d.mentioned) (effects_from 0 d.lists)
-            ∙ ap₂ (λ a b. a ++ b) (noted-map Events (mentions Events) (λ n. refl) d.mentioned) (lists_noted 0 d.lists is)))
+    (noted-append (flat_map (act_binding place) d.handled) (map (mentions Events) d.mentioned ++ effects_from 0 d.lists)
+    ∙ ap₂ (λ a b. a ++ b) (handled_noted place d.handled)
+    (noted-append (map (mentions Events) d.mentioned) (effects_from 0 d.lists)
+    ∙ ap₂ (λ a b. a ++ b) (noted-map Events (mentions Events) (λ n. refl) d.mentioned) (lists_noted 0 d.lists is)))
     ∙ sym (append_assoc (uses_of Switches d.listens) handled (mentioned ++ lists))
     ∙ sym (append_assoc (uses_of Switches d.listens ++ handled) mentioned lists)
 part_noted place (mention table n) is = refl

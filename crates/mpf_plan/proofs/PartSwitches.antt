@@ -1,10 +1,10 @@
 -- What the streams of parts say of a switch, by what stands before each contribution, is what the first part of its name
 -- says.
-use Rattle.std.proofs.Common.{rules, ◌≡◌, ℕ, ◌+◌, ◌==◌, Bool, true, false, if◌then◌else◌, not, ◌&&◌, ◌||◌, List, [], ◌∷◌, ◌++◌, length, map, slice_index_or, Option, None, Some, refl, sym, ◌∙◌, ap, ap₂}
-use Rattle.std.specs.{Prelude.unwrap_or, Str.bytes_eq, List.{flat_map, list_any, last_or}}
+use Rattle.std.proofs.Common.{◌≡◌, ℕ, ◌+◌, ◌==◌, Bool, true, false, if◌then◌else◌, not, ◌&&◌, ◌||◌, List, [], ◌∷◌, ◌++◌, length, map, slice_index_or, refl, sym, ◌∙◌, ap, ap₂}
+use Rattle.std.specs.{Str.bytes_eq, List.{flat_map, list_any}}
 use Rattle.std.proofs.lemmas.{Grind.flat_map-append, List.{append-nil, append_assoc, Folds.list_any-append}}
-use Rattle.mpf_values.specs.Events.{Condition}
-use Rattle.plan_tables.specs.declared.entries.{EventId.EventId, Listener.Listener, SwitchKind.SwitchKind, CoilLimits.CoilLimits}
+use Rattle.plan_tables.specs.declared.entries.{EventId.EventId, Listener.Listener}
+use Rattle.plan_tables.specs.declared.entries.{SwitchKind.SwitchKind, CoilLimits.CoilLimits}
 use Rattle.plan_tables.specs.{declared.table.Table.TheVariants.{Events, Switches}, PlanView.{PlanSwitch, no_switch}}
 use Rattle.plan_rows.specs.declared.place.Place.{Place}
 use Rattle.plan_contributions.specs.Contributions.{Contribution, gives, reads, active, inactive, unknown as nothing, coil as the_coil, plays}
@@ -13,8 +13,8 @@ use Rattle.mpf_plan.specs.{Uses.{Names, number_among}, ByNumber.event_of}
 use Rattle.mpf_plan.specs.PlanOf.{in_turn, is_entry_of, reading_here, active_here, inactive_here, switch_read}
 use Rattle.mpf_plan.specs.Parts.{Part, switch, coil, game, mode, handler, device, mention, unknown}
 use Rattle.mpf_plan.specs.PlanByParts.{in_table, part_gives, switch_for}
-use Rattle.mpf_plan.proofs.SwitchesCalled.{entry_more, given_more}
-use Rattle.mpf_plan.proofs.{PartStreams.{stream, Sited, parts_in, streams, by_table}, PartTells.{IsQuiet, told, part_told, part_given}}
+use Rattle.mpf_plan.proofs.{SwitchesCalled.{entry_more, given_more}, PartTells.{IsQuiet, told, part_told, part_given}}
+use Rattle.mpf_plan.proofs.PartStreams.{stream, Sited, parts_in, streams, by_table}
 
 -- nothing, whether or not
 abbrev none_of : (X : Type 0) → List X
@@ -257,7 +257,7 @@ module _ (names : Names) where
 
     module _ {X : Type 0} (v : Contribution → List X) (part : PlanSwitch → List X)
         (is : (m : List ℕ) (kind : SwitchKind) (confirms : Bool) (a i : List (List ℕ)) → flat_map v (reads kind confirms ∷ map active a ++ map inactive i)
-          ≡ part (record { name = m; kind = kind; listeners = []; confirms_playfield = confirms; active = map (event_of (names Events)) a; inactive = map (event_of (names Events)) i })) where
+        ≡ part (record { name = m; kind = kind; listeners = []; confirms_playfield = confirms; active = map (event_of (names Events)) a; inactive = map (event_of (names Events)) i })) where
       told_made : (ps : List Part) → flat_map (told_entry n v) ps ≡ map part (made ps)
       told_made [] = refl
       told_made (switch m kind confirms a i ∷ ps) = by (bytes_eq n m) (told_made ps)
@@ -283,10 +283,10 @@ module _ (names : Names) where
         ≡ record (slice_index_or (made (parts_in xs)) 0 no_switch) { name = n; listeners = heard }
     switch_same xs heard =
         (λ i. switch_read n
-          (((λ j. turn (λ b c. reading_same b c j) [] (streams xs)) ∙ said reading (λ s. (s.kind, s.confirms_playfield) ∷ []) reads_one reading_says xs) i)
-          heard
-          (((λ j. turn (λ b c. posted_same b c j) [] (streams xs)) ∙ said posted (λ s. s.active) posts_on posted_says xs) i)
-          (((λ j. turn (λ b c. posted_off_same b c j) [] (streams xs)) ∙ said posted_off (λ s. s.inactive) posts_off posted_off_says xs) i))
+        (((λ j. turn (λ b c. reading_same b c j) [] (streams xs)) ∙ said reading (λ s. (s.kind, s.confirms_playfield) ∷ []) reads_one reading_says xs) i)
+        heard
+        (((λ j. turn (λ b c. posted_same b c j) [] (streams xs)) ∙ said posted (λ s. s.active) posts_on posted_says xs) i)
+        (((λ j. turn (λ b c. posted_off_same b c j) [] (streams xs)) ∙ said posted_off (λ s. s.inactive) posts_off posted_off_says xs) i))
         ∙ by (made (parts_in xs))
       where
         reads_one : (m : List ℕ) (kind : SwitchKind) (confirms : Bool) (a i : List (List ℕ)) → flat_map reading (reads kind confirms ∷ map active a ++ map inactive i) ≡ (kind, confirms) ∷ []

@@ -1,30 +1,28 @@
 -- The bindings, the effect lists, the rows and the listeners that are computed from the streams of parts are those of
 -- the parts.
-use Rattle.std.proofs.Common.{rules, ◌≡◌, ℕ, zero, suc, ◌+◌, ◌-◌, if◌then◌else◌, List, [], ◌∷◌, ◌++◌, length, map, fold, get_or, set, replicate, slice_set, slice_index_or, Option, None, Some, refl, sym, ◌∙◌, ap, ap₂, subst, arith}
-use Rattle.std.specs.{Prelude.option_map, List.{All, flat_map, sum_by, enumerate_from}, Str.bytes_eq}
-use Rattle.std.proofs.lemmas.List.Sums.{fold-append, sum_by_push}
-use Rattle.std.proofs.lemmas.List.{append-nil, append_assoc, get_or_push, length_push, length-append, length-map, length-set, set_at, Elements.{All-head, All-tail}}
+use Rattle.std.proofs.Common.{rules, ◌≡◌, ℕ, suc, ◌+◌, ◌-◌, if◌then◌else◌, List, [], ◌∷◌, ◌++◌, length, map, fold, get_or, replicate, Option, None, Some, refl, sym, ◌∙◌, ap, ap₂, arith}
+use Rattle.std.specs.{Prelude.option_map, List.{All, flat_map, enumerate_from}, Str.bytes_eq}
+use Rattle.std.proofs.lemmas.List.{Sums.{fold-append, sum_by_push}, Elements.{All-head, All-tail}}
+use Rattle.std.proofs.lemmas.List.{append-nil, append_assoc, get_or_push, length_push, length-append, length-map, length-set, set_at}
 use Rattle.mpf_values.specs.Events.{Event, Condition}
-use Rattle.plan_tables.specs.declared.entries.{Action.Action, Binding.Binding, ListId.ListId, Listener.Listener, Target.Target}
-use Rattle.plan_tables.specs.declared.entries.ModeEvent.TheVariants.{WillStart}
+use Rattle.plan_tables.specs.declared.entries.{Action.Action, ListId.ListId, Listener.Listener}
+use Rattle.plan_tables.specs.declared.entries.{Binding.Binding, Target.Target, ModeEvent.TheVariants.WillStart}
 use Rattle.plan_tables.specs.declared.entries.Condition as numbered
 use Rattle.plan_tables.specs.declared.entries.Target.TheVariants as targets
-use Rattle.plan_tables.specs.declared.devices.{DeviceRow.DeviceRow, RowId.RowId, Act.Act, Settings.Settings}
-use Rattle.plan_tables.specs.{Devices.list_count, declared.table.Table.TheVariants.{Events, Switches}}
-use Rattle.plan_tables.specs.PlanView.{PlanMode, no_mode, no_binding, PlanView}
+use Rattle.plan_tables.specs.declared.devices.{DeviceRow.DeviceRow, RowId.RowId, Act.Act}
+use Rattle.plan_tables.specs.{Devices.list_count, declared.table.Table.TheVariants.Events, PlanView.{no_mode, PlanView}}
 use Rattle.plan_rows.specs.declared.place.Place.{Place}
 use Rattle.plan_contributions.specs.declared.contribution.Aim.{Aim, TheVariants.{Run, Start, Stop, Do, On}}
 use Rattle.plan_contributions.specs.Effects.{Effect, posts, works, changes}
-use Rattle.plan_contributions.specs.Contributions.{Contribution, gives, reads, active, inactive, mode as the_mode, mode_event, mode_event_name, binds, does, device as the_device, does_in, listens, mentions, unknown as nothing, coil as the_coil, under, plays}
-use Rattle.row_contributions.specs.Contributions.{bound, act_binding, effects_from, listens_from, later_events, device_contributions, under_where}
+use Rattle.plan_contributions.specs.Contributions.{Contribution, gives, active, inactive, mode as the_mode, mode_event, mode_event_name, binds, does, device as the_device, does_in, listens, mentions, under}
+use Rattle.row_contributions.specs.Contributions.{bound, act_binding, effects_from, listens_from, device_contributions, under_where}
 use Rattle.row_contributions.specs.DeviceEntries.{Device}
-use Rattle.machine_definitions.specs.GameEvents.{game_event_names}
-use Rattle.mpf_plan.specs.{Uses.{Names, number_among}, ByNumber.{event_of, action_of, condition_of, owner_at, priority_at, first_of_last}}
+use Rattle.mpf_plan.{specs.Uses.{Names, number_among}, proofs.{Drafted.given_plan, Stands.priority_kept}}
+use Rattle.mpf_plan.specs.ByNumber.{event_of, action_of, condition_of, owner_at, priority_at, first_of_last}
 use Rattle.mpf_plan.specs.Filling.{DraftView, new_mode, with_event_in, last_priority, target_at, next_binding, conditioned, last_conditioned, lists_for, with_one_more, last_with, with_contribution}
 use Rattle.mpf_plan.specs.PlanOf.{rows_given, row_count as row_count_then, in_turn, listener_here}
 use Rattle.mpf_plan.specs.Parts.{Part, Whose, run, start, stop, act_on, switch, coil, game, mode, handler, device, mention, unknown}
 use Rattle.mpf_plan.specs.PlanByParts.{row_count, lists_in, placed_from, binding_of, bindings_in, actions_in, device_row, first_list, listeners}
-use Rattle.mpf_plan.proofs.{Drafted.given_plan, Stands.priority_kept}
 use Rattle.mpf_plan.proofs.PartStreams.{effect_stream, stream, Sited, parts_in, streams}
 use Rattle.mpf_plan.proofs.PartFacts.{IsPlayed, IsOwn, IsFit, modes_after, priority_after, AreFit, last_mode}
 

@@ -1,21 +1,18 @@
 -- A function that gives a list for each contribution, and an empty one for all of handlers, devices and modes: what it
 -- gives for the streams of parts is what it gives for their switches, coils and games, and for what is unknown.
-use Rattle.std.proofs.Common.{rules, ◌≡◌, ℕ, suc, Bool, true, false, if◌then◌else◌, ◌||◌, List, [], ◌∷◌, ◌++◌, map, refl, sym, ap, ap₂, ◌∙◌, append-nil, Option, None, Some}
-use Rattle.std.specs.{List.{flat_map, list_any}}
-use Rattle.std.proofs.lemmas.{Grind.{flat_map-append}}
+use Rattle.std.proofs.Common.{◌≡◌, ℕ, suc, Bool, true, false, if◌then◌else◌, ◌||◌, List, [], ◌∷◌, ◌++◌, map, refl, sym, ap, ap₂, ◌∙◌, append-nil, Option, None, Some}
+use Rattle.std.{specs.List.{flat_map, list_any}, proofs.lemmas.Grind.flat_map-append}
 use Rattle.mpf_values.specs.Events.{Event, Condition}
-use Rattle.plan_tables.specs.declared.{devices.{Act.Act, Settings.Settings}, entries.ModeEvent.ModeEvent}
-use Rattle.plan_tables.specs.declared.table.Table.{Table, TheVariants.{Events, Switches, Coils}}
-use Rattle.plan_tables.specs.declared.entries.ModeEvent.TheVariants.{Starting, Started, Stopping, Stopped}
+use Rattle.plan_tables.specs.declared.{devices.Settings.Settings, table.Table.{Table, TheVariants.{Events, Switches}}}
+use Rattle.plan_tables.specs.declared.entries.ModeEvent.{ModeEvent, TheVariants.{Starting, Started, Stopping, Stopped}}
 use Rattle.machine_definitions.specs.{GameEvents.game_event_names, Players.player_event}
 use Rattle.plan_rows.specs.declared.place.Place.{Place}
 use Rattle.plan_contributions.specs.declared.contribution.Aim.{Aim, TheVariants.{Run, Start, Stop, Do, On}}
-use Rattle.plan_contributions.specs.{Effects.{Effect, changes}, UsedNames.{given}}
+use Rattle.plan_contributions.specs.{Effects.{Effect, changes}, UsedNames.given}
 use Rattle.plan_contributions.specs.Contributions.{Contribution, gives, reads, active, inactive, mode as the_mode, mode_event, binds, does, device as the_device, does_in, listens, mentions, unknown as nothing, coil as the_coil, under, plays}
 use Rattle.row_contributions.specs.Contributions.{bound, act_binding, effects_from, listens_from, device_contributions, under_where}
-use Rattle.mpf_plan.specs.Uses.{is_unknown as is_nothing}
+use Rattle.mpf_plan.specs.{Uses.is_unknown as is_nothing, PlanByParts.{Use, part_gives, is_unknown}}
 use Rattle.mpf_plan.specs.Parts.{Part, run, start, stop, act_on, handler, device, switch, coil, game, mode, mention, unknown}
-use Rattle.mpf_plan.specs.PlanByParts.{Use, part_gives, is_unknown}
 use Rattle.mpf_plan.proofs.PartStreams.{effect_stream, stream, Sited, parts_in, streams, use_of}
 
 pub record IsQuiet {X : Type 0} (tell : Contribution → List X) : Type 0 where
@@ -78,7 +75,7 @@ module _ {X : Type 0} (tell : Contribution → List X) where
         ∙ ap₂ (λ a b. a ++ b) (none_map (mentions Events) (quiet.mentioned Events) game_event_names) (append-nil (tell (plays min_balls balls_per_game max_players)))
     part_told place (mode n s) =
         ap₂ (λ a b. a ++ b) (quiet.modes n s.priority s.game s.holds_ball_end)
-          (ap₂ (λ a b. a ++ b) (quiet.events Starting n) (ap₂ (λ a b. a ++ b) (quiet.events Started n) (ap₂ (λ a b. a ++ b) (quiet.events Stopping n) (ap (λ a. a ++ []) (quiet.events Stopped n)))))
+        (ap₂ (λ a b. a ++ b) (quiet.events Starting n) (ap₂ (λ a b. a ++ b) (quiet.events Started n) (ap₂ (λ a b. a ++ b) (quiet.events Stopping n) (ap (λ a. a ++ []) (quiet.events Stopped n)))))
     part_told place (handler whose e (run effects)) = none_both (bound e place Run) (flat_map effect_stream effects) (none_bound e place Run) (none_each effect_stream none_effect effects)
     part_told place (handler whose e (start m)) = none_bound e place Start
     part_told place (handler whose e (stop m)) = none_bound e place Stop
@@ -88,9 +85,9 @@ module _ {X : Type 0} (tell : Contribution → List X) where
         let named = map (mentions Events) d.mentioned in
         let doing = effects_from 0 d.lists in
         ap₂ (λ a b. a ++ b) (quiet.device place d.settings)
-          (none_both (listens_from 0 d.listens) (acting ++ (named ++ doing)) (none_listens 0 d.listens)
-            (none_both acting (named ++ doing) (none_each (act_binding place) (λ h. none_bound h.0 place (Do h.1)) d.handled)
-              (none_both named doing (none_map (mentions Events) (quiet.mentioned Events) d.mentioned) (none_lists 0 d.lists))))
+        (none_both (listens_from 0 d.listens) (acting ++ (named ++ doing)) (none_listens 0 d.listens)
+        (none_both acting (named ++ doing) (none_each (act_binding place) (λ h. none_bound h.0 place (Do h.1)) d.handled)
+        (none_both named doing (none_map (mentions Events) (quiet.mentioned Events) d.mentioned) (none_lists 0 d.lists))))
     part_told place (mention t n) = ap (λ a. a ++ []) (quiet.mentioned t n)
     part_told place unknown = append-nil (tell nothing)
 

@@ -1,28 +1,30 @@
 -- The plan that parts give is the plan that contributions give.
-use Rattle.std.proofs.Common.{rules, ◌≡◌, ℕ, zero, suc, Bool, true, false, cond, if◌then◌else◌, ◌||◌, List, [], ◌∷◌, ◌++◌, length, map, fold, slice_index_or, Option, None, Some, refl, sym, ◌∙◌, ap, ap₂, codes}
-use Rattle.std.specs.{Prelude.{Result, Err, unwrap_or}, List.{All, flat_map, list_any, last_or}}
-use Rattle.std.proofs.lemmas.{Grind.flat_map-append, List.{append-nil, Elements.{All-head, All-tail}}}
+use Rattle.std.proofs.Common.{◌≡◌, ℕ, suc, Bool, true, false, cond, ◌||◌, List, [], ◌∷◌, ◌++◌, map, fold, slice_index_or, None, Some, refl, sym, ◌∙◌, ap, ap₂, codes}
+use Rattle.std.specs.{Prelude.{Err, unwrap_or}, List.{All, flat_map, list_any, last_or}}
+use Rattle.std.proofs.lemmas.{Grind.flat_map-append, List.Elements.{All-head, All-tail}}
 use Rattle.mpf_config.specs.Rows.{ModeRows, Rows}
 use Rattle.mpf_sections.specs.{Rows.ModeSettings, Typed.mode_settings, TypedCoils.coils_in}
 use Rattle.mpf_values.specs.Events.{Event}
 use Rattle.plan_rows.specs.{Seats.rows_after_text, declared.place.Place.TheVariants.{Machine, Mode}}
-use Rattle.plan_tables.specs.declared.{entries.{GameRules.GameRules, ModeId.ModeId}, table.Table.{Table, TheVariants.{Events, Switches, Coils, Variables}}}
-use Rattle.plan_tables.specs.{PlanView.{PlanMode, PlanSwitch, no_switch, PlanCoil, no_coil, PlanView}, Limits.first_above}
-use Rattle.plan_contributions.specs.{Contributions.{Contribution, active, inactive}, UsedNames.{used, given, given_names}}
+use Rattle.plan_tables.specs.{declared.entries.ModeId.ModeId, PlanView.{no_switch, no_coil}, Limits.first_above}
+use Rattle.plan_tables.specs.declared.table.Table.{Table, TheVariants.{Events, Switches, Coils, Variables}}
+use Rattle.plan_contributions.specs.Contributions.{Contribution, active, inactive}
+use Rattle.plan_contributions.specs.UsedNames.{used, given, given_names}
 use Rattle.row_contributions.specs.{Facts.given_coil, CoilEntries.limits_of_coil, DeviceEntries.{events, always}}
 use Rattle.row_contributions.specs.Contributions.{stops_at_ball_end, stops_at_game_end, contributions_of}
 use Rattle.row_contributions.proofs.CoilsGiven.{coils_given}
-use Rattle.mpf_plan.specs.Uses.{Names, first_uses, names_from, is_lacking, is_unknown as is_nothing, lacks, lacks_name as lacks_then}
-use Rattle.mpf_plan.specs.PlanOf.{in_turn, listener_here, mode_of, rules_here, switch_read, reading_here, active_here, inactive_here, switch_called as switch_then, coil_called as coil_then, plan_of as plan_then, plan_at as plan_at_then, PlanRefusal, no_such_name, fitting}
-use Rattle.mpf_plan.specs.ByName.{limits_called}
-use Rattle.mpf_plan.specs.Filling.{with_contribution, blank, plan_from}
-use Rattle.mpf_plan.specs.Parts.{Part, Whose, own, control, of_the_mode, run, start, stop, act_on, switch, coil, game, mode, handler, device, mention, unknown, where_true, mode_parts, text_parts, modes_parts, parts_of}
+use Rattle.mpf_plan.specs.Uses.{Names, first_uses, names_from, is_lacking, is_unknown as is_nothing, lacks_name as lacks_then}
+use Rattle.mpf_plan.specs.PlanOf.{in_turn, listener_here, mode_of, rules_here, switch_read, reading_here, active_here, inactive_here, switch_called as switch_then, coil_called as coil_then, plan_of as plan_then, plan_at as plan_at_then, no_such_name, fitting}
+use Rattle.mpf_plan.specs.{ByName.limits_called, Filling.{blank, plan_from}}
+use Rattle.mpf_plan.specs.Parts.{Part, Whose, own, control, of_the_mode, start, stop, switch, mode, handler, where_true, mode_parts, text_parts, modes_parts, parts_of}
 use Rattle.mpf_plan.specs.PlanByParts.{part_uses, in_table, names_of, part_gives, given_by, is_unknown, lacks_name, placed, device_row, first_list, listeners, limits_for, switch_for, bindings_in, actions_in, plan_mode, rules_in, switch_called, coil_called, plan_by, plan_of, plan_at}
 use Rattle.mpf_plan.specs.PartsAgree.{AreCoilsApart, HaveStates, PlansAgree}
-use Rattle.mpf_plan.proofs.{Tables.computed-plan, PartStreams.{noted, by_table, lacks-noted, parts_noted, Sited, parts_in, streams}}
+use Rattle.mpf_plan.proofs.{Tables.computed-plan, PartSwitches.switch_same, PartCoils.limits_same}
+use Rattle.mpf_plan.proofs.PartStreams.{noted, by_table, lacks-noted, parts_noted, Sited, parts_in, streams}
 use Rattle.mpf_plan.proofs.PartTells.{IsQuiet, told, none_both, none_map, parts_told, tell_given, parts_given, unknown_told}
-use Rattle.mpf_plan.proofs.{PartRows.{sited_of, parts_sited, streams_sited}, PartFacts.{IsOfText, AreFit, text_of, rows_fit, fit_steady}}
-use Rattle.mpf_plan.proofs.{PartTables.{Core, core_of, step, same_fold, grown, parts_step, table_all, heard_in_turn}, PartSwitches.switch_same, PartCoils.limits_same}
+use Rattle.mpf_plan.proofs.PartRows.{sited_of, parts_sited, streams_sited}
+use Rattle.mpf_plan.proofs.PartFacts.{IsOfText, text_of, rows_fit, fit_steady}
+use Rattle.mpf_plan.proofs.PartTables.{Core, core_of, step, same_fold, grown, parts_step, table_all, heard_in_turn}
 
 -- ---- modes
 
@@ -47,14 +49,14 @@ module _ (names : Names) where
       let ball = where_true (stops_at_ball_end s) (handler (control s) (always (codes "ball_ending")) (stop m)) in
       let end = where_true (stops_at_game_end s) (handler (control s) (always (codes "game_ending")) (stop m)) in
       ap (λ r. plan_mode names (mode name s) ++ r)
-        (flat_map-append (plan_mode names) (on ++ off ++ ball) end
-          ∙ ap₂ (λ a b. a ++ b)
-            (flat_map-append (plan_mode names) (on ++ off) ball
-              ∙ ap₂ (λ a b. a ++ b)
-                (flat_map-append (plan_mode names) on off
-                  ∙ ap₂ (λ a b. a ++ b) (handlers_none (λ e. handler (control s) e (start m)) (λ e. refl) (events s.starts)) (handlers_none (λ e. handler (control s) e (stop m)) (λ e. refl) (events s.stops)))
-                (one (stops_at_ball_end s) (always (codes "ball_ending"))))
-            (one (stops_at_game_end s) (always (codes "game_ending"))))
+      (flat_map-append (plan_mode names) (on ++ off ++ ball) end
+      ∙ ap₂ (λ a b. a ++ b)
+      (flat_map-append (plan_mode names) (on ++ off) ball
+      ∙ ap₂ (λ a b. a ++ b)
+      (flat_map-append (plan_mode names) on off
+      ∙ ap₂ (λ a b. a ++ b) (handlers_none (λ e. handler (control s) e (start m)) (λ e. refl) (events s.starts)) (handlers_none (λ e. handler (control s) e (stop m)) (λ e. refl) (events s.stops)))
+      (one (stops_at_ball_end s) (always (codes "ball_ending"))))
+      (one (stops_at_game_end s) (always (codes "game_ending"))))
     where
       one : (b : Bool) (e : Event) → flat_map (plan_mode names) (where_true b (handler (control s) e (stop m))) ≡ []
       one true e = refl
@@ -136,8 +138,8 @@ module _ (rows : Rows) where
   lacking_same =
       lacks-noted (λ t. given_names t cs) cs
       ∙ ap₂ (λ a b. a || b)
-        (ap (list_any is_nothing) (streams_sited rows) ∙ unknown_told xs ∙ ap (list_any is_unknown) (parts_sited rows))
-        (ap (list_any (λ u. is_lacking (λ t. given_names t cs) (Some u))) uses_same ∙ (λ i. list_any (λ u. is_lacking (λ t. gives_same t i) (Some u)) (flat_map part_uses parts)))
+      (ap (list_any is_nothing) (streams_sited rows) ∙ unknown_told xs ∙ ap (list_any is_unknown) (parts_sited rows))
+      (ap (list_any (λ u. is_lacking (λ t. given_names t cs) (Some u))) uses_same ∙ (λ i. list_any (λ u. is_lacking (λ t. gives_same t i) (Some u)) (flat_map part_uses parts)))
 
   -- ---- tables
 
@@ -189,10 +191,10 @@ module _ (rows : Rows) where
     switch_is n =
         let heard = flat_map (λ p. listeners n p.row p.part) (placed parts) in
         (λ i. switch_read n
-          (in_turn (λ b c after. reading_here n b c) [] (streams_sited rows i))
-          (heard_same n i)
-          (in_turn (λ b c after. active_here names n b c) [] (streams_sited rows i))
-          (in_turn (λ b c after. inactive_here names n b c) [] (streams_sited rows i)))
+        (in_turn (λ b c after. reading_here n b c) [] (streams_sited rows i))
+        (heard_same n i)
+        (in_turn (λ b c after. active_here names n b c) [] (streams_sited rows i))
+        (in_turn (λ b c after. inactive_here names n b c) [] (streams_sited rows i)))
         ∙ switch_same names n xs heard
         ∙ ap (λ ps. record (slice_index_or (flat_map (switch_for names n) ps) 0 no_switch) { name = n; listeners = heard }) (parts_sited rows)
 
@@ -200,8 +202,8 @@ module _ (rows : Rows) where
     coil_is apart n =
         let given_in : flat_map given_coil (streams xs) ≡ map (λ c. (c.name.text, limits_of_coil c)) (flat_map coils_in rows.machine) = ap (flat_map given_coil) (sym (streams_sited rows)) ∙ coils_given rows in
         let limits = ap (λ ds. unwrap_or (limits_called ds n) no_coil.limits) (streams_sited rows)
-          ∙ limits_same xs (flat_map coils_in rows.machine) given_in apart n no_coil.limits
-          ∙ ap (λ ps. slice_index_or (flat_map (limits_for n) ps) 0 no_coil.limits) (parts_sited rows) in
+        ∙ limits_same xs (flat_map coils_in rows.machine) given_in apart n no_coil.limits
+        ∙ ap (λ ps. slice_index_or (flat_map (limits_for n) ps) 0 no_coil.limits) (parts_sited rows) in
         λ i. record { name = n; limits = limits i }
 
     each : {X : Type 0} (f g : List ℕ → X) → ((n : List ℕ) → f n ≡ g n) → (ns : List (List ℕ)) → map f ns ≡ map g ns

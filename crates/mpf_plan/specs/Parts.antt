@@ -14,12 +14,12 @@ use Rattle.machine_definitions.specs.Shots.{Profile}
 use Rattle.plan_tables.specs.declared.entries.{ModeId.ModeId, Owner.Owner, SwitchKind.SwitchKind, CoilLimits.CoilLimits}
 use Rattle.plan_tables.specs.declared.entries.Owner.TheVariants as owners
 use Rattle.plan_tables.specs.declared.{devices.{RowId.RowId, Act.Act}, table.Table.{Table, TheVariants.Switches}}
-use Rattle.plan_rows.specs.declared.place.Place.{Place, TheVariants.{Machine, Mode}}
-use Rattle.plan_rows.specs.Seats.{Seat, rows_after_text}
+use Rattle.plan_rows.specs.{declared.place.Place.{Place, TheVariants.{Machine, Mode}}, Seats.{Seat, rows_after_text}}
 use Rattle.plan_rows.specs.Rows.{Row, entry, alone, shot, group, ball_device, player, of_mode, text_rows}
 use Rattle.plan_contributions.specs.Effects.{Effect, posts}
 use Rattle.row_contributions.specs.{VariableEntries.item_change, BallEntries.{is_known, ball_device_from}}
-use Rattle.row_contributions.specs.{CoilEntries.{limits_of_coil, item_effect}, ShotEntries.{shot_acts, lone_device, group_device}}
+use Rattle.row_contributions.specs.CoilEntries.{limits_of_coil, item_effect}
+use Rattle.row_contributions.specs.ShotEntries.{shot_acts, lone_device, group_device}
 use Rattle.row_contributions.specs.DeviceEntries.{Device, always, device_of, events, texts}
 use Rattle.row_contributions.specs.Contributions.{active_posts, inactive_posts, kind_of, confirms, machine_device, stops_at_ball_end, stops_at_game_end}
 

@@ -1,5 +1,5 @@
 -- The law of parts: the plan that parts give is the plan that contributions give.
-use Rattle.std.specs.{Prelude.{◌≡◌, ◌≢◌, ◌≤◌, ℕ, length}, List.{All, AllPairs, flat_map}}
+use Rattle.std.specs.{Prelude.{◌≡◌, ◌≢◌, ◌≤◌, length}, List.{All, AllPairs, flat_map}}
 use Rattle.mpf_config.specs.Rows.{Rows}
 use Rattle.mpf_sections.specs.{TypedCoils.coils_in, TypedShots.shot_profiles_in}
 use Rattle.machine_definitions.specs.Shots.{all_sections, profile_of}

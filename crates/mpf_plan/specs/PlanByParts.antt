@@ -9,18 +9,17 @@ use Rattle.std.specs.{List.{flat_map, list_any, last_or, enumerate_from}, Str.by
 use Rattle.mpf_values.specs.Events.{Condition, Event}
 use Rattle.mpf_config.specs.Rows.{Rows}
 use Rattle.machine_definitions.specs.{GameEvents.game_event_names, Players.player_event}
-use Rattle.plan_tables.specs.declared.entries.{EventId.EventId, ListId.ListId, Listener.Listener, Binding.Binding}
-use Rattle.plan_tables.specs.declared.entries.{CoilLimits.CoilLimits, GameRules.GameRules, ModeEvent.ModeEvent}
-use Rattle.plan_tables.specs.declared.entries.{Action.Action, Target.Target}
+use Rattle.plan_tables.specs.declared.entries.{EventId.EventId, Listener.Listener, Binding.Binding, Target.Target}
+use Rattle.plan_tables.specs.declared.entries.{ListId.ListId, CoilLimits.CoilLimits, Action.Action}
+use Rattle.plan_tables.specs.declared.entries.{GameRules.GameRules, ModeEvent.ModeEvent}
 use Rattle.plan_tables.specs.declared.entries.ModeEvent.TheVariants.{WillStart, Starting, Started, Stopping, Stopped}
 use Rattle.plan_tables.specs.declared.entries.Target.TheVariants as targets
-use Rattle.plan_tables.specs.declared.devices.{RowId.RowId, DeviceRow.DeviceRow}
+use Rattle.plan_tables.specs.{declared.devices.{RowId.RowId, DeviceRow.DeviceRow}, Limits.{order_of, first_above}}
 use Rattle.plan_tables.specs.declared.table.Table.{Table, TheVariants.{Events, Switches, Coils, Variables}}
-use Rattle.plan_tables.specs.{PlanView.{PlanSwitch, no_switch, PlanCoil, no_coil, PlanMode, PlanView}, Limits.{order_of, first_above}}
+use Rattle.plan_tables.specs.PlanView.{PlanSwitch, no_switch, PlanCoil, no_coil, PlanMode, PlanView}
 use Rattle.plan_contributions.specs.{Contributions.mode_event_name, Effects.{Effect, posts, works, changes, enters}}
-use Rattle.mpf_plan.specs.Uses.{Names, first_uses, is_lacking}
+use Rattle.mpf_plan.specs.{Uses.{Names, first_uses, is_lacking}, PlanOf.{PlanRefusal, no_such_name, fitting}}
 use Rattle.mpf_plan.specs.ByNumber.{event_of, action_of, condition_of, rules_of}
-use Rattle.mpf_plan.specs.PlanOf.{PlanRefusal, no_such_name, fitting}
 use Rattle.mpf_plan.specs.Parts.{Whose, Reaction, run, start, stop, act_on, Part, switch, coil, game, mode, handler, device, mention, unknown, parts_of}
 
 -- ---- names, in the order of their first uses
