@@ -17,8 +17,8 @@ AreCoilsApart rows = AllPairs (λ c d. c.name.text ≢ d.name.text) (flat_map co
 abbrev pub HaveStates : Rows → Type 0
 HaveStates rows = All (λ s. All (λ p. 1 ≤ length (profile_of p).states) (shot_profiles_in s)) (all_sections rows)
 
--- Of all rows the same names are lacking. If both hold, the plan is the same, and so is the answer: the plan, or that
--- names are lacking, or which table is above its limit.
+-- Of all rows, parts lack a name exactly if contributions do. If each profile has a state and no two coils have one
+-- name, the plan is the same. So is the answer: the plan, or that a name is lacking, or which table is above its limit.
 pub record PlansAgree : Type 0 where
   pub lacking : (rows : Rows) → Uses.lacks_name (contributions_of rows) ≡ PlanByParts.lacks_name (parts_of rows)
   pub plan : (rows : Rows) → HaveStates rows → AreCoilsApart rows → PlanOf.plan_of rows ≡ PlanByParts.plan_of rows

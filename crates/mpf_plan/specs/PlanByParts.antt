@@ -4,6 +4,8 @@
 -- 2. A name's number is its place in the list of first uses: `names_of`.
 -- 3. Each table is one concatenation of what the parts give to it: `plan_by`. A row, or an effect list, has as its
 --    number how many of them come before it: `placed`.
+--
+-- It is the plan of `PlanOf.antt`: so the law of `PartsAgree.antt` says.
 use Rattle.std.specs.Prelude.{ℕ, ◌+◌, ◌==◌, ◌||◌, Bool, true, false, if◌then◌else◌, cond, List, [], ◌∷◌, ◌++◌, Option, None, Some, Result, Err, map, filter, length, option_map, slice_index_or}
 use Rattle.std.specs.{List.{flat_map, list_any, last_or, enumerate_from}, Str.bytes_eq}
 use Rattle.mpf_values.specs.Events.{Condition, Event}
@@ -35,9 +37,11 @@ abbrev pub condition_uses : Option Condition → List Use
 condition_uses None = []
 condition_uses (Some c) = (Variables, c.variable) ∷ []
 
+-- an event that is handled, and the variable of its condition, if it has one
 abbrev pub event_uses : Event → List Use
 event_uses e = (Events, e.name) ∷ condition_uses e.condition
 
+-- what an effect names: a change of a variable names the event that it posts, and then the variable
 abbrev pub effect_uses : Effect → List Use
 effect_uses (posts n) = (Events, n) ∷ []
 effect_uses (works n deed) = (Coils, n) ∷ []
@@ -74,22 +78,23 @@ part_uses part = settings_uses part ++ flat_map (flat_map effect_uses) (lists_in
 abbrev pub in_table : Table → List Use → List (List ℕ)
 in_table table us = map (λ u. u.1) (filter (λ u. order_of u.0 == order_of table) us)
 
+-- and of each table the names that parts use, each where it comes first
 unfoldable pub names_of : List Part → Names
 names_of parts table = first_uses (in_table table (flat_map part_uses parts))
 
 -- ---- names that nothing has
 
--- the switches and the coils that there are
+abbrev pub is_unknown : Part → Bool
+is_unknown unknown = true
+is_unknown _ = false
+
+-- the switch or the coil that a part is
 abbrev pub part_gives : Part → List Use
 part_gives (switch name kind confirms active inactive) = (Switches, name) ∷ []
 part_gives (coil name limits) = (Coils, name) ∷ []
 part_gives _ = []
 
-abbrev pub is_unknown : Part → Bool
-is_unknown unknown = true
-is_unknown _ = false
-
--- the names of them
+-- of each table the names that parts have
 abbrev pub given_by : List Part → Names
 given_by parts table = in_table table (flat_map part_gives parts)
 
