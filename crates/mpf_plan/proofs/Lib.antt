@@ -39,3 +39,11 @@ pub mod UseNumbers
 pub mod FirstRows
 pub mod EventNames
 pub mod ModeEventNames
+pub mod PartStreams
+pub mod PartTells
+pub mod PartRows
+pub mod PartFacts
+pub mod PartTables
+pub mod PartSwitches
+pub mod PartCoils
+pub mod PartsAgree

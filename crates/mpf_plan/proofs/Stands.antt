@@ -61,7 +61,7 @@ module _ (names : Names) where
   rows_one before d stands _ = sym (append-nil d.plan.rows)
 
   -- the priority of the last mode stays when another of its settings changes
-  priority_kept : (change : PlanMode → PlanMode) → ((m : PlanMode) → (change m).mode.priority ≡ m.mode.priority) → (ms : List PlanMode)
+  pub priority_kept : (change : PlanMode → PlanMode) → ((m : PlanMode) → (change m).mode.priority ≡ m.mode.priority) → (ms : List PlanMode)
       → last_priority (set ms (length ms - 1) (change (get_or ms (length ms - 1) no_mode))) ≡ last_priority ms
   priority_kept change same [] = refl
   priority_kept change same (x ∷ xs) =

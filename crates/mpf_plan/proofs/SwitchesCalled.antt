@@ -44,7 +44,7 @@ first_last p (x ∷ xs) y none = by (p x) none (first_last p xs y)
     by x1 x2 rest = search rules
 
 -- an entry more is that of this name if it has the name, and none before has it
-entry_more : (n : List ℕ) (xs : List (List ℕ)) (m : List ℕ) → (number_among (xs ++ m ∷ []) n + 1 == length (xs ++ m ∷ [])) ≡ (bytes_eq n m && not (list_any (bytes_eq n) xs))
+pub entry_more : (n : List ℕ) (xs : List (List ℕ)) (m : List ℕ) → (number_among (xs ++ m ∷ []) n + 1 == length (xs ++ m ∷ [])) ≡ (bytes_eq n m && not (list_any (bytes_eq n) xs))
 entry_more n xs m = by (list_any (bytes_eq n) xs) refl (bytes_eq n m) refl
   where
     at : ℕ
@@ -57,7 +57,7 @@ entry_more n xs m = by (list_any (bytes_eq n) xs) refl (bytes_eq n m) refl
     by false none false not_same = search (rules, at, first_last, other, length_push)
 
 -- the names under which switches are given, with one contribution more
-given_more : (before : List Contribution) (c : Contribution) → given_names Switches (before ++ c ∷ []) ≡ given_names Switches before ++ name_in_table Switches (given c)
+pub given_more : (before : List Contribution) (c : Contribution) → given_names Switches (before ++ c ∷ []) ≡ given_names Switches before ++ name_in_table Switches (given c)
 given_more before c = search (rules, flat_map-append, append-nil)
 
 -- ---- the switch of this number

@@ -6,7 +6,9 @@ mod draft;
 pub mod fault;
 mod fill;
 mod first_uses;
+mod law;
 mod numbering;
 
 pub use build::{plan, plan_complete};
 pub use fault::PlanFault;
+pub use law::plans_agree;

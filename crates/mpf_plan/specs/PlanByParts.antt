@@ -1,0 +1,254 @@
+-- The plan of the rows of a configuration, by the parts that they give.
+--
+-- 1. Rows give parts, one after the other: `parts_of`, in `Parts.antt`.
+-- 2. A name's number is its place in the list of first uses: `names_of`.
+-- 3. Each table is one concatenation of what the parts give to it: `plan_by`. A row, or an effect list, has as its
+--    number how many of them come before it: `placed`.
+--
+-- It is the plan of `PlanOf.antt`: so the law of `PartsAgree.antt` says.
+use Rattle.std.specs.Prelude.{ℕ, ◌+◌, ◌==◌, ◌||◌, Bool, true, false, if◌then◌else◌, cond, List, [], ◌∷◌, ◌++◌, Option, None, Some, Result, Err, map, filter, length, option_map, slice_index_or}
+use Rattle.std.specs.{List.{flat_map, list_any, last_or, enumerate_from}, Str.bytes_eq}
+use Rattle.mpf_values.specs.Events.{Condition, Event}
+use Rattle.mpf_config.specs.Rows.{Rows}
+use Rattle.machine_definitions.specs.{GameEvents.game_event_names, Players.player_event}
+use Rattle.plan_tables.specs.declared.entries.{EventId.EventId, Listener.Listener, Binding.Binding, Target.Target}
+use Rattle.plan_tables.specs.declared.entries.{ListId.ListId, CoilLimits.CoilLimits, Action.Action}
+use Rattle.plan_tables.specs.declared.entries.{GameRules.GameRules, ModeEvent.ModeEvent}
+use Rattle.plan_tables.specs.declared.entries.ModeEvent.TheVariants.{WillStart, Starting, Started, Stopping, Stopped}
+use Rattle.plan_tables.specs.declared.entries.Target.TheVariants as targets
+use Rattle.plan_tables.specs.{declared.devices.{RowId.RowId, DeviceRow.DeviceRow}, Limits.{order_of, first_above}}
+use Rattle.plan_tables.specs.declared.table.Table.{Table, TheVariants.{Events, Switches, Coils, Variables}}
+use Rattle.plan_tables.specs.PlanView.{PlanSwitch, no_switch, PlanCoil, no_coil, PlanMode, PlanView}
+use Rattle.plan_contributions.specs.{Contributions.mode_event_name, Effects.{Effect, posts, works, changes, enters}}
+use Rattle.mpf_plan.specs.{Uses.{Names, first_uses, is_lacking}, PlanOf.{PlanRefusal, no_such_name, fitting}}
+use Rattle.mpf_plan.specs.ByNumber.{event_of, action_of, condition_of, rules_of}
+use Rattle.mpf_plan.specs.Parts.{Whose, Reaction, run, start, stop, act_on, Part, switch, coil, game, mode, handler, device, mention, unknown, parts_of}
+
+-- ---- names, in the order of their first uses
+
+-- a name that is used, with its table
+abbrev pub Use : Type 0
+Use = Table × List ℕ
+
+abbrev pub uses_of : Table → List (List ℕ) → List Use
+uses_of table names = map (λ n. (table, n)) names
+
+abbrev pub condition_uses : Option Condition → List Use
+condition_uses None = []
+condition_uses (Some c) = (Variables, c.variable) ∷ []
+
+-- an event that is handled, and the variable of its condition, if it has one
+abbrev pub event_uses : Event → List Use
+event_uses e = (Events, e.name) ∷ condition_uses e.condition
+
+-- what an effect names: a change of a variable names the event that it posts, and then the variable
+abbrev pub effect_uses : Effect → List Use
+effect_uses (posts n) = (Events, n) ∷ []
+effect_uses (works n deed) = (Coils, n) ∷ []
+effect_uses (changes v action number) = (Events, player_event v) ∷ (Variables, v) ∷ []
+effect_uses (enters n drain) = (Events, n) ∷ []
+effect_uses _ = []
+
+-- the effect lists that a part has
+abbrev pub lists_in : Part → List (List Effect)
+lists_in (handler whose e (run effects)) = effects ∷ []
+lists_in (device whose d) = d.lists
+lists_in _ = []
+
+abbrev pub mode_event_names : List ℕ → List (List ℕ)
+mode_event_names name =
+    map (λ which. mode_event_name which name) (WillStart ∷ Starting ∷ Started ∷ Stopping ∷ Stopped ∷ [])
+
+-- what a part names before its effect lists do, in the order of its settings
+abbrev pub settings_uses : Part → List Use
+settings_uses (switch name kind confirms active inactive) = (Switches, name) ∷ uses_of Events (active ++ inactive)
+settings_uses (coil name limits) = (Coils, name) ∷ []
+settings_uses (game min_balls balls_per_game max_players) = uses_of Events game_event_names
+settings_uses (mode name s) = uses_of Events (mode_event_names name)
+settings_uses (handler whose e reaction) = event_uses e
+settings_uses (device whose d) =
+    uses_of Switches d.listens ++ flat_map (λ h. event_uses h.0) d.handled ++ uses_of Events d.mentioned
+settings_uses (mention table name) = (table, name) ∷ []
+settings_uses unknown = []
+
+abbrev pub part_uses : Part → List Use
+part_uses part = settings_uses part ++ flat_map (flat_map effect_uses) (lists_in part)
+
+-- the names of one table
+abbrev pub in_table : Table → List Use → List (List ℕ)
+in_table table us = map (λ u. u.1) (filter (λ u. order_of u.0 == order_of table) us)
+
+-- and of each table the names that parts use, each where it comes first
+unfoldable pub names_of : List Part → Names
+names_of parts table = first_uses (in_table table (flat_map part_uses parts))
+
+-- ---- names that nothing has
+
+abbrev pub is_unknown : Part → Bool
+is_unknown unknown = true
+is_unknown _ = false
+
+-- the switch or the coil that a part is
+abbrev pub part_gives : Part → List Use
+part_gives (switch name kind confirms active inactive) = (Switches, name) ∷ []
+part_gives (coil name limits) = (Coils, name) ∷ []
+part_gives _ = []
+
+-- of each table the names that parts have
+abbrev pub given_by : List Part → Names
+given_by parts table = in_table table (flat_map part_gives parts)
+
+-- whether parts name what nothing has: something unknown, or a switch or a coil that none of them is
+unfoldable pub lacks_name : List Part → Bool
+lacks_name parts =
+    list_any is_unknown parts || list_any (λ u. is_lacking (given_by parts) (Some u)) (flat_map part_uses parts)
+
+-- ---- numbers of rows and of effect lists: how many come before
+
+-- a part, with the number of its row, and that of the first of its effect lists, if it has any
+pub record Placed : Type 0 where
+  pub row : RowId
+  pub list : ListId
+  pub part : Part
+
+abbrev pub row_count : Part → ℕ
+row_count (device whose d) = 1
+row_count _ = 0
+
+-- parts, if so many rows and so many effect lists come before them
+abbrev pub placed_from : (rows lists : ℕ) → List Part → List Placed
+placed_from rows lists [] = []
+placed_from rows lists (p ∷ ps) =
+    record { row = record { 0 = rows }; list = record { 0 = lists }; part = p }
+    ∷ placed_from (rows + row_count p) (lists + length (lists_in p)) ps
+
+unfoldable pub placed : List Part → List Placed
+placed parts = placed_from 0 0 parts
+
+-- ---- what a part gives to the tables
+
+abbrev pub device_row : RowId → Part → List DeviceRow
+device_row row (device whose d) = record { number = row; owner = whose.owner; settings = d.settings } ∷ []
+device_row row _ = []
+
+abbrev pub first_list : ListId → Part → List ListId
+first_list list (device whose d) = list ∷ []
+first_list list _ = []
+
+-- those that listen to the switch of this name, each by the switch's number in its row
+abbrev pub listeners : List ℕ → RowId → Part → List Listener
+listeners name row (device whose d) =
+    flat_map (λ s. if bytes_eq name s.1 then record { row = row; switch = s.0 } ∷ [] else [])
+    (enumerate_from 0 d.listens)
+listeners name row _ = []
+
+abbrev pub limits_for : List ℕ → Part → List CoilLimits
+limits_for name (coil n limits) = if bytes_eq name n then limits ∷ [] else []
+limits_for name _ = []
+
+-- the coil of this name: as with switches, there is one at most
+abbrev pub coil_called : List Part → List ℕ → PlanCoil
+coil_called parts name = record {
+  name = name;
+  limits = slice_index_or (flat_map (limits_for name) parts) 0 no_coil.limits;
+}
+
+-- what a handler does; this is the list that it runs, if it is to run one
+abbrev pub target_of : ListId → Reaction → Target
+target_of list (run effects) = targets.Run list
+target_of list (start m) = targets.Start m
+target_of list (stop m) = targets.Stop m
+target_of list (act_on row act) = targets.Act row act
+
+module _ (names : Names) where
+  abbrev pub binding_of : Whose → Event → Target → Binding
+  binding_of whose e target = record {
+    event = event_of (names Events) e.name;
+    owner = whose.owner;
+    priority = whose.priority;
+    condition = option_map (condition_of names) e.condition;
+    target = target;
+  }
+
+  abbrev pub bindings_in : RowId → ListId → Part → List Binding
+  bindings_in row list (handler whose e reaction) = binding_of whose e (target_of list reaction) ∷ []
+  bindings_in row list (device whose d) = map (λ h. binding_of whose h.0 (targets.Act row h.1)) d.handled
+  bindings_in row list _ = []
+
+  abbrev pub actions_in : RowId → Part → List (List Action)
+  actions_in row part = map (map (action_of names row)) (lists_in part)
+
+  abbrev pub event_for : ModeEvent → List ℕ → EventId
+  event_for which name = event_of (names Events) (mode_event_name which name)
+
+  abbrev pub plan_mode : Part → List PlanMode
+  plan_mode (mode name s) = record {
+    name = name;
+    mode = record {
+      priority = s.priority;
+      game = s.game;
+      holds_ball_end = s.holds_ball_end;
+      events = record {
+        will_start = event_for WillStart name;
+        starting = event_for Starting name;
+        started = event_for Started name;
+        stopping = event_for Stopping name;
+        stopped = event_for Stopped name;
+      };
+    };
+  } ∷ []
+  plan_mode _ = []
+
+  abbrev pub rules_in : Part → List GameRules
+  rules_in (game min_balls balls_per_game max_players) =
+      rules_of (names Events) min_balls balls_per_game max_players ∷ []
+  rules_in _ = []
+
+  -- the switch of this name, without its listeners
+  abbrev pub switch_for : List ℕ → Part → List PlanSwitch
+  switch_for name (switch n kind confirms active inactive) =
+      if bytes_eq name n
+      then record {
+        name = n;
+        kind = kind;
+        listeners = [];
+        confirms_playfield = confirms;
+        active = map (event_of (names Events)) active;
+        inactive = map (event_of (names Events)) inactive;
+      } ∷ []
+      else []
+  switch_for name _ = []
+
+  -- The switch of this name. No two entries of a section have one name, so there is one at most. If there is none, the
+  -- name is one that nothing has, and there is no plan.
+  abbrev pub switch_called : List Part → List ℕ → PlanSwitch
+  switch_called parts name =
+      record (slice_index_or (flat_map (switch_for name) parts) 0 no_switch) {
+        name = name;
+        listeners = flat_map (λ p. listeners name p.row p.part) (placed parts);
+      }
+
+  -- ---- the plan
+
+  unfoldable pub plan_by : List Part → PlanView
+  plan_by parts = record {
+    modes = flat_map plan_mode parts;
+    events = names Events;
+    switches = map (switch_called parts) (names Switches);
+    coils = map (coil_called parts) (names Coils);
+    lists = flat_map (λ p. actions_in p.row p.part) (placed parts);
+    bindings = flat_map (λ p. bindings_in p.row p.list p.part) (placed parts);
+    rows = flat_map (λ p. device_row p.row p.part) (placed parts);
+    row_lists = flat_map (λ p. first_list p.list p.part) (placed parts);
+    variables = names Variables;
+    game = last_or None (flat_map rules_in parts);
+  }
+
+-- the plan of the rows
+unfoldable pub plan_of : Rows → PlanView
+plan_of rows = plan_by (names_of (parts_of rows)) (parts_of rows)
+
+-- the plan of the rows; or that they use a name that nothing has; or the first of the tables that is above its limit
+unfoldable pub plan_at : Rows → Result PlanView PlanRefusal
+plan_at rows =
+    cond (lacks_name (parts_of rows)) (Err no_such_name) (fitting (plan_of rows) (first_above (plan_of rows)))
