@@ -96,7 +96,8 @@ def libraries(name: str) -> tuple[str, ...]:
 def check_over_gate(folder: Path) -> tuple[int, str]:
     """Checks a crate of a room over the libraries that the gate built in this checkout, and what such a check kept."""
     built = {it: TOP / "crates" / it / "out" / "rlib" for it in libraries(folder.name) if it in listed()}
-    words = [str(kit() / "bin" / "rattle"), "check", "--crate-name", folder.name, "src/lib.rt"]
+    root = "src/lib.rt" if (folder / "src" / "lib.rt").exists() else "src/main.rt"
+    words = [str(kit() / "bin" / "rattle"), "check", "--crate-name", folder.name, root]
     for name in (*libraries(folder.name), "std"):
         words += ["--extern", f"{name}={built.get(name, kit() / 'rlibs')}/{name}.rlib"]
     for path in (kit() / "rlibs", *built.values()):
