@@ -6,7 +6,19 @@ ghost use Rattle.plan_tables.specs.declared.devices.Settings.TheVariants as kind
 ghost use Rattle.arrayvec.specs.ArrayVec.{array_vec_len};
 ghost use Rattle.device_objects.specs.declared.device.Call.TheVariants as calls;
 ghost use Rattle.device_objects.specs.BallDevice.{confirmed, overdue};
-ghost use Rattle.device_objects.specs.Outcomes.{can_complete, hit_completing, ending, may_begin, may_eject, of_accrual, of_attempt, of_autofire, of_ball_act, of_ball_device, of_ball_fire, of_bank, of_block, of_change, of_count, of_counter, of_flipper, of_hit, of_hit_in, of_multiball, of_save, of_save_act, of_sequence, of_switch, of_timer, of_timer_act, only_if, outcomes, resetting, silent, timer_completing};
+ghost use Rattle.device_objects.specs.Bank.{can_complete, hit_completing, of_bank, of_hit, of_hit_in};
+ghost use Rattle.device_objects.specs.BallDevice.{ending, may_begin, may_eject, of_attempt, of_ball_act, of_ball_device, of_ball_fire, of_count};
+ghost use Rattle.device_objects.specs.Accrual.{of_accrual};
+ghost use Rattle.device_objects.specs.Autofire.{of_autofire};
+ghost use Rattle.device_objects.specs.Blocks.{of_block, resetting};
+ghost use Rattle.device_objects.specs.Timer.{of_change, of_timer, of_timer_act, timer_completing};
+ghost use Rattle.device_objects.specs.Counter.{of_counter};
+ghost use Rattle.device_objects.specs.Flipper.{of_flipper};
+ghost use Rattle.device_objects.specs.Multiball.{of_multiball};
+ghost use Rattle.device_objects.specs.BallSave.{of_save, of_save_act};
+ghost use Rattle.device_objects.specs.Sequence.{of_sequence};
+ghost use Rattle.device_objects.specs.Outcomes.{of_switch, only_if, silent};
+ghost use Rattle.device_objects.specs.DeviceStep.{outcomes};
 
 use crate::bank::{group_complete, hit_lists, next_state};
 use crate::device::{Call, Outcome};

@@ -3,7 +3,11 @@
 ghost use Rattle.std.specs.Prelude.{◌≡◌, ◌≤◌, ◌↔◌, IsTrue, length};
 ghost use Rattle.std.specs.List.{All};
 ghost use Rattle.device_objects.specs.BallDevice.{empty};
-ghost use Rattle.device_objects.specs.Laws.{HasBallShape, HasBankShape, HasMarks, HasSaveShape, HasShape, IsAttempt, IsEjectOf};
+ghost use Rattle.device_objects.specs.BallDevice.{HasBallShape, IsAttempt, IsEjectOf};
+ghost use Rattle.device_objects.specs.Bank.{HasBankShape};
+ghost use Rattle.device_objects.specs.Accrual.{HasMarks};
+ghost use Rattle.device_objects.specs.BallSave.{HasSaveShape};
+ghost use Rattle.device_objects.specs.Laws.{HasShape};
 
 use crate::state::{
     AccrualSlot, Attempt, BallState, BallSwitch, BankSlot, DeviceState, Eject, GREATEST_ATTEMPT,

@@ -3,8 +3,7 @@ use Rattle.std.proofs.Common.{◌≡◌, ℕ, suc, ◌<◌, ◌≤◌, inl, inr,
 use Rattle.std.{specs.Prelude.slice_get, proofs.lemmas.{Bool.cases_lt, List.{get_or-map, length-map}}}
 use Rattle.std.proofs.lemmas.Option.{slice_get-get_or, slice_get_within, same_Some}
 use Rattle.plan_tables.specs.{PlanView.{PlanView, no_row, row_at}, declared.devices.DeviceRow.DeviceRow}
-use Rattle.device_objects.specs.{declared.state.DeviceState.DeviceState, DeviceStep.{due_of, first_state}}
-use Rattle.device_objects.proofs.Moments.{first-quiet}
+use Rattle.device_objects.{specs.{declared.state.DeviceState.DeviceState, DeviceStep.{due_of, first_state}}, proofs.Lawful.first-quiet}
 use Rattle.machine_core.specs.Fit.{IsRight, IsFit, IsFirstWrong}
 
 -- lists with the same items are the same

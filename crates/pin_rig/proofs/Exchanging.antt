@@ -1,7 +1,7 @@
 -- A device is taken out, and steps are as without exchanges.
 use Rattle.std.proofs.Common.{rules, ◌≡◌, ℕ, ◌<◌, List, [], ◌∷◌, length, ap, sym, ◌∙◌, subst}
 use Rattle.plan_tables.specs.{PlanView.{PlanView, row_at}, declared.devices.{DeviceRow.DeviceRow, RowId.RowId}}
-use Rattle.device_objects.{specs.declared.state.DeviceState.DeviceState, proofs.Moments.stopped-quiet}
+use Rattle.device_objects.{specs.declared.state.DeviceState.DeviceState, proofs.Lawful.stopped-quiet}
 use Rattle.written_machine.specs.{declared.line.Line.Line, CheckedView.CheckedView, Machine.{device_at, world_of}}
 use Rattle.coil_driver.specs.Driver.{DriverView}
 use Rattle.machine_core.specs.{Core.CoreView, Stopping.stopped_state}

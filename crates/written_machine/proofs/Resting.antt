@@ -8,7 +8,7 @@ use Rattle.plan_tables.specs.declared.{entries.{ModeId.ModeId, Owner.Owner, Coil
 use Rattle.plan_tables.specs.declared.entries.Owner.TheVariants as owners
 use Rattle.device_objects.specs.declared.{device.Call.Call, state.DeviceState.DeviceState}
 use Rattle.device_objects.specs.declared.device.Call.TheVariants as calls
-use Rattle.device_objects.{specs.DeviceStep.{due_of, first_state}, proofs.Moments.stopped-quiet}
+use Rattle.device_objects.{specs.DeviceStep.{due_of, first_state}, proofs.Lawful.stopped-quiet}
 use Rattle.mode_stack.{specs.Modes.{needs_game, running_of}, proofs.WhoRuns.starting_keeps_who_runs}
 use Rattle.event_queue.specs.Handlers.{takes_part}
 use Rattle.written_machine.{specs.Devices.{HasDevices, ActsAreOwn}, proofs.Inactive.{is_on, stopped-off}}

@@ -1,6 +1,7 @@
 use Rattle.std.proofs.Common.{◌≡◌, suc, [], ◌∷◌, ◌++◌, sym, ap, ◌∙◌, add-one, arith}
 use Rattle.std.specs.List.{flat_map, range_with_len}
-use Rattle.device_objects.{specs.Outcomes.of_hit_in, proofs.Flat.flat_map_range-suc}
+use Rattle.device_objects.specs.Bank.{of_hit_in}
+use Rattle.device_objects.proofs.Flat.{flat_map_range-suc}
 use Rattle.device_objects.proofs.answers.of_hit.Goals as goal
 
 pub loop-state-preserved : goal.loop-state-preserved

@@ -1,6 +1,6 @@
 use Rattle.std.{proofs.Common.{◌≡◌, ◌+◌, ◌*◌, ◌≤◌, [], ◌∷◌, map}, specs.List.{flat_map, range_with_len}}
 use Rattle.arrayvec.specs.ArrayVec.{array_vec_len}
-use Rattle.device_objects.specs.Outcomes.{of_hit_in}
+use Rattle.device_objects.specs.Bank.{of_hit_in}
 use Rattle.device_objects.proofs.answers.of_hit.Given as goal
 
 abbrev pub invariant-loop-state : goal.invariant-loop-state

@@ -1,4 +1,4 @@
-use Rattle.device_objects.proofs.Moments.{first_parts_fire}
+use Rattle.device_objects.proofs.Lawful.{first_parts_fire}
 use Rattle.device_objects.proofs.law.first_parts_fire.Goals as goal
 
 pub returns : goal.returns

@@ -1,4 +1,4 @@
-use Rattle.device_objects.proofs.Moments.{nothing_is_due}
+use Rattle.device_objects.proofs.Lawful.{nothing_is_due}
 use Rattle.device_objects.proofs.law.nothing_is_due.Goals as goal
 
 pub returns : goal.returns

@@ -1,4 +1,4 @@
-use Rattle.device_objects.proofs.Lists.{outcomes_of_row}
+use Rattle.device_objects.proofs.Lawful.{outcomes_of_row}
 use Rattle.device_objects.proofs.law.outcomes_are_of_the_row.Goals as goal
 
 pub returns : goal.returns

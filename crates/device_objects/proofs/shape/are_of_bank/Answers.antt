@@ -1,5 +1,5 @@
 use Rattle.std.proofs.{Common.{refl, arith}, lemmas.List.Elements.All-from_get_or}
-use Rattle.device_objects.specs.{Bank.first_slot, Laws.HasBankShape}
+use Rattle.device_objects.specs.Bank.{first_slot, HasBankShape}
 use Rattle.device_objects.proofs.shape.are_of_bank.Goals as goal
 
 pub returns : goal.returns

@@ -1,5 +1,5 @@
 use Rattle.std.proofs.Common.{ℕ, ◌<◌, get_or}
-use Rattle.device_objects.specs.{Bank.first_slot, Laws.HasBankShape}
+use Rattle.device_objects.specs.Bank.{first_slot, HasBankShape}
 use Rattle.device_objects.proofs.shape.are_of_bank.Given as goal
 
 abbrev pub invariant-loop-slot : goal.invariant-loop-slot

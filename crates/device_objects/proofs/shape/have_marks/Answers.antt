@@ -1,5 +1,6 @@
 use Rattle.std.proofs.{Common.{refl, arith}, lemmas.List.Elements.All-from_get_or}
-use Rattle.device_objects.{specs.Laws.HasMarks, proofs.Marks.no_marks}
+use Rattle.device_objects.specs.Accrual.{HasMarks}
+use Rattle.device_objects.proofs.Marks.{no_marks}
 use Rattle.device_objects.proofs.shape.have_marks.Goals as goal
 
 pub returns : goal.returns

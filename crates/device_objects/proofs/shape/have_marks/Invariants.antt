@@ -1,5 +1,6 @@
 use Rattle.std.proofs.Common.{ℕ, ◌<◌, get_or}
-use Rattle.device_objects.{specs.Laws.HasMarks, proofs.Marks.no_marks}
+use Rattle.device_objects.specs.Accrual.{HasMarks}
+use Rattle.device_objects.proofs.Marks.{no_marks}
 use Rattle.device_objects.proofs.shape.have_marks.Given as goal
 
 abbrev pub invariant-loop-slot : goal.invariant-loop-slot

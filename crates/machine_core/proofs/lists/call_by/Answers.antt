@@ -1,6 +1,7 @@
 use Rattle.std.{proofs.Common.{rules, ◌<◌, length, sym, ◌∙◌, subst}, specs.List.All}
 use Rattle.plan_tables.specs.{PlanView.row_at, Devices.list_count}
-use Rattle.machine_core.{specs.Core.CoreView, proofs.{Going.{goes-can, goes-turn}, Listing.answer-lists}}
+use Rattle.written_machine.specs.Machine.{called, set_device}
+use Rattle.machine_core.{specs.Core.{CoreView, CanCall}, proofs.{Going.{goes-can, goes-turn}, Listing.answer-lists}}
 use Rattle.machine_core.proofs.lists.call_by.Goals as goal
 
 pub lists_by-requires-clause-row : goal.lists_by-requires-clause-row
@@ -15,7 +16,11 @@ lists_by-requires-clause-lists g c =
     (subst (All (λ k. k < list_count (row_at core.plan r).settings)) (sym is) (answer-lists core.plan c.args.call r core.machine c.requires.row c.requires.calls.devices c.requires.may))
 
 pub lists_by-requires-clause-calls : goal.lists_by-requires-clause-calls
-lists_by-requires-clause-calls g c = search (rules, goes-can, goes-turn)
+lists_by-requires-clause-calls g c =
+    let core = c.args.core.now in
+    let turn = goes-turn core.plan c.args.call c.args.row core.machine in
+    subst CanCall (sym c.call-lists.ensures.called)
+    (goes-can core (set_device c.args.row (called core.plan c.args.call c.args.row core.machine).0) turn c.requires.calls)
 
 pub lists_by-requires-clause-room : goal.lists_by-requires-clause-room
 lists_by-requires-clause-room g c = search rules
