@@ -1,18 +1,17 @@
 -- No event of a valid plan costs 2^73 or more, if each weighs less than 2^32.
 use Rattle.std.proofs.Common.{rules, ℕ, ◌+◌, ◌*◌, ◌^◌, ◌<◌, ◌≤◌, ◌==◌, Bool, true, false, List, [], ◌∷◌, length, get_or, Option, Some, None, arith}
 use Rattle.std.specs.{Prelude.IfSome, List.{All, filter, list_any}}
-use Rattle.std.proofs.lemmas.List.Elements.{All-head, All-tail, All-weaker}
-use Rattle.std.proofs.{Math.Nat.mul-le-mul_right, lemmas.List.{FromFn.length-map-range_with_len, Sums.sum_by-le}}
+use Rattle.std.proofs.{lemmas.List.Elements.{All-head, All-tail, All-weaker}, Math.Nat.mul-le-mul_right}
+use Rattle.std.proofs.lemmas.List.{FromFn.length-map-range_with_len, Sums.sum_by-le}
 use Rattle.plan_tables.specs.PlanView.{PlanView, act_told, actions_at, actions_of, bound_to, coil_numbers, feeders_of, first_trough, game_event, is_enable_of, is_multiball, is_owner, list_of_row, mode_event, multiball_rows, row_at, row_numbers, rows_of, save_rows, work_of}
 use Rattle.plan_tables.specs.declared.entries.Action.{Action, TheVariants.{Post, Change, Enter, Request, AddBalls}}
 use Rattle.plan_tables.specs.declared.entries.{Binding.Binding, CoilId.CoilId, ListId.ListId, Work.Work}
-use Rattle.plan_tables.specs.declared.entries.{EventId.EventId, GameRules.GameRules}
+use Rattle.plan_tables.specs.{declared.entries.{EventId.EventId, GameRules.GameRules}, Valid.{IsValid, IsGameWithin}}
 use Rattle.plan_tables.specs.declared.entries.GameEvent.{GameEvent, TheVariants.BallDrain}
 use Rattle.plan_tables.specs.declared.entries.ModeEvent.TheVariants.{WillStart, Started, Stopping}
 use Rattle.plan_tables.specs.declared.entries.Target.{Target, TheVariants.{Run, Start, Stop, Act}}
 use Rattle.plan_tables.specs.declared.entries.Work.TheVariants as works
 use Rattle.plan_tables.specs.declared.entries.Owner.TheVariants as owners
-use Rattle.plan_tables.specs.Valid.{IsValid, IsGameWithin}
 use Rattle.plan_tables.specs.declared.devices.{Act.TheVariants.{Save, End}, RowId.RowId}
 use Rattle.plan_tables.specs.declared.devices.BallTarget.{BallTarget, TheVariants.Device}
 use Rattle.plan_tables.specs.declared.devices.Telling.{Telling, TheVariants.{Arrived, Wanted}}

@@ -1,19 +1,17 @@
 -- Accruals are lawful.
-use Rattle.std.proofs.Common.{rules, ◌≡◌, ◌⊎◌, inl, inr, ℕ, zero, suc, nat_lt, ◌<◌, ◌≤◌, Bool, true, false, ◌&&◌, Some, List, [], ◌∷◌, ◌++◌, length, replicate, take, slice_get, slice_set, if◌then◌else◌, refl, sym, ap, ◌∙◌, arith}
-use Rattle.std.specs.List.{All, list_all}
-use Rattle.std.proofs.lemmas.Bool.{and_from, and_parts, false≢true, ltb-true, true≢false}
-use Rattle.std.proofs.lemmas.List.{length-set, take-replicate, Elements.{All-nil, All-cons, All-append}}
+use Rattle.std.proofs.Common.{rules, ◌≡◌, ◌⊎◌, inl, ℕ, zero, suc, nat_lt, ◌<◌, ◌≤◌, Bool, true, false, ◌&&◌, Some, List, [], ◌∷◌, ◌++◌, length, replicate, take, slice_get, slice_set, if◌then◌else◌, refl, sym, ap, ◌∙◌, arith}
+use Rattle.std.{specs.List.{All, list_all}, proofs.lemmas.Bool.{and_from, and_parts, false≢true, ltb-true, true≢false}}
+use Rattle.std.proofs.lemmas.List.{length-set, set-set, take-replicate, Elements.{All-nil, All-cons, All-append}}
 use Rattle.plan_tables.specs.declared.devices.{Act.Act, Settings.TheVariants.Accrual}
 use Rattle.plan_tables.specs.Devices.{IsWithinLimits, list_count}
 use Rattle.plan_tables.specs.declared.devices.Act.TheVariants as acts
 use Rattle.machine_settings.specs.declared.settings.StepSettings.{StepSettings}
-use Rattle.device_objects.specs.{declared.state.AccrualSlot.AccrualSlot, Outcomes.only_if}
-use Rattle.device_objects.specs.{Blocks.{updated, completing, going_on}, Kinds.moments_of, Laws.IsLawful}
+use Rattle.device_objects.specs.{declared.state.AccrualSlot.AccrualSlot, Blocks.{updated, completing, going_on}}
+use Rattle.device_objects.specs.{Outcomes.only_if, Kinds.moments_of, Laws.IsLawful}
 use Rattle.device_objects.specs.Accrual.{HasMarks, accrual_slots, accruals, are_all_done, completed, is_open, is_step_open, none_done, of_accrual, slot_step, slots, stepped}
 use Rattle.device_objects.proofs.Among.{In, here, there, at_last, if_holds, either, one, all_if, if_true, if_false}
-use Rattle.device_objects.proofs.BlockLaws.{reset-in, no_player-in, resets}
-use Rattle.device_objects.proofs.Numbers.{nat_lt-not_zero, not_below_one, one_below}
-use Rattle.device_objects.proofs.SlotLaws.{Comes, slotted-lawful}
+use Rattle.device_objects.proofs.{BlockLaws.{reset-in, no_player-in, resets}, SlotLaws.{Comes, slotted-lawful}}
+use Rattle.device_objects.proofs.Replicas.{nat_lt-not_zero, not_below_one, one_below, set-replicate, slice_get-replicate}
 use Rattle.device_objects.specs.declared.state.DeviceState.TheVariants as states
 
 -- ---- marks
@@ -35,19 +33,10 @@ all_set : (n : ℕ) → list_all (λ d. d) (replicate n true) ≡ true
 all_set zero = refl
 all_set (suc n) = all_set n
 
-filled : (n i : ℕ) → slice_set (slice_set (replicate n true) i false) i true ≡ replicate n true
-filled (suc n) (suc i) = ap (λ marks. true ∷ marks) (filled n i)
-filled _ _ = refl
-
 hole_at : (n i : ℕ) → i < n → slice_get (slice_set (replicate n true) i false) i ≡ Some false
 hole_at zero i below = absurd (omega (arith, below))
 hole_at (suc n) zero below = refl
 hole_at (suc n) (suc i) below = hole_at n i (omega (arith, below))
-
-open_at : (n i : ℕ) → i < n → slice_get (replicate n false) i ≡ Some false
-open_at zero i below = absurd (omega (arith, below))
-open_at (suc n) zero below = refl
-open_at (suc n) (suc i) below = open_at n i (omega (arith, below))
 
 some_left : (steps i : ℕ) → nat_lt 1 steps ≡ true → list_all (λ d. d) (take steps (slice_set none_done i true)) ≡ false
 some_left (suc (suc n)) zero several = refl
@@ -100,7 +89,7 @@ module _ (a : StepSettings) where
       let small : i < a.steps = ltb-true i a.steps below in
       let next : AccrualSlot = slot_with true (slice_set none_done i true) in
       answered (acts.Step i) going_on true none_done refl
-      (if_true (is_step_open a i none_done) (stepped a next) (slot_with true none_done, []) (opens_at i none_done below (open_at 16 i (omega (arith, small, within))))
+      (if_true (is_step_open a i none_done) (stepped a next) (slot_with true none_done, []) (opens_at i none_done below (slice_get-replicate 16 i false (omega (arith, small, within))))
       ∙ if_false (are_all_done a next.done) (completed a next, completing) (next, going_on) (some_left a.steps i several))
 
   completes : (i : ℕ) → a.steps ≤ 16 → nat_lt i a.steps ≡ true → Comes (slots a) (acts.Step i) completing
@@ -111,7 +100,7 @@ module _ (a : StepSettings) where
       answered (acts.Step i) completing true done (length-set (replicate 16 true) i false)
       (if_true (is_step_open a i done) (stepped a next) (slot_with true done, []) (opens_at i done below (hole_at 16 i (omega (arith, small, within))))
       ∙ if_true (are_all_done a next.done) (completed a next, completing) (next, going_on)
-      (ap (λ marks. list_all (λ d. d) (take a.steps marks)) (filled 16 i) ∙ ap (list_all (λ d. d)) (take-replicate a.steps 16 true within) ∙ all_set a.steps))
+      (ap (λ marks. list_all (λ d. d) (take a.steps marks)) (set-set (replicate 16 true) i false true ∙ set-replicate 16 i true) ∙ ap (list_all (λ d. d)) (take-replicate a.steps 16 true within) ∙ all_set a.steps))
 
   come : a.steps ≤ 16 → (act : Act) → All (Comes (slots a) act) (of_accrual a act)
   come within (acts.Step i) =
@@ -120,10 +109,8 @@ module _ (a : StepSettings) where
       (all_if Answer (nat_lt i a.steps) (only_if (nat_lt 1 a.steps) (going_on ∷ []) ++ completing ∷ []) (λ below. All-append Answer (only_if (nat_lt 1 a.steps) (going_on ∷ [])) (completing ∷ [])
       (all_if Answer (nat_lt 1 a.steps) (going_on ∷ []) (λ several. one Answer going_on (goes_on i within below several)))
       (one Answer completing (completes i within below))))
-  come within acts.Reset =
-      resets a.block (Comes (slots a) acts.Reset) (λ is. inr (is, refl)) (answered acts.Reset (updated ∷ []) true none_done refl refl)
-  come within acts.Restart =
-      resets a.block (Comes (slots a) acts.Restart) (λ is. inr (is, refl)) (answered acts.Restart (updated ∷ []) true none_done refl refl)
+  come within acts.Reset = resets (slots a) a.block refl acts.Reset (answered acts.Reset (updated ∷ []) true none_done refl refl)
+  come within acts.Restart = resets (slots a) a.block refl acts.Restart (answered acts.Restart (updated ∷ []) true none_done refl refl)
   come within act = one (Comes (slots a) act) [] (answered act [] true none_done refl refl)
 
   -- ---- the law
@@ -134,5 +121,5 @@ module _ (a : StepSettings) where
   pub accruals-lawful : IsLawful (accruals a) moments_of (IsWithinLimits (Accrual a)) (list_count (Accrual a))
   accruals-lawful =
       slotted-lawful states.Accrual accrual_slots (slots a) (IsWithinLimits (Accrual a)) 3 (λ held. refl)
-      (λ state held is. search rules) (λ game. refl) keeps-marks answer-in none-in come
+      (λ state held is. search rules) (λ held. refl) (λ game. refl) keeps-marks answer-in none-in come
       (λ act. search rules) (λ act. search (rules, All-nil, All-cons, All-append))

@@ -1,7 +1,7 @@
 -- Lists of answers: what is among them, and what holds of each.
 use Rattle.std.proofs.Common.{rules, ◌≡◌, ℕ, zero, suc, ◌+◌, ◌<◌, ◌≤◌, Bool, true, false, List, [], ◌∷◌, ◌++◌, ◌==◌, ◌&&◌, if◌then◌else◌, refl, sym, subst, inl, inr, zero-le, suc-le-suc, arith}
-use Rattle.std.{specs.List.{All, Contains, flat_map, range_with_len}, proofs.lemmas.Bool.{and_parts, cases_eq}}
-use Rattle.std.proofs.lemmas.List.Elements.{All-cons, All-contains, All-nil}
+use Rattle.std.specs.List.{All, Contains, flat_map, range_with_len}
+use Rattle.std.proofs.lemmas.{Bool.{and_parts, cases_eq}, List.Elements.{All-cons, All-contains, All-nil}}
 use Rattle.device_objects.specs.Outcomes.{only_if, of_switch}
 
 -- ---- what is among them
@@ -83,15 +83,6 @@ if_false test x y is = search rules
 
 pub second : {S : Type 0} (test : Bool) (x y : S × List ℕ) → (if test then x else y).1 ≡ (if test then x.1 else y.1)
 second test x y = search rules
-
-pub halves : {S : Type 0} (test : Bool) (x y : S) (a b : List ℕ)
-    → (if◌then◌else◌ {A = S × List ℕ} test (x, a) (y, b)).1 ≡ (if test then a else b)
-halves test x y a b = search rules
-
-pub stops-in : {S : Type 0} (running : Bool) (s halt : S) (list : ℕ)
-    → In (if◌then◌else◌ {A = S × List ℕ} running (halt, list ∷ []) (s, [])).1 ([] ∷ (list ∷ []) ∷ [])
-stops-in true s halt list = there here
-stops-in false s halt list = here
 
 -- ---- the only switch of a device changes
 

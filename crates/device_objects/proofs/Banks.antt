@@ -1,19 +1,18 @@
 -- Banks are lawful.
 use Rattle.std.proofs.Common.{rules, ◌≡◌, ◌≢◌, ◌⊎◌, inl, inr, ℕ, zero, ◌==◌, suc, ◌+◌, ◌-◌, ◌*◌, nat_lt, nat_le, ◌<◌, ◌≤◌, Bool, true, false, not, ◌&&◌, Option, Some, List, [], ◌∷◌, ◌++◌, length, replicate, take, get_or, slice_get, slice_set, if◌then◌else◌, refl, sym, ap, ◌∙◌, arith}
-use Rattle.std.{specs.List.{All, list_all, range_with_len}, proofs.Math.Nat.mul-le-mul_left}
-use Rattle.std.proofs.lemmas.Option.{none-some, slice_get-get_or}
+use Rattle.std.specs.List.{All, list_all, range_with_len}
+use Rattle.std.proofs.{Math.Nat.mul-le-mul_left, lemmas.{Option.{none-some, slice_get-get_or}, List.Folds.list_all_at}}
 use Rattle.std.proofs.lemmas.Bool.{and_from, and_parts, cases_Bool, eq-eqb, eqb-false, false≢true, leb-true, ltb-true, ne_eqb}
 use Rattle.std.proofs.lemmas.List.{append-nil, get_or-replicate, get_or-set_other, get_or-set_same, get_or-take, length-append, length-drop, length-replicate, length-set, length-take, set-set, take-replicate}
 use Rattle.std.proofs.lemmas.List.Elements.{All-cons, All-append, All-drop, All-nil, All-replicate, All-set, All-take}
-use Rattle.std.proofs.lemmas.List.Folds.{list_all_at}
 use Rattle.plan_tables.specs.declared.devices.{Act.Act, BankSettings.BankSettings, Settings.TheVariants.Bank}
 use Rattle.plan_tables.specs.Devices.{IsWithinLimits, list_count, state_count}
 use Rattle.plan_tables.specs.declared.devices.Act.TheVariants as acts
 use Rattle.device_objects.specs.{declared.state.BankSlot.BankSlot, Outcomes.only_if, Kinds.moments_of, Laws.IsLawful}
 use Rattle.device_objects.specs.Bank.{HasBankShape, advance_where, are_all_in, bank_slots, banks, can_complete, first_slot, gone_on, group_complete, hit, hit_completing, hit_lists, hit_where, is_complete, next_state, of_bank, of_hit, of_hit_in, slot_step, slots, turned}
 use Rattle.device_objects.proofs.Among.{In, here, there, at_last, in_range, in_flat_map, if_holds, by, either, one, all_if, by_test}
-use Rattle.device_objects.proofs.{Flat.All-flat_map_range, Numbers.{nat_lt-not_zero, not_below_one, one_below}}
-use Rattle.device_objects.proofs.SlotLaws.{All-at, Comes, slotted-lawful}
+use Rattle.device_objects.proofs.Replicas.{All-flat_map_range, nat_lt-not_zero, not_below_one, one_below, set-replicate, slice_get-replicate}
+use Rattle.device_objects.proofs.SlotLaws.{All-at, Comes, one_of, slotted-lawful}
 use Rattle.device_objects.specs.declared.state.DeviceState.TheVariants as states
 
 -- ---- states keep their shape
@@ -30,14 +29,6 @@ module _ (b : BankSettings) where
       → HasBankShape b (record slot { states = states })
   with_states slot states shape long within = (shape.0, long, within)
 
-  with_flag : (slot : BankSlot) (i : ℕ) (flag : Bool) → HasBankShape b slot
-      → HasBankShape b (record slot { enabled = slice_set slot.enabled i flag })
-  with_flag slot i flag shape = (length-set slot.enabled i flag ∙ shape.0, shape.1, shape.2)
-
-  with_state : (slot : BankSlot) (i state : ℕ) → HasBankShape b slot → state ≤ b.last_state
-      → HasBankShape b (record slot { states = slice_set slot.states i state })
-  with_state slot i state shape within = search rules
-
   turned-length : (k : ℕ) (states : List ℕ) → length (turned b.shots k states) ≡ length states
   turned-length k states = search (rules, length-append, length-drop, length-take)
 
@@ -47,15 +38,6 @@ module _ (b : BankSettings) where
 
   first_slot-shape : (game : ℕ) → HasBankShape b (first_slot b game)
   first_slot-shape game = (refl, refl, All-replicate (λ s. s ≤ b.last_state) 16 0 (omega arith))
-
-  -- a slot that is one of two
-  one_slot : (test : Bool) (x y : BankSlot) → HasBankShape b x → HasBankShape b y
-      → HasBankShape b (if test then x else y)
-  one_slot test x y first second = search rules
-
-  one_answer : (test : Bool) (x y : BankSlot × List ℕ) → HasBankShape b x.0 → HasBankShape b y.0
-      → HasBankShape b (if test then x else y).0
-  one_answer test x y first second = search rules
 
   hit_where-shape : (i : ℕ) (slot : BankSlot) (enabled : Option Bool) (state : Option ℕ)
       → ((s : ℕ) → state ≡ Some s → s ≤ b.last_state) → HasBankShape b slot
@@ -68,12 +50,12 @@ module _ (b : BankSettings) where
 
   bank_slot-shape : (act : Act) (slot : BankSlot) → HasBankShape b slot → HasBankShape b (slot_step b act slot).0
   bank_slot-shape (acts.Hit i) slot shape =
-      one_answer (nat_lt i b.shots) (hit_where b i (slice_get slot.enabled i) (slice_get slot.states i) slot)
-      (slot, [])
+      one_of (λ (a : BankSlot × List ℕ). HasBankShape b a.0) (nat_lt i b.shots)
+      (hit_where b i (slice_get slot.enabled i) (slice_get slot.states i) slot) (slot, [])
       (hit_where-shape i slot (slice_get slot.enabled i) (slice_get slot.states i)
       (λ s is. All-at (λ n. n ≤ b.last_state) slot.states i s is shape.2) shape) shape
   bank_slot-shape (acts.Advance i) slot shape =
-      one_slot (nat_lt i b.shots) (advance_where b i (slice_get slot.states i) slot) slot
+      one_of (HasBankShape b) (nat_lt i b.shots) (advance_where b i (slice_get slot.states i) slot) slot
       (advance_where-shape i slot (slice_get slot.states i)
       (λ s is. All-at (λ n. n ≤ b.last_state) slot.states i s is shape.2) shape) shape
   bank_slot-shape (acts.ResetShot i) slot shape = search rules
@@ -141,18 +123,8 @@ none-in b _ is = here
 abbrev AreBelow : ℕ → List ℕ → Type 0
 AreBelow n lists = All (λ k. k < n) lists
 
-none : (n : ℕ) → AreBelow n []
-none n = All-nil (λ k. k < n)
-
 more : (n k : ℕ) (ks : List ℕ) → k < n → AreBelow n ks → AreBelow n (k ∷ ks)
 more n k ks l h = All-cons (λ j. j < n) k ks l h
-
--- answers of so many lists, each one of n
-abbrev AreAllBelow : ℕ → List (List ℕ) → Type 0
-AreAllBelow n answers = All (AreBelow n) answers
-
-only : (n : ℕ) (lists : List ℕ) → AreBelow n lists → AreAllBelow n (lists ∷ [])
-only n lists h = All-cons (AreBelow n) lists [] h (All-nil (AreBelow n))
 
 complete_if : (group : Bool) (n c s : ℕ) → group ≡ true → s < c
     → AreBelow (c * (n + (if group then 2 else 0))) ((suc n * c + s) ∷ [])
@@ -174,16 +146,16 @@ module _ (b : BankSettings) where
       All-append (λ k. k < count) (hit_lists b i s) (group_complete b (next_state b s) ∷ []) (hits-below i s within low)
       (complete_if b.group b.shots (state_count b) (next_state b s) is (omega (arith, next-low)))
 
-  hit_in-below : (i s : ℕ) → i < b.shots → s ≤ b.last_state → AreAllBelow count (of_hit_in b i s)
-  hit_in-below i s within low = search (rules, only, hits-below, by_test, nat_lt, All-append, all_if, completing-below, and_parts)
+  hit_in-below : (i s : ℕ) → i < b.shots → s ≤ b.last_state → All (AreBelow count) (of_hit_in b i s)
+  hit_in-below i s within low = search (rules, one, hits-below, by_test, nat_lt, All-append, all_if, completing-below, and_parts)
 
-  bank_act-below : (act : Act) → AreAllBelow count (of_bank b act)
+  bank_act-below : (act : Act) → All (AreBelow count) (of_bank b act)
   bank_act-below (acts.Hit i) =
-      All-cons (AreBelow count) [] (only_if (nat_lt i b.shots) (of_hit b i)) (none count)
+      All-cons (AreBelow count) [] (only_if (nat_lt i b.shots) (of_hit b i)) (All-nil (λ k. k < count))
       (all_if (AreBelow count) (nat_lt i b.shots) (of_hit b i)
       (λ is. All-flat_map_range (AreBelow count) (of_hit_in b i) 0 (state_count b)
       (λ s low. hit_in-below i s (ltb-true i b.shots is) (omega (arith, low)))))
-  bank_act-below _ = only count [] (none count)
+  bank_act-below _ = one (AreBelow count) [] (All-nil (λ k. k < count))
 
 -- ---- answers are short
 
@@ -234,14 +206,6 @@ another-is i = search rules
 all_same : (n s : ℕ) → list_all (λ x. x == s) (replicate n s) ≡ true
 all_same zero s = refl
 all_same (suc n) s = and_from (s == s) (list_all (λ x. x == s) (replicate n s)) (eq-eqb s s refl) (all_same n s)
-
-set-replicate : (n i s : ℕ) → slice_set (replicate n s) i s ≡ replicate n s
-set-replicate (suc n) (suc i) s = ap (λ xs. s ∷ xs) (set-replicate n i s)
-set-replicate _ _ s = refl
-
-slice_get-replicate : {X : Type 0} (n i : ℕ) (x : X) → i < n → slice_get (replicate n x) i ≡ Some x
-slice_get-replicate n i x l =
-    slice_get-get_or (replicate n x) i x (omega (arith, l, length-replicate n x)) ∙ ap Some (get_or-replicate n i x x l)
 
 none_moves : (group all same : Bool) → same ≡ true → (group && (not same && all)) ≡ false
 none_moves group all same is = search rules
@@ -355,5 +319,5 @@ module _ (b : BankSettings) (limits : IsWithinLimits (Bank b)) where
 pub banks-lawful : (b : BankSettings) → IsLawful (banks b) moments_of (IsWithinLimits (Bank b)) (list_count (Bank b))
 banks-lawful b =
     slotted-lawful states.Bank bank_slots (slots b) (IsWithinLimits (Bank b)) (list_count (Bank b)) (λ held. refl)
-    (λ state held is. search rules) (first_slot-shape b) (λ act now. bank_slot-shape b act)
+    (λ state held is. search rules) (λ held. refl) (first_slot-shape b) (λ act now. bank_slot-shape b act)
     (λ act now. bank_slot-in b act) (none-in b) (bank_acts b) (bank_act-below b) (bank_act-few b)

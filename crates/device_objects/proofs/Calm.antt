@@ -1,6 +1,6 @@
 -- Kinds of which nothing is ever due are lawful, where their acts are.
 use Rattle.std.proofs.Common.{rules, ◌≡◌, ℕ, ◌<◌, ◌≤◌, inl, Option, Some, List, [], ◌∷◌, length, refl, arith}
-use Rattle.std.{specs.List.All, proofs.lemmas.{Bool.false≢true, List.Elements.{All-nil, All-weaker}}}
+use Rattle.std.{specs.List.All, proofs.lemmas.List.Elements.All-nil}
 use Rattle.plan_tables.specs.declared.devices.Act.{Act}
 use Rattle.device_objects.specs.declared.{device.Call.Call, state.{DeviceState.DeviceState, World.World}}
 use Rattle.device_objects.specs.KindModel.{Kind, CalmModel, Moments, by_act, calm_step, in_states, never, never_due}
@@ -12,25 +12,20 @@ use Rattle.device_objects.specs.declared.device.Call.TheVariants as calls
 abbrev pub someone : World
 someone = record { games = 0; player = 1; in_play = 0 }
 
--- the lists are what an act answers, of something of the shape
-pub record IsActAnswer {S : Type 0} (m : CalmModel S) (act : Act) (lists : List ℕ) : Type 0 where
-  pub now : ℕ
-  pub world : World
-  pub state : S
-  pub shape : m.IsShaped state
-  pub answer : (m.act act now world state).1 ≡ lists
+-- the lists are what an act answers, in some state
+abbrev pub IsActAnswer : {S : Type 0} → CalmModel S → Act → List ℕ → Type 0
+IsActAnswer m act lists = IsAnswerOf (never_due m) (λ s. never) (calls.Act act) lists
 
 -- what holds of each answer to an act, and of no list, holds of each outcome
 by_act-all : (P : List ℕ → Type 0) (answers : Act → List (List ℕ)) → P [] → ((act : Act) → All P (answers act))
     → (call : Call) → All P (by_act answers call)
-by_act-all P answers none each calls.Fire = All-nil P
-by_act-all P answers none each (calls.Act act) = each act
-by_act-all P answers none each _ = one P [] none
+by_act-all P answers none each call = search (rules, All-nil, one)
 
 -- a kind by its states, and what has to be proved of it
 module _ {S : Type 0} (state_of : S → DeviceState) (held : DeviceState → Option S) (m : CalmModel S)
     (IsWithin : Type 0) (lists : ℕ) (back : (s : S) → held (state_of s) ≡ Some s)
-    (same : (state : DeviceState) (s : S) → held state ≡ Some s → moments_of state ≡ never)
+    (same : (state : DeviceState) (s : S) → held state ≡ Some s → state ≡ state_of s)
+    (due : (s : S) → moments_of (state_of s) ≡ never)
     (first : m.IsShaped m.first) (start : (s : S) → m.IsShaped s → m.IsShaped (m.start s))
     (stop : (s : S) → m.IsShaped s → m.IsShaped (m.stop s))
     (acts : (act : Act) (now : ℕ) (world : World) (s : S) → m.IsShaped s → m.IsShaped (m.act act now world s).0)
@@ -46,21 +41,15 @@ module _ {S : Type 0} (state_of : S → DeviceState) (held : DeviceState → Opt
   moments s = never
 
   keeps : (call : Call) (now : ℕ) (world : World) (s : S) → m.IsShaped s → m.IsShaped (calm_step m call now world s).0
-  keeps calls.ModeStart now world s shape = start s shape
-  keeps calls.ModeStop now world s shape = stop s shape
-  keeps calls.Fire now world s shape = shape
-  keeps (calls.Act act) now world s shape = acts act now world s shape
+  keeps call now world s shape = search (rules, start, stop, acts)
 
   answered : (call : Call) (now : ℕ) (world : World) (s : S) → m.IsShaped s → MayComeAt call never
       → In (calm_step m call now world s).1 (by_act m.answers call)
-  answered calls.Fire now world s shape may = absurd (false≢true may)
-  answered (calls.Act act) now world s shape may = answer act now world s shape
-  answered _ now world s shape may = here
+  answered call now world s shape may = search (rules, here, answer)
 
   all_below : (call : Call) (now : ℕ) (world : World) (s : S)
       → All (λ list. list < lists) (calm_step m call now world s).1
-  all_below (calls.Act act) now world s = below act now world s
-  all_below _ now world s = All-nil (λ list. list < lists)
+  all_below call now world s = search (rules, All-nil, below)
 
   -- what starts, or stops, answers nothing
   nothing : (call : Call) → MayComeAt call never → (calm_step m call 0 someone m.first).1 ≡ []
@@ -70,10 +59,7 @@ module _ {S : Type 0} (state_of : S → DeviceState) (held : DeviceState → Opt
 
   come : IsWithin → (call : Call) → All (IsAnswerOf kind moments call) (by_act m.answers call)
   come within calls.Fire = All-nil (IsAnswerOf kind moments calls.Fire)
-  come within (calls.Act act) =
-      All-weaker (IsActAnswer m act) (IsAnswerOf kind moments (calls.Act act))
-      (λ ls a. record { now = a.now; world = a.world; state = a.state; shape = a.shape; may_come = tt; answer = a.answer })
-      (m.answers act) (comes within act)
+  come within (calls.Act act) = comes within act
   come within calls.ModeStart = nothing calls.ModeStart tt refl
   come within calls.ModeStop = nothing calls.ModeStop tt refl
 
@@ -96,4 +82,4 @@ module _ {S : Type 0} (state_of : S → DeviceState) (held : DeviceState → Opt
   }
 
   pub calm-lawful : IsLawful (in_states state_of held kind) moments_of IsWithin lists
-  calm-lawful = in_states-lawful state_of held kind moments IsWithin lists back same never_due-lawful
+  calm-lawful = in_states-lawful state_of held kind moments IsWithin lists back same due never_due-lawful

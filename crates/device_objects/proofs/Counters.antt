@@ -1,17 +1,17 @@
 -- Counters are lawful.
-use Rattle.std.proofs.Common.{rules, ◌≡◌, ◌⊎◌, inl, inr, ℕ, ◌<◌, ◌≤◌, Bool, true, false, not, ◌&&◌, None, Some, List, [], ◌∷◌, is_some, ℤ, pos, refl, arith}
+use Rattle.std.proofs.Common.{rules, ◌≡◌, ◌⊎◌, inl, ℕ, ◌<◌, ◌≤◌, Bool, true, false, not, ◌&&◌, None, Some, List, [], ◌∷◌, is_some, ℤ, pos, refl, arith}
 use Rattle.std.{specs.List.All, proofs.lemmas.List.Elements.{All-nil, All-cons, All-append}}
 use Rattle.plan_tables.specs.declared.devices.{Act.Act, Settings.TheVariants.Counter}
 use Rattle.plan_tables.specs.Devices.{IsWithinLimits, list_count}
 use Rattle.plan_tables.specs.declared.devices.Act.TheVariants as acts
-use Rattle.machine_settings.specs.{declared.settings.CounterSettings.CounterSettings, Limits.IsEndWithin}
-use Rattle.machine_settings.specs.Ends.{is_at_end}
-use Rattle.device_objects.specs.{declared.state.CounterSlot.CounterSlot, Values.moved, Outcomes.only_if}
-use Rattle.device_objects.specs.{Blocks.{updated, completing, going_on}, Kinds.moments_of, Laws.IsLawful}
+use Rattle.machine_settings.specs.declared.settings.CounterSettings.{CounterSettings}
+use Rattle.machine_settings.specs.{Limits.IsEndWithin, Ends.is_at_end}
+use Rattle.device_objects.specs.{declared.state.CounterSlot.CounterSlot, Blocks.{updated, completing, going_on}}
+use Rattle.device_objects.specs.{Values.moved, Outcomes.only_if, Kinds.moments_of, Laws.IsLawful}
 use Rattle.device_objects.specs.Counter.{counter_slots, counters, completed, counted, is_early, of_counter, slot_step, slots}
 use Rattle.device_objects.proofs.Among.{In, here, there, if_holds, either, one, all_if, if_true, if_false}
-use Rattle.device_objects.proofs.{BlockLaws.{reset-in, no_player-in, resets}, Ends.{at_end-some, ends_at, goes_on_at}}
-use Rattle.device_objects.proofs.SlotLaws.{Comes, slotted-lawful}
+use Rattle.device_objects.proofs.BlockLaws.{reset-in, no_player-in, resets}
+use Rattle.device_objects.proofs.{Ends.{at_end-some, ends_at, goes_on_at}, SlotLaws.{Comes, slotted-lawful}}
 use Rattle.device_objects.specs.declared.state.DeviceState.TheVariants as states
 
 module _ (c : CounterSettings) where
@@ -35,20 +35,18 @@ module _ (c : CounterSettings) where
   none-in acts.Restart is = no_player-in c.block is
   none-in _ is = here
 
+  abbrev slot_with : Bool → ℤ → CounterSlot
+  slot_with enabled value = record { game = 0; enabled = enabled; value = value; last_hit = None }
+
   answered : (act : Act) (lists : List ℕ) (enabled : Bool) (value : ℤ)
-      → (slot_step c act 0 (record { game = 0; enabled = enabled; value = value; last_hit = None })).1 ≡ lists
-      → Comes (slots c) act lists
-  answered act lists enabled value answers = inl (record {
-    now = 0;
-    slot = record { game = 0; enabled = enabled; value = value; last_hit = None };
-    shape = tt;
-    answer = answers;
-  })
+      → (slot_step c act 0 (slot_with enabled value)).1 ≡ lists → Comes (slots c) act lists
+  answered act lists enabled value answers =
+      inl (record { now = 0; slot = slot_with enabled value; shape = tt; answer = answers })
 
   hits : IsEndWithin c.complete → All (Comes (slots c) acts.Count) (of_counter c acts.Count)
   hits within =
       let Answer : List ℕ → Type 0 = Comes (slots c) acts.Count in
-      let past : ℤ → CounterSlot = λ value. record { game = 0; enabled = true; value = moved c.direction c.interval value; last_hit = Some 0 } in
+      let past : ℤ → CounterSlot = λ value. record (slot_with true (moved c.direction c.interval value)) { last_hit = Some 0 } in
       let going : Answer going_on =
       (let from = goes_on_at c.direction c.complete c.interval within in
       answered acts.Count going_on true from.0 (if_false (is_at_end c.direction c.complete (past from.0).value) (completed c (past from.0), completing) (past from.0, going_on) from.1)) in
@@ -60,14 +58,12 @@ module _ (c : CounterSettings) where
 
   come : IsEndWithin c.complete → (act : Act) → All (Comes (slots c) act) (of_counter c act)
   come within acts.Count = hits within
-  come within acts.Reset =
-      resets c.block (Comes (slots c) acts.Reset) (λ is. inr (is, refl)) (answered acts.Reset (updated ∷ []) true (pos 0) refl)
-  come within acts.Restart =
-      resets c.block (Comes (slots c) acts.Restart) (λ is. inr (is, refl)) (answered acts.Restart (updated ∷ []) true (pos 0) refl)
+  come within acts.Reset = resets (slots c) c.block refl acts.Reset (answered acts.Reset (updated ∷ []) true (pos 0) refl)
+  come within acts.Restart = resets (slots c) c.block refl acts.Restart (answered acts.Restart (updated ∷ []) true (pos 0) refl)
   come within act = one (Comes (slots c) act) [] (answered act [] true (pos 0) refl)
 
   pub counters-lawful : IsLawful (counters c) moments_of (IsWithinLimits (Counter c)) (list_count (Counter c))
   counters-lawful =
       slotted-lawful states.Counter counter_slots (slots c) (IsWithinLimits (Counter c)) 3 (λ held. refl)
-      (λ state held is. search rules) (λ game. tt) (λ act now s shape. tt) answer-in none-in come
+      (λ state held is. search rules) (λ held. refl) (λ game. tt) (λ act now s shape. tt) answer-in none-in come
       (λ act. search rules) (λ act. search (rules, All-nil, All-cons, All-append))

@@ -1,8 +1,8 @@
 -- Values that reach their end, and values that do not.
 use Rattle.std.proofs.Common.{rules, ◌≡◌, true, false, Option, None, Some, is_some, refl, ap, ◌∙◌, ℤ, pos, neg_ℤ, ◌+ℤ◌, ◌-ℤ◌, arith}
 use Rattle.std.{specs.Prelude.{int_le, ◌≤ℤ◌}, proofs.lemmas.{Int.ints, Bool.false≢true}}
-use Rattle.machine_settings.specs.{declared.words.Direction.{Direction, TheVariants.{Up, Down}}, Limits.IsEndWithin}
-use Rattle.machine_settings.specs.Ends.{is_at_end}
+use Rattle.machine_settings.specs.declared.words.Direction.{Direction, TheVariants.{Up, Down}}
+use Rattle.machine_settings.specs.{Limits.IsEndWithin, Ends.is_at_end}
 use Rattle.device_objects.specs.Values.{clamped, moved}
 
 -- a value is at its end only if there is one

@@ -6,18 +6,20 @@ use Rattle.plan_tables.specs.Devices.{IsWithinLimits, list_count}
 use Rattle.plan_tables.specs.declared.devices.Act.TheVariants as acts
 use Rattle.device_objects.specs.{declared.state.FlipperState.FlipperState, Kinds.moments_of, Laws.IsLawful}
 use Rattle.device_objects.specs.Flipper.{act_step, first_state, flipper, flipper_state, flippers, of_flipper, off, on}
-use Rattle.device_objects.proofs.Among.{In, here, stops-in, switch-in, switch_comes, one, two, if_true}
+use Rattle.device_objects.proofs.Among.{In, here, there, either, switch-in, switch_comes, one, two, if_true}
 use Rattle.device_objects.proofs.Calm.{IsActAnswer, calm-lawful, someone}
 use Rattle.device_objects.specs.declared.state.DeviceState.TheVariants as states
 
 act-in : (act : Act) (s : FlipperState) → In (act_step act s).1 (of_flipper act)
-act-in acts.Disable s = stops-in s.on (record s { enabled = false }) (record s { enabled = false; on = false }) off
+act-in acts.Disable s =
+    either s.on (record s { enabled = false; on = false }, off ∷ []) (record s { enabled = false }, [])
+    (λ is. there here) (λ not. here)
 act-in (acts.SwitchOn i) s = switch-in s.enabled i on (record s { on = true }) s
 act-in (acts.SwitchOff i) s = switch-in s.on i off (record s { on = false }) s
 act-in _ s = here
 
 answered : (act : Act) (lists : List ℕ) (s : FlipperState) → (act_step act s).1 ≡ lists → IsActAnswer flipper act lists
-answered act lists s answers = record { now = 0; world = someone; state = s; shape = tt; answer = answers }
+answered act lists s answers = record { now = 0; world = someone; state = s; shape = tt; may_come = tt; answer = answers }
 
 -- a flipper that is enabled and on
 abbrev up : FlipperState
@@ -38,6 +40,6 @@ come act = one (IsActAnswer flipper act) [] (answered act [] first_state refl)
 pub flippers-lawful : IsLawful flippers moments_of (IsWithinLimits Flipper) (list_count Flipper)
 flippers-lawful =
     calm-lawful states.Flipper flipper_state flipper (IsWithinLimits Flipper) 2 (λ s. refl) (λ state s is. search rules)
-    tt (λ s shape. tt) (λ s shape. tt) (λ act now world s shape. tt) (λ act now world s shape. act-in act s)
+    (λ s. refl) tt (λ s shape. tt) (λ s shape. tt) (λ act now world s shape. tt) (λ act now world s shape. act-in act s)
     (λ within. come) (λ act now world s. search rules) (λ act. search rules)
     (λ act. search (rules, All-nil, All-cons, All-append))

@@ -3,14 +3,14 @@ use Rattle.std.{proofs.Common.{rules, ◌≡◌, ℕ, ◌<◌, ◌≤◌, ◌⊎
 use Rattle.plan_tables.specs.{declared.devices.Settings.Settings, Devices.{IsWithinLimits, list_count}}
 use Rattle.plan_tables.specs.declared.devices.Settings.TheVariants as kinds
 use Rattle.device_objects.specs.declared.{device.Call.Call, state.{DeviceState.DeviceState, World.World}}
-use Rattle.device_objects.specs.{Kinds.{kind_of, moments_of}, DeviceStep.{device_step, due_of, first_state, part_due}}
-use Rattle.device_objects.specs.Laws.{AnswersAreOutcomes, ArmsLaterMoments, DevicesAreDueWithTheirParts, FirstPartsFire, IsDone, IsLawful, HasShape, NothingIsDue, OutcomesAreOfTheRow, OutcomesComeAbout, StatesKeepTheirShape, StopsAreSilent}
-use Rattle.device_objects.proofs.{Counters.counters-lawful, Accruals.accruals-lawful, Sequences.sequences-lawful}
-use Rattle.device_objects.proofs.{Timers.timers-lawful, Banks.banks-lawful, Flippers.flippers-lawful}
-use Rattle.device_objects.proofs.{Autofires.autofires-lawful, Balls.ball_devices-lawful, Saves.ball_saves-lawful}
-use Rattle.device_objects.proofs.Multiballs.{multiballs-lawful}
+use Rattle.device_objects.specs.{Kinds.{kind_of, moments_of}, DeviceStep.{device_step, due_of, part_due}}
+use Rattle.device_objects.specs.Laws.{AnswersAreOutcomes, ArmsLaterMoments, DevicesAreDueWithTheirParts, FirstPartsFire, IsLawful, NothingIsDue, OutcomesAreOfTheRow, OutcomesComeAbout, StatesKeepTheirShape, StopsAreSilent}
+use Rattle.device_objects.proofs.{Counters.counters-lawful, Flippers.flippers-lawful}
+use Rattle.device_objects.proofs.{Accruals.accruals-lawful, Saves.ball_saves-lawful}
+use Rattle.device_objects.proofs.{Sequences.sequences-lawful, Multiballs.multiballs-lawful}
+use Rattle.device_objects.proofs.{Timers.timers-lawful, Banks.banks-lawful}
+use Rattle.device_objects.proofs.{Autofires.autofires-lawful, Balls.ball_devices-lawful}
 use Rattle.device_objects.proofs.BallMoments.{ball-parts_none, ball-parts_one, ball-parts_first}
-use Rattle.device_objects.specs.declared.device.Call.TheVariants as calls
 use Rattle.device_objects.specs.declared.state.DeviceState.TheVariants as states
 
 pub kinds_are_lawful : (settings : Settings)
@@ -47,32 +47,17 @@ lists_are_of_the_row settings = (kinds_are_lawful settings).answers_of_row
 pub stops_are_silent : StopsAreSilent
 stops_are_silent = λ s. (kinds_are_lawful s).silent_stop
 
-pub arms-later : (settings : Settings) (call : Call) (now : ℕ) (world : World) (state : DeviceState)
-    → IsWithinLimits settings → (k due : ℕ) → part_due (device_step settings call now world state).0 k ≡ Some due
-    → (part_due state k ≡ Some due) ⊎ (now < due)
-arms-later settings call now world state limits k due is =
-    (kinds_are_lawful settings).arms limits call now world state k due is
-
-pub fired-done : (settings : Settings) (now : ℕ) (world : World) (state : DeviceState) → IsWithinLimits settings
-    → HasShape settings state
-    → IfSome (due_of state) (λ due. IsDone now due state (device_step settings calls.Fire now world state).0)
-fired-done settings now world state limits shape = (kinds_are_lawful settings).done limits now world state shape
-
 pub arms_later_moments : ArmsLaterMoments
-arms_later_moments = record { step = arms-later; fired = fired-done }
+arms_later_moments = record {
+  step = λ s call now world state within. (kinds_are_lawful s).arms within call now world state;
+  fired = λ s now world state within. (kinds_are_lawful s).done within now world state;
+}
 
 pub first_parts_fire : FirstPartsFire
 first_parts_fire = λ s. (kinds_are_lawful s).fires
 
-pub first-quiet : (settings : Settings) → due_of (first_state settings) ≡ None
-first-quiet settings = (kinds_are_lawful settings).quiet
-
-pub stopped-quiet : (settings : Settings) (now : ℕ) (world : World) (state : DeviceState) → HasShape settings state
-    → due_of (device_step settings calls.ModeStop now world state).0 ≡ None
-stopped-quiet settings = (kinds_are_lawful settings).stopped
-
 pub nothing_is_due : NothingIsDue
-nothing_is_due = record { first = first-quiet; stopped = stopped-quiet }
+nothing_is_due = record { first = λ s. (kinds_are_lawful s).quiet; stopped = λ s. (kinds_are_lawful s).stopped }
 
 -- ---- moments
 

@@ -1,8 +1,7 @@
 pub mod Marks
 pub mod FlagLemmas
-pub mod Flat
 pub mod Among
-pub mod Numbers
+pub mod Replicas
 pub mod Ends
 pub mod InStates
 pub mod Calm
@@ -20,7 +19,6 @@ pub mod BallShapes
 pub mod BallAnswers
 pub mod BallAttained
 pub mod BallMoments
-pub mod BallLists
 pub mod Balls
 pub mod Saves
 pub mod Multiballs

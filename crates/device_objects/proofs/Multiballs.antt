@@ -1,23 +1,18 @@
 -- Multiballs are lawful.
-use Rattle.std.proofs.Common.{rules, ◌≡◌, ℕ, nat_lt, ◌<◌, ◌≤◌, Bool, true, false, not, ◌&&◌, List, [], ◌∷◌, refl, arith}
+use Rattle.std.proofs.Common.{rules, ◌≡◌, ℕ, ◌<◌, ◌≤◌, Bool, true, false, ◌&&◌, List, [], ◌∷◌, refl, arith}
 use Rattle.std.{specs.List.All, proofs.lemmas.List.Elements.{All-nil, All-cons, All-append}}
 use Rattle.plan_tables.specs.declared.devices.{Act.Act, Settings.TheVariants.Multiball}
 use Rattle.plan_tables.specs.Devices.{IsWithinLimits, list_count}
 use Rattle.plan_tables.specs.declared.devices.Act.TheVariants as acts
 use Rattle.machine_settings.specs.declared.settings.MultiballSettings.{MultiballSettings}
-use Rattle.device_objects.specs.{declared.state.{MultiballState.MultiballState, World.World}, Kinds.moments_of}
-use Rattle.device_objects.specs.Laws.{IsLawful}
+use Rattle.device_objects.specs.declared.state.{MultiballState.MultiballState, World.World}
+use Rattle.device_objects.specs.{Kinds.moments_of, Laws.IsLawful}
 use Rattle.device_objects.specs.Multiball.{act_step, ended, multiball, multiball_state, multiballs, of_multiball, started}
-use Rattle.device_objects.proofs.{Among.{In, here, there, either, one, two}, Calm.{IsActAnswer, calm-lawful}}
+use Rattle.device_objects.proofs.{Among.{In, here, there, one, two}, Calm.{IsActAnswer, calm-lawful}}
 use Rattle.device_objects.specs.declared.state.DeviceState.TheVariants as states
 
 act-in : (act : Act) (world : World) (s : MultiballState) → In (act_step act world s).1 (of_multiball act)
-act-in acts.Start world s =
-    either (not s.running && nat_lt 0 world.in_play) (record { running = true }, started ∷ []) (s, [])
-    (λ is. there here) (λ not. here)
-act-in acts.End world s =
-    either s.running (record { running = false }, ended ∷ []) (s, []) (λ is. there here) (λ not. here)
-act-in _ world s = here
+act-in act world s = search (rules, here, there)
 
 -- a ball is in play
 abbrev in_play : World
@@ -26,7 +21,7 @@ in_play = record { games = 0; player = 1; in_play = 1 }
 answered : (act : Act) (lists : List ℕ) (running : Bool) → (act_step act in_play (record { running = running })).1 ≡ lists
     → IsActAnswer multiball act lists
 answered act lists running answers =
-    record { now = 0; world = in_play; state = record { running = running }; shape = tt; answer = answers }
+    record { now = 0; world = in_play; state = record { running = running }; shape = tt; may_come = tt; answer = answers }
 
 come : (act : Act) → All (IsActAnswer multiball act) (of_multiball act)
 come acts.Start =
@@ -41,6 +36,6 @@ pub multiballs-lawful : (m : MultiballSettings)
     → IsLawful multiballs moments_of (IsWithinLimits (Multiball m)) (list_count (Multiball m))
 multiballs-lawful m =
     calm-lawful states.Multiball multiball_state multiball (IsWithinLimits (Multiball m)) 2 (λ s. refl) (λ state s is. search rules)
-    tt (λ s shape. tt) (λ s shape. tt) (λ act now world s shape. tt) (λ act now world s shape. act-in act world s)
+    (λ s. refl) tt (λ s shape. tt) (λ s shape. tt) (λ act now world s shape. tt) (λ act now world s shape. act-in act world s)
     (λ within. come) (λ act now world s. search rules) (λ act. search rules)
     (λ act. search (rules, All-nil, All-cons, All-append))

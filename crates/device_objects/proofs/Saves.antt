@@ -1,15 +1,14 @@
 -- Ball saves are lawful.
-use Rattle.std.proofs.Common.{rules, ◌≡◌, ℕ, ◌-◌, ◌==◌, ◌<◌, ◌≤◌, ◌⊎◌, nat_lt, true, false, None, Some, IfSome, List, [], ◌∷◌, ◌++◌, refl, arith}
-use Rattle.std.{specs.List.All, proofs.lemmas.{Option.none-some, Bool.{eqb-false, lt-ltb, ltb-true, false≢true}}}
-use Rattle.std.proofs.lemmas.List.Elements.{All-nil, All-append, All-cons}
+use Rattle.std.proofs.Common.{rules, ◌≡◌, ℕ, ◌-◌, ◌==◌, ◌<◌, ◌≤◌, ◌⊎◌, nat_lt, true, false, None, Some, List, [], ◌∷◌, ◌++◌, refl, arith}
+use Rattle.std.{specs.List.All, proofs.lemmas.Bool.{eqb-false, lt-ltb, ltb-true, false≢true}}
+use Rattle.std.proofs.lemmas.{Option.none-some, List.Elements.{All-nil, All-append, All-cons}}
 use Rattle.plan_tables.specs.declared.devices.{Act.Act, Settings.TheVariants.BallSave}
 use Rattle.plan_tables.specs.Devices.{IsWithinLimits, list_count}
 use Rattle.plan_tables.specs.declared.devices.Act.TheVariants as acts
-use Rattle.machine_settings.specs.{declared.settings.SaveSettings.SaveSettings, Limits.IsSaveWithin}
-use Rattle.device_objects.specs.declared.{device.Call.Call, state.{SaveState.SaveState, World.World}}
+use Rattle.machine_settings.specs.declared.settings.SaveSettings.{SaveSettings}
+use Rattle.device_objects.specs.declared.{device.Call.Call, state.SaveState.SaveState}
 use Rattle.device_objects.specs.BallSave.{HasSaveShape, act_step, ball_save, ball_saves, disabled, enabled, end_of, first_state, moments, of_save, of_save_act, save_state, save_step, saved, saving}
-use Rattle.device_objects.specs.{Kinds.moments_of, Outcomes.only_if}
-use Rattle.device_objects.specs.Laws.{MayComeAt, IsAnswerOf, IsDoneIn, FiresFirstPartOf, IsLawful}
+use Rattle.device_objects.specs.{Kinds.moments_of, Outcomes.only_if, Laws.{MayComeAt, IsAnswerOf, IsLawful}}
 use Rattle.device_objects.proofs.Among.{In, here, there, at_last, at_left, contains, if_holds, by, either, one, all_if, if_true, two}
 use Rattle.device_objects.proofs.InStates.{in_states-lawful}
 use Rattle.device_objects.specs.declared.device.Call.TheVariants as calls
@@ -27,22 +26,21 @@ opened b now = record { active = true; left = b.balls; due = end_of b now }
 abbrev with_fewer : SaveState → SaveState
 with_fewer s = record s { left = s.left - 1 }
 
--- ---- states keep their shape
+-- one that has balls left after it has saved one saves several
+saves_several : (left balls : ℕ) → left ≤ balls → (left - 1 == 0) ≡ false → nat_lt 1 balls ≡ true
+saves_several left balls low more = lt-ltb 1 balls (omega (arith, low, eqb-false (left - 1) 0 more))
 
 module _ (b : SaveSettings) where
+  -- ---- states keep their shape
+
   first_save-shape : HasSaveShape b first_state
   first_save-shape = record { left = omega arith; due = λ some. absurd (false≢true some) }
 
   save_step-shape : (call : Call) (now : ℕ) (s : SaveState) → HasSaveShape b s → HasSaveShape b (save_step b call now s).0
   save_step-shape call now s shape = search rules
 
--- ---- answers are outcomes
+  -- ---- answers are outcomes
 
--- one that has balls left after it has saved one saves several
-saves_several : (left balls : ℕ) → left ≤ balls → (left - 1 == 0) ≡ false → nat_lt 1 balls ≡ true
-saves_several left balls low more = lt-ltb 1 balls (omega (arith, low, eqb-false (left - 1) 0 more))
-
-module _ (b : SaveSettings) where
   saved-in : (s : SaveState) → HasSaveShape b s → In (saved (with_fewer s)).1 (of_save_act b acts.Save)
   saved-in s shape =
       either (s.left - 1 == 0) (shut (with_fewer s), saving ∷ disabled ∷ []) (with_fewer s, saving ∷ [])
@@ -67,9 +65,8 @@ module _ (b : SaveSettings) where
   save-in (calls.Act act) now s shape may = act-in act now s shape
   save-in _ now s shape may = here
 
--- ---- each outcome comes about
+  -- ---- each outcome comes about
 
-module _ (b : SaveSettings) where
   answered : (call : Call) (lists : List ℕ) (s : SaveState) → HasSaveShape b s → MayComeAt call (moments s)
       → (save_step b call 0 s).1 ≡ lists → IsAnswerOf (ball_save b) moments call lists
   answered call lists s shape may answers = search rules
@@ -83,7 +80,7 @@ module _ (b : SaveSettings) where
 
   quiet : (call : Call) → MayComeAt call (moments first_state) → (save_step b call 0 first_state).1 ≡ []
       → IsAnswerOf (ball_save b) moments call []
-  quiet call may answers = answered call [] first_state (first_save-shape b) may answers
+  quiet call may answers = answered call [] first_state first_save-shape may answers
 
   from_active : (act : Act) (lists : List ℕ) (left : ℕ) → left ≤ b.balls → (act_step b act 0 (active_with left)).1 ≡ lists
       → IsAnswerOf (ball_save b) moments (calls.Act act) lists
@@ -105,7 +102,7 @@ module _ (b : SaveSettings) where
   acts-come : (act : Act) → All (IsAnswerOf (ball_save b) moments (calls.Act act)) (of_save_act b act)
   acts-come acts.Enable =
       two (IsAnswerOf (ball_save b) moments (calls.Act acts.Enable)) [] (enabled ∷ []) (from_active acts.Enable [] 0 (omega arith) refl)
-      (answered (calls.Act acts.Enable) (enabled ∷ []) first_state (first_save-shape b) tt refl)
+      (answered (calls.Act acts.Enable) (enabled ∷ []) first_state first_save-shape tt refl)
   acts-come acts.Disable = search (rules, quiet, from_active)
   acts-come acts.Save = saves
   acts-come act = one (IsAnswerOf (ball_save b) moments (calls.Act act)) [] (quiet (calls.Act act) tt refl)
@@ -123,49 +120,25 @@ module _ (b : SaveSettings) where
   save-comes : (call : Call) → All (IsAnswerOf (ball_save b) moments call) (of_save b call)
   save-comes call = search (rules, quiet, ends, acts-come)
 
--- ---- lists
-
-abbrev AreLists : List ℕ → Type 0
-AreLists lists = All (λ k. k < 3) lists
-
-module _ (b : SaveSettings) where
-  save_step-lists : (call : Call) (now : ℕ) (s : SaveState) → AreLists (save_step b call now s).1
-  save_step-lists call now s = search rules
-
--- ---- moments
-
-module _ (b : SaveSettings) where
-  arms : IsSaveWithin b → (call : Call) (now : ℕ) (s : SaveState) (part due : ℕ)
-      → (moments (save_step b call now s).0).part part ≡ Some due → ((moments s).part part ≡ Some due) ⊎ (now < due)
-  arms limits call now s part due is = search (rules, none-some)
-
-  -- one that was disabled at its end is due no more
-  disabled-done : (now : ℕ) (s : SaveState) → HasSaveShape b s
-      → IfSome s.due (λ due. IsDoneIn now due (moments s) (moments (save_step b calls.Fire now s).0))
-  disabled-done now s shape = search rules
-
-  fires : (now : ℕ) (world : World) (s : SaveState) → IfSome s.due (FiresFirstPartOf (ball_save b) moments now world s)
-  fires now world s = search rules
-
   -- ---- the law
 
   pub ball_saves-lawful : IsLawful (ball_saves b) moments_of (IsWithinLimits (BallSave b)) (list_count (BallSave b))
   ball_saves-lawful =
       in_states-lawful states.BallSave save_state (ball_save b) moments (IsWithinLimits (BallSave b)) 3 (λ s. refl)
-      (λ state s is. search rules)
+      (λ state s is. search rules) (λ s. refl)
       (record {
-        first = first_save-shape b;
-        step = λ call now world s shape. save_step-shape b call now s shape;
-        answers = λ call now world s shape may. contains (save-in b call now s shape may);
-        comes = λ limits. save-comes b;
+        first = first_save-shape;
+        step = λ call now world s shape. save_step-shape call now s shape;
+        answers = λ call now world s shape may. contains (save-in call now s shape may);
+        comes = λ limits. save-comes;
         of_row = λ call. search rules;
-        answers_of_row = λ call now world s. save_step-lists b call now s;
+        answers_of_row = λ call now world s. search rules;
         short = λ call. search (rules, All-nil, All-cons, All-append);
         silent_stop = refl;
         quiet = refl;
         stopped = λ now world s shape. refl;
-        arms = λ limits call now world s. arms limits call now s;
-        fires = λ now world s shape. fires now world s;
-        done = λ limits now world s shape. disabled-done now s shape;
+        arms = λ limits call now world s part due is. search (rules, none-some);
+        fires = λ now world s shape. search rules;
+        done = λ limits now world s shape. search rules;
         few = λ s part shape past. search rules;
       })

@@ -1,10 +1,10 @@
 -- Kinds whose state is slots are lawful, where the steps of a slot are.
-use Rattle.std.proofs.Common.{rules, ◌≡◌, ℕ, ◌<◌, ◌≤◌, ◌⊎◌, inl, inr, Bool, true, false, Option, None, Some, List, [], ◌∷◌, length, replicate, slice_get, slice_set, if◌then◌else◌, get_or, refl, sym, ap, subst, ◌∙◌, arith}
-use Rattle.std.{specs.List.All, proofs.lemmas.{Option.{slice_get_within, slice_get-get_or}, Bool.eq-eqb}}
+use Rattle.std.proofs.Common.{rules, ◌≡◌, ℕ, ◌<◌, ◌≤◌, ◌⊎◌, inl, inr, Bool, true, Option, None, Some, List, [], ◌∷◌, length, replicate, slice_get, slice_set, if◌then◌else◌, refl, sym, ap, subst, ◌∙◌, arith}
+use Rattle.std.{specs.List.All, proofs.lemmas.{Option.{get_or_from_slice_get, slice_get_within}, Bool.eq-eqb}}
 use Rattle.std.proofs.lemmas.List.{length-set, Elements.{All-nil, All-replicate, All-set, All-weaker}}
 use Rattle.plan_tables.specs.declared.devices.Act.{Act}
-use Rattle.device_objects.specs.{declared.state.{DeviceState.DeviceState, World.World}, Kinds.moments_of}
-use Rattle.device_objects.specs.{KindModel.{in_states, never, never_due}, Laws.IsLawful}
+use Rattle.device_objects.specs.declared.state.{DeviceState.DeviceState, World.World}
+use Rattle.device_objects.specs.{Kinds.moments_of, KindModel.{in_states, never, never_due}, Laws.IsLawful}
 use Rattle.device_objects.specs.Slots.{SlotModel, current, first_slots, is_of_other_game, slot_in_use, step_at, step_in_use, of_slots}
 use Rattle.device_objects.proofs.{Among.{In, of_among}, Calm.{IsActAnswer, calm-lawful}}
 
@@ -21,16 +21,10 @@ Comes m act lists = IsSlotAnswer m act lists ⊎ ((m.persist ≡ true) × (lists
 
 -- ---- steps of slots
 
-abbrev value_or : {S : Type 0} → S → Option S → S
-value_or d None = d
-value_or d (Some x) = x
-
 pub All-at : {S : Type 0} (P : S → Type 0) (slots : List S) (i : ℕ) (s : S) → slice_get slots i ≡ Some s → All P slots
     → P s
 All-at P slots i s is all =
-    let within = slice_get_within slots i s is in
-    let same : get_or slots i s ≡ s = ap (value_or s) (sym (slice_get-get_or slots i s within) ∙ is) in
-    subst P same (all i s within)
+    subst P (get_or_from_slice_get slots i s s is) (all i s (slice_get_within slots i s is))
 
 -- what holds of every slot after a step, and held before, holds of all
 step_at-all : {S : Type 0} (P : S → Type 0) (step : S → S × List ℕ) → ((s : S) → P s → P (step s).0) → (i : ℕ)
@@ -84,16 +78,16 @@ same_game : {S : Type 0} (persist : Bool) (game : ℕ) (other slot : S)
     → (if is_of_other_game persist (in_game game) game then other else slot) ≡ slot
 same_game persist game other slot = search (rules, eq-eqb)
 
-one_of : {S : Type 0} (P : S → Type 0) (test : Bool) (x y : S) → P x → P y → P (if test then x else y)
-one_of P true x y first second = first
-one_of P false x y first second = second
+pub one_of : {S : Type 0} (P : S → Type 0) (test : Bool) (x y : S) → P x → P y → P (if test then x else y)
+one_of P test x y first second = search rules
 
 -- ---- the law
 
 -- a kind by its states, and what has to be proved of its slots: also that an act of nobody may answer nothing
 module _ {S : Type 0} (state_of : List S → DeviceState) (held : DeviceState → Option (List S)) (m : SlotModel S)
     (IsWithin : Type 0) (lists : ℕ) (back : (slots : List S) → held (state_of slots) ≡ Some slots)
-    (same : (state : DeviceState) (slots : List S) → held state ≡ Some slots → moments_of state ≡ never)
+    (same : (state : DeviceState) (slots : List S) → held state ≡ Some slots → state ≡ state_of slots)
+    (due : (slots : List S) → moments_of (state_of slots) ≡ never)
     (first : (game : ℕ) → m.IsShaped (m.first game))
     (step : (act : Act) (now : ℕ) (s : S) → m.IsShaped s → m.IsShaped (m.step act now s).0)
     (answer : (act : Act) (now : ℕ) (s : S) → In (m.step act now s).1 (m.answers act))
@@ -123,6 +117,7 @@ module _ {S : Type 0} (state_of : List S → DeviceState) (held : DeviceState �
         world = in_game game;
         state = replicate 4 a.slot;
         shape = (refl, All-replicate m.IsShaped 4 a.slot a.shape);
+        may_come = tt;
         answer = in_use (acted act a.now (in_game game)) a.slot m.persist game
             ∙ ap (λ slot. (m.step act a.now slot).1) (same_game m.persist game (m.first game) a.slot) ∙ a.answer;
       }
@@ -131,11 +126,12 @@ module _ {S : Type 0} (state_of : List S → DeviceState) (held : DeviceState �
     world = nobody;
     state = first_slots m;
     shape = firsts;
+    may_come = tt;
     answer = by_nobody (acted act 0 nobody) (first_slots m) m.persist found.0 ∙ sym found.1;
   }
 
   pub slotted-lawful : IsLawful (in_states state_of held (never_due (of_slots m))) moments_of IsWithin lists
-  slotted-lawful = calm-lawful state_of held (of_slots m) IsWithin lists back same firsts
+  slotted-lawful = calm-lawful state_of held (of_slots m) IsWithin lists back same due firsts
       (λ slots shape. one_of Shape m.persist slots (slice_set slots 0 (m.first 0)) shape
       (length-set slots 0 (m.first 0) ∙ shape.0, All-set m.IsShaped slots 0 (m.first 0) (first 0) shape.1))
       (λ slots shape. shape)

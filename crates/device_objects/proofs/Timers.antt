@@ -1,18 +1,17 @@
 -- Timers are lawful.
-use Rattle.std.proofs.Common.{rules, ◌≡◌, ◌⊎◌, ℕ, ◌<◌, ◌≤◌, Bool, true, false, ◌&&◌, None, Some, IfSome, List, [], ◌∷◌, if◌then◌else◌, is_some, refl, ap, ◌∙◌, ℤ, pos, ◌+ℤ◌, ◌-ℤ◌, arith}
-use Rattle.std.{specs.List.All, proofs.lemmas.{Bool.and_parts, List.Elements.{All-nil, All-cons, All-append}}}
-use Rattle.std.proofs.lemmas.Option.{none-some}
+use Rattle.std.proofs.Common.{rules, ◌≡◌, ◌⊎◌, ℕ, ◌<◌, ◌≤◌, true, ◌&&◌, None, Some, List, [], ◌∷◌, if◌then◌else◌, is_some, refl, ap, ◌∙◌, ℤ, pos, ◌+ℤ◌, ◌-ℤ◌, arith}
+use Rattle.std.specs.List.{All}
+use Rattle.std.proofs.lemmas.{Bool.and_parts, List.Elements.{All-nil, All-cons, All-append}, Option.none-some}
 use Rattle.plan_tables.specs.declared.devices.{Act.Act, Settings.TheVariants.Timer}
 use Rattle.plan_tables.specs.Devices.{IsWithinLimits, list_count}
 use Rattle.plan_tables.specs.declared.devices.Act.TheVariants as acts
-use Rattle.machine_settings.specs.declared.{settings.TimerSettings.TimerSettings, words.Direction.Direction}
-use Rattle.machine_settings.specs.{declared.words.Direction.TheVariants.{Up, Down}, Limits.IsEndWithin}
-use Rattle.machine_settings.specs.Ends.{is_at_end}
-use Rattle.device_objects.specs.declared.{device.Call.Call, state.{TimerState.TimerState, World.World}}
+use Rattle.machine_settings.specs.{declared.settings.TimerSettings.TimerSettings, Limits.IsEndWithin, Ends.is_at_end}
+use Rattle.machine_settings.specs.declared.words.Direction.{Direction, TheVariants.{Up, Down}}
+use Rattle.device_objects.specs.declared.{device.Call.Call, state.TimerState.TimerState}
 use Rattle.device_objects.specs.{Values.{clamped, moved}, Outcomes.only_if, Kinds.moments_of}
-use Rattle.device_objects.specs.Laws.{MayComeAt, IsAnswerOf, IsDoneIn, FiresFirstPartOf, IsLawful}
+use Rattle.device_objects.specs.Laws.{MayComeAt, IsAnswerOf, IsLawful}
 use Rattle.device_objects.specs.Timer.{act_step, changed, complete, completed, first_state, halt, is_running, moments, of_change, of_timer, of_timer_act, paused, run, started, stopped, tick, timer, timer_completing, timer_state, timer_step, timers}
-use Rattle.device_objects.proofs.Among.{In, here, there, contains, if_holds, by, either, halves, of_among, second, stops-in, one, two, all_if, if_true, if_false}
+use Rattle.device_objects.proofs.Among.{In, here, there, contains, if_holds, by, either, of_among, second, one, two, all_if, if_true, if_false}
 use Rattle.device_objects.proofs.{Calm.someone, Ends.{at_end-some, ends_at, goes_on_at}, InStates.in_states-lawful}
 use Rattle.device_objects.specs.declared.device.Call.TheVariants as calls
 use Rattle.device_objects.specs.declared.state.DeviceState.TheVariants as states
@@ -28,22 +27,16 @@ module _ (t : TimerSettings) where
       (λ is. there (if_holds (is_at_end t.direction t.end s.value) (and_parts (is_running s) _ is).1 (by (completed-is now s) here)))
       (λ not. here)
 
-  more-in : {x : List ℕ} (y : List ℕ) (test more : Bool) → (test ≡ true → more ≡ true) → In x ([] ∷ only_if test (y ∷ [])) → In x ([] ∷ only_if more (y ∷ []))
-  more-in y true more has (there at) = there (if_holds more (has refl) at)
-  more-in y false more has (there at) = elim at [ ]
-  more-in y _ more has here = here
-
-  starts-in : (running : Bool) (s run : TimerState) (list : ℕ) → In (if◌then◌else◌ {A = TimerState × List ℕ} running (s, []) (run, list ∷ [])).1 ([] ∷ (list ∷ []) ∷ [])
-  starts-in true s run list = here
-  starts-in false s run list = there here
-
   moves-in : (now : ℕ) (s : TimerState) → In (changed t now s).1 (of_change t)
-  moves-in now s = more-in (timer_completing t) (is_at_end t.direction t.end s.value) (is_some t.end) (at_end-some t.direction t.end s.value) (changed-in now s)
+  moves-in now s = either (is_running s && is_at_end t.direction t.end s.value) (completed t now s) (s, [])
+      (λ is. there (if_holds (is_some t.end) (at_end-some t.direction t.end s.value (and_parts (is_running s) _ is).1)
+      (by (completed-is now s) here)))
+      (λ not. here)
 
   act-in : (act : Act) (now : ℕ) (s : TimerState) → In (act_step t act now s).1 (of_timer_act t act)
-  act-in acts.Start now s = starts-in (is_running s) s (run t now s) started
-  act-in acts.Stop now s = stops-in (is_running s) s (halt s) stopped
-  act-in acts.Pause now s = stops-in (is_running s) s (halt s) paused
+  act-in acts.Start now s = either (is_running s) (s, []) (run t now s, started ∷ []) (λ is. here) (λ not. there here)
+  act-in acts.Stop now s = either (is_running s) (halt s, stopped ∷ []) (s, []) (λ is. there here) (λ not. here)
+  act-in acts.Pause now s = either (is_running s) (halt s, paused ∷ []) (s, []) (λ is. there here) (λ not. here)
   act-in (acts.Add n) now s = moves-in now (record s { value = clamped (s.value +ℤ n) })
   act-in (acts.Subtract n) now s = moves-in now (record s { value = clamped (s.value -ℤ n) })
   act-in (acts.Jump n) now s = changed-in now (record s { value = clamped n })
@@ -124,28 +117,14 @@ module _ (t : TimerSettings) where
   come limits calls.ModeStart =
       let anew : TimerState = record (at_rest (pos 0)) { value = t.start } in
       one (Answer calls.ModeStart) (if t.start_running then started ∷ [] else [])
-      (answered calls.ModeStart (if t.start_running then started ∷ [] else []) (at_rest (pos 0)) tt (halves t.start_running (run t 0 anew) anew (started ∷ []) []))
+      (answered calls.ModeStart (if t.start_running then started ∷ [] else []) (at_rest (pos 0)) tt (second t.start_running (run t 0 anew, started ∷ []) (anew, [])))
   come limits calls.ModeStop = one (Answer calls.ModeStop) [] (answered calls.ModeStop [] (at_rest (pos 0)) tt refl)
   come limits calls.Fire = ticks limits.1
   come limits (calls.Act act) = acts-come act limits.1
 
-  -- ---- lists and moments
-
-  arms : 1 ≤ t.interval → (call : Call) (now : ℕ) (s : TimerState) (part due : ℕ)
-      → (moments (timer_step t call now s).0).part part ≡ Some due → ((moments s).part part ≡ Some due) ⊎ (now < due)
-  arms some call now s part due is = search (rules, none-some)
-
-  -- a timer that has ticked is due later, if at all
-  ticked-done : 1 ≤ t.interval → (now : ℕ) (s : TimerState)
-      → IfSome s.due (λ due. IsDoneIn now due (moments s) (moments (timer_step t calls.Fire now s).0))
-  ticked-done some now s = search rules
-
-  fires : (now : ℕ) (world : World) (s : TimerState) → IfSome s.due (FiresFirstPartOf (timer t) moments now world s)
-  fires now world s = search rules
-
   pub timers-lawful : IsLawful (timers t) moments_of (IsWithinLimits (Timer t)) (list_count (Timer t))
   timers-lawful = in_states-lawful states.Timer timer_state (timer t) moments (IsWithinLimits (Timer t)) 5 (λ s. refl)
-      (λ state s is. search rules)
+      (λ state s is. search rules) (λ s. refl)
       (record {
         first = tt;
         step = λ call now world s shape. tt;
@@ -157,8 +136,8 @@ module _ (t : TimerSettings) where
         silent_stop = refl;
         quiet = refl;
         stopped = λ now world s shape. refl;
-        arms = λ limits call now world s. arms limits.0 call now s;
-        fires = λ now world s shape. fires now world s;
-        done = λ limits now world s shape. ticked-done limits.0 now s;
+        arms = λ limits call now world s part due is. let some : 1 ≤ t.interval = limits.0 in search (rules, none-some);
+        fires = λ now world s shape. search rules;
+        done = λ limits now world s shape. let some : 1 ≤ t.interval = limits.0 in search rules;
         few = λ s part shape past. search rules;
       })

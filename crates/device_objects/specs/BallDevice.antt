@@ -5,10 +5,10 @@ use Rattle.std.specs.List.{All, list_any}
 use Rattle.plan_tables.specs.{Due.sooner, declared.devices.{Act.Act, BallTarget.BallTarget, BallSettings.BallSettings}}
 use Rattle.plan_tables.specs.declared.devices.Act.TheVariants as acts
 use Rattle.plan_tables.specs.declared.devices.BallTarget.TheVariants as targets
-use Rattle.device_objects.specs.declared.{device.Call.Call, state.Eject.{Eject, TheVariants.{Idle, Pulsing, Away}}}
+use Rattle.device_objects.specs.declared.{device.Call.Call, state.{Attempt.Attempt, BallState.BallState}}
+use Rattle.device_objects.specs.declared.state.Eject.{Eject, TheVariants.{Idle, Pulsing, Away}}
 use Rattle.device_objects.specs.declared.device.Call.TheVariants as calls
-use Rattle.device_objects.specs.declared.state.{Attempt.Attempt, BallSwitch.BallSwitch, BallState.BallState}
-use Rattle.device_objects.specs.declared.state.DeviceState.{DeviceState}
+use Rattle.device_objects.specs.declared.state.{BallSwitch.BallSwitch, DeviceState.DeviceState}
 use Rattle.device_objects.specs.declared.state.DeviceState.TheVariants as states
 use Rattle.device_objects.specs.{KindModel.{Kind, Moments, in_states}, Outcomes.{only_if, silent}}
 

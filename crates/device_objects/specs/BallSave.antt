@@ -3,9 +3,8 @@ use Rattle.std.specs.Prelude.{◌≡◌, ℕ, ◌+◌, ◌-◌, ◌==◌, ◌<�
 use Rattle.plan_tables.specs.declared.devices.Act.{Act}
 use Rattle.plan_tables.specs.declared.devices.Act.TheVariants as acts
 use Rattle.machine_settings.specs.declared.settings.SaveSettings.{SaveSettings}
-use Rattle.device_objects.specs.declared.{device.Call.Call, state.SaveState.SaveState}
+use Rattle.device_objects.specs.declared.{device.Call.Call, state.{SaveState.SaveState, DeviceState.DeviceState}}
 use Rattle.device_objects.specs.declared.device.Call.TheVariants as calls
-use Rattle.device_objects.specs.declared.state.DeviceState.{DeviceState}
 use Rattle.device_objects.specs.declared.state.DeviceState.TheVariants as states
 use Rattle.device_objects.specs.{KindModel.{Kind, Moments, in_states, of_one_part}, Outcomes.{only_if, silent}}
 

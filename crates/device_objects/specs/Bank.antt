@@ -3,10 +3,10 @@ use Rattle.std.specs.Prelude.{◌≡◌, ℕ, ◌≤◌, suc, ◌+◌, ◌-◌, 
 use Rattle.std.specs.List.{All, list_all, flat_map, range_with_len}
 use Rattle.plan_tables.specs.{declared.devices.{Act.Act, BankSettings.BankSettings}, Devices.state_count}
 use Rattle.plan_tables.specs.declared.devices.Act.TheVariants as acts
-use Rattle.device_objects.specs.declared.state.BankSlot.{BankSlot}
-use Rattle.device_objects.specs.declared.state.DeviceState.{DeviceState}
+use Rattle.device_objects.specs.declared.state.{BankSlot.BankSlot, DeviceState.DeviceState}
 use Rattle.device_objects.specs.declared.state.DeviceState.TheVariants as states
-use Rattle.device_objects.specs.{Slots.{SlotModel, of_slots}, KindModel.{Kind, in_states, never_due}, Outcomes.{only_if, silent}}
+use Rattle.device_objects.specs.{Slots.{SlotModel, of_slots}, Outcomes.{only_if, silent}}
+use Rattle.device_objects.specs.KindModel.{Kind, in_states, never_due}
 
 -- The lists of a bank: for each shot one in each state, by the shot's number and then the state's; then those of the
 -- group when one of its shots is hit in a state; then those of the group when all its shots have come to a state.

@@ -3,10 +3,10 @@ use Rattle.std.specs.Prelude.{ℕ, ◌+◌, nat_lt, Bool, true, false, not, ◌&
 use Rattle.plan_tables.specs.declared.devices.Act.{Act}
 use Rattle.plan_tables.specs.declared.devices.Act.TheVariants as acts
 use Rattle.machine_settings.specs.{declared.settings.CounterSettings.CounterSettings, Ends.is_at_end}
-use Rattle.device_objects.specs.{declared.state.CounterSlot.CounterSlot, Values.moved}
-use Rattle.device_objects.specs.declared.state.DeviceState.{DeviceState}
+use Rattle.device_objects.specs.declared.state.{CounterSlot.CounterSlot, DeviceState.DeviceState}
+use Rattle.device_objects.specs.{Values.moved, Slots.{SlotModel, of_slots}, Outcomes.only_if}
 use Rattle.device_objects.specs.declared.state.DeviceState.TheVariants as states
-use Rattle.device_objects.specs.{Slots.{SlotModel, of_slots}, KindModel.{Kind, in_states, never_due}, Outcomes.only_if}
+use Rattle.device_objects.specs.KindModel.{Kind, in_states, never_due}
 use Rattle.device_objects.specs.Blocks.{updated, hit, complete, completing, going_on, of_block}
 
 -- a new slot, for this game

@@ -1,11 +1,10 @@
 -- The kinds of devices.
 use Rattle.plan_tables.specs.declared.devices.Settings.{Settings}
 use Rattle.plan_tables.specs.declared.devices.Settings.TheVariants as kinds
-use Rattle.device_objects.specs.declared.state.DeviceState.{DeviceState}
+use Rattle.device_objects.specs.{declared.state.DeviceState.DeviceState, Sequence.sequences, Autofire.autofires}
 use Rattle.device_objects.specs.declared.state.DeviceState.TheVariants as states
-use Rattle.device_objects.specs.{KindModel.{Kind, Moments, never}, Counter.counters, Accrual.accruals}
-use Rattle.device_objects.specs.{Sequence.sequences, Bank.banks, Flipper.flippers, Autofire.autofires}
-use Rattle.device_objects.specs.Multiball.{multiballs}
+use Rattle.device_objects.specs.{KindModel.{Kind, Moments, never}, Counter.counters, Flipper.flippers}
+use Rattle.device_objects.specs.{Accrual.accruals, Bank.banks, Multiball.multiballs}
 use Rattle.device_objects.specs.Timer as timer
 use Rattle.device_objects.specs.BallDevice as balls
 use Rattle.device_objects.specs.BallSave as save

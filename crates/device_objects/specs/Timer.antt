@@ -3,11 +3,11 @@ use Rattle.std.specs.Prelude.{ℕ, ◌+◌, pos, ◌+ℤ◌, ◌-ℤ◌, Bool, �
 use Rattle.plan_tables.specs.declared.devices.Act.{Act}
 use Rattle.plan_tables.specs.declared.devices.Act.TheVariants as acts
 use Rattle.machine_settings.specs.{declared.settings.TimerSettings.TimerSettings, Ends.is_at_end}
-use Rattle.device_objects.specs.{declared.{device.Call.Call, state.TimerState.TimerState}, Values.{clamped, moved}}
+use Rattle.device_objects.specs.declared.{device.Call.Call, state.{TimerState.TimerState, DeviceState.DeviceState}}
+use Rattle.device_objects.specs.{Values.{clamped, moved}, Outcomes.{only_if, silent}}
 use Rattle.device_objects.specs.declared.device.Call.TheVariants as calls
-use Rattle.device_objects.specs.declared.state.DeviceState.{DeviceState}
 use Rattle.device_objects.specs.declared.state.DeviceState.TheVariants as states
-use Rattle.device_objects.specs.{KindModel.{Kind, Moments, in_states, of_one_part}, Outcomes.{only_if, silent}}
+use Rattle.device_objects.specs.KindModel.{Kind, Moments, in_states, of_one_part}
 
 -- the lists of a timer
 abbrev pub started : ℕ

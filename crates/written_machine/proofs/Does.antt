@@ -10,7 +10,8 @@ use Rattle.plan_tables.{specs.declared.devices.{RowId.RowId, BallTarget.BallTarg
 use Rattle.plan_tables.specs.declared.entries.{Owner.Owner, CoilId.CoilId, VariableId.VariableId}
 use Rattle.plan_tables.specs.declared.entries.Owner.TheVariants as owners
 use Rattle.device_objects.specs.declared.{device.Call.Call, state.DeviceState.DeviceState}
-use Rattle.device_objects.{specs.{DeviceStep.{due_of, first_state}, Laws.HasShape}, proofs.Lawful.states_keep_their_shape}
+use Rattle.device_objects.specs.{DeviceStep.{due_of, first_state}, Laws.HasShape}
+use Rattle.device_objects.proofs.Lawful.{states_keep_their_shape}
 use Rattle.mode_stack.specs.{declared.phase.ModeState.ModeState, Modes.{needs_game, mode_state}}
 use Rattle.mode_stack.specs.ModeStep.{starts, started, stopped, stop_answer}
 use Rattle.player_game.{specs.GameStep.{GameState, held_if, released, more_balls}, proofs.StayFew.players_stay_few}

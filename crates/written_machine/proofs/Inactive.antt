@@ -6,7 +6,8 @@ use Rattle.plan_tables.specs.declared.devices.Act.TheVariants as acts
 use Rattle.device_objects.specs.declared.device.Call.TheVariants as calls
 use Rattle.device_objects.specs.declared.state.{DeviceState.DeviceState, World.World}
 use Rattle.device_objects.specs.declared.state.DeviceState.TheVariants as states
-use Rattle.device_objects.{specs.{DeviceStep.{device_step, IsInactive}, Laws.HasShape}, proofs.Inactive.stopped-inactive}
+use Rattle.device_objects.specs.{DeviceStep.{device_step, IsInactive}, Laws.HasShape}
+use Rattle.device_objects.proofs.Inactive.{stopped-inactive}
 use Rattle.written_machine.specs.Machine.{Machine, device_at, call_device, is_active_save}
 
 -- whether it is an active ball save, or a running multiball
