@@ -3,7 +3,7 @@ use Rattle.std.proofs.Common.{◌≡◌, ℕ, ◌<◌, List, [], ◌∷◌, leng
 use Rattle.std.{specs.List.All, proofs.lemmas.List.{length-map, get_or-map, Elements.All-get_or}}
 use Rattle.plan_tables.specs.{PlanView.{PlanView, row_at}, Devices.list_count}
 use Rattle.plan_tables.specs.declared.devices.{RowId.RowId, Telling.Telling, DeviceRow.DeviceRow}
-use Rattle.device_objects.{specs.{declared.device.Call.Call, Outcomes.outcomes}, proofs.Lists.outcomes_of_row}
+use Rattle.device_objects.{specs.{declared.device.Call.Call, DeviceStep.outcomes}, proofs.Lawful.outcomes_of_row}
 use Rattle.cascade_rank.specs.Cost.{Cost, Greater, dearest_of, cost_of_answer_by}
 
 dearest_of-map : {X Y : Type 0} (f : Y → Cost) (g : X → Y) (xs : List X) → dearest_of (λ x. f (g x)) xs ≡ dearest_of f (map g xs)

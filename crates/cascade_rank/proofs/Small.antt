@@ -1,55 +1,26 @@
 -- No event of a valid plan costs 2^73 or more, if each weighs less than 2^32.
-use Rattle.std.proofs.Common.{rules, ℕ, ◌+◌, ◌*◌, ◌^◌, ◌<◌, ◌≤◌, nat_lt, ◌==◌, Bool, true, false, if◌then◌else◌, List, [], ◌∷◌, length, get_or, Option, Some, None, arith}
-use Rattle.std.specs.{Prelude.IfSome, List.{All, filter, list_any, range_with_len}}
-use Rattle.std.proofs.lemmas.List.Elements.{All-nil, All-cons, All-head, All-tail, All-weaker, All-append}
-use Rattle.std.proofs.{Math.Nat.mul-le-mul_right, lemmas.List.{FromFn.length-map-range_with_len, Sums.sum_by-le}}
-use Rattle.yaml_bytes.proofs.Each.{All-flat_map}
+use Rattle.std.proofs.Common.{rules, ℕ, ◌+◌, ◌*◌, ◌^◌, ◌<◌, ◌≤◌, ◌==◌, Bool, true, false, List, [], ◌∷◌, length, get_or, Option, Some, None, arith}
+use Rattle.std.specs.{Prelude.IfSome, List.{All, filter, list_any}}
+use Rattle.std.proofs.{lemmas.List.Elements.{All-head, All-tail, All-weaker}, Math.Nat.mul-le-mul_right}
+use Rattle.std.proofs.lemmas.List.{FromFn.length-map-range_with_len, Sums.sum_by-le}
 use Rattle.plan_tables.specs.PlanView.{PlanView, act_told, actions_at, actions_of, bound_to, coil_numbers, feeders_of, first_trough, game_event, is_enable_of, is_multiball, is_owner, list_of_row, mode_event, multiball_rows, row_at, row_numbers, rows_of, save_rows, work_of}
 use Rattle.plan_tables.specs.declared.entries.Action.{Action, TheVariants.{Post, Change, Enter, Request, AddBalls}}
 use Rattle.plan_tables.specs.declared.entries.{Binding.Binding, CoilId.CoilId, ListId.ListId, Work.Work}
-use Rattle.plan_tables.specs.declared.entries.{EventId.EventId, GameRules.GameRules}
+use Rattle.plan_tables.specs.{declared.entries.{EventId.EventId, GameRules.GameRules}, Valid.{IsValid, IsGameWithin}}
 use Rattle.plan_tables.specs.declared.entries.GameEvent.{GameEvent, TheVariants.BallDrain}
 use Rattle.plan_tables.specs.declared.entries.ModeEvent.TheVariants.{WillStart, Started, Stopping}
 use Rattle.plan_tables.specs.declared.entries.Target.{Target, TheVariants.{Run, Start, Stop, Act}}
 use Rattle.plan_tables.specs.declared.entries.Work.TheVariants as works
 use Rattle.plan_tables.specs.declared.entries.Owner.TheVariants as owners
-use Rattle.plan_tables.specs.{Valid.{IsValid, IsGameWithin}, Devices.state_count}
-use Rattle.plan_tables.specs.declared.devices.Act.{Act as DeviceAct, TheVariants.{Save, End}}
-use Rattle.plan_tables.specs.declared.devices.{BankSettings.BankSettings, RowId.RowId, Settings.Settings}
-use Rattle.plan_tables.specs.declared.devices.Act.TheVariants as acts
+use Rattle.plan_tables.specs.declared.devices.{Act.TheVariants.{Save, End}, RowId.RowId}
 use Rattle.plan_tables.specs.declared.devices.BallTarget.{BallTarget, TheVariants.Device}
 use Rattle.plan_tables.specs.declared.devices.Telling.{Telling, TheVariants.{Arrived, Wanted}}
-use Rattle.plan_tables.specs.declared.devices.Settings.TheVariants as kinds
 use Rattle.player_game.specs.{Players.most_players, Choices.{asks_for_ball, choices, is_drain, tells_scores}}
-use Rattle.device_objects.specs.{declared.device.Call.Call, Outcomes.{of_bank, of_hit, of_hit_in, only_if, outcomes}}
+use Rattle.device_objects.{specs.{declared.device.Call.Call, DeviceStep.outcomes}, proofs.Lawful.kinds_are_lawful}
 use Rattle.device_objects.specs.declared.device.Call.TheVariants as calls
 use Rattle.cascade_rank.specs.Cost.{Cost, Lines, Greater, price, each_of, dearest_of, cost_of_action_by, cost_of_answer_by, cost_of_arrival, cost_of_binding, cost_of_call, cost_of_call_by, cost_of_choice, cost_of_drain, cost_of_drained_ball, cost_of_event, cost_of_game, cost_of_list_by, cost_of_nobody, cost_of_post, cost_of_releases, cost_of_request, cost_of_scores, cost_of_starts, cost_of_stops, cost_of_target, cost_of_telling, cost_of_told, cost_of_trough, cost_of_work, cost_if_led, led_by}
 use Rattle.cascade_rank.proofs.{Games.choices-few, Prices.price-each_sum, Rows.{length-rows, passing-few}}
 use Rattle.cascade_rank.proofs.Limits.{actions-few, bindings-few, coils-few, rows-few}
-
--- ---- a device answers at most four lists at once
-
-abbrev AreFew : List ℕ → Type 0
-AreFew lists = length lists ≤ 4
-
-hit_in-few : (b : BankSettings) (i s : ℕ) → All AreFew (of_hit_in b i s)
-hit_in-few b i s = search (rules, All-nil, All-cons, All-append)
-
-few_if : (holds : Bool) (answers : List (List ℕ)) → All AreFew answers → All AreFew (only_if holds answers)
-few_if holds answers few = search (rules, All-nil)
-
-bank_act-few : (b : BankSettings) (act : DeviceAct) → All AreFew (of_bank b act)
-bank_act-few b (acts.Hit i) =
-    All-cons AreFew [] (only_if (nat_lt i b.shots) (of_hit b i)) (omega arith)
-    (few_if (nat_lt i b.shots) (of_hit b i) (All-flat_map AreFew (of_hit_in b i) (range_with_len 0 (state_count b)) (λ k s h. hit_in-few b i _)))
-bank_act-few b _ = search (rules, All-nil, All-cons)
-
-bank-few : (b : BankSettings) (call : Call) → All AreFew (outcomes (kinds.Bank b) call)
-bank-few b call = search (rules, All-nil, All-cons, bank_act-few)
-
-outcomes-few : (settings : Settings) (call : Call) → All AreFew (outcomes settings call)
-outcomes-few (kinds.Bank b) call = bank-few b call
-outcomes-few _ call = search (rules, All-nil, All-cons, All-append)
 
 -- ---- prices
 
@@ -88,7 +59,7 @@ module _ (w : EventId → ℕ) (light : (e : EventId) → w e < 2 ^ 32) where
       call-small : (r : RowId) (call : Call) → price w (cost_of_call_by plan tell r call) ≤ 4096 * (2 ^ 33 + most)
       call-small r call =
           let dearest = dearest-small (cost_of_answer_by plan tell r) (4096 * (2 ^ 33 + most)) (outcomes (row_at plan r).settings call)
-          (All-weaker AreFew (λ lists. price w (cost_of_answer_by plan tell r lists) ≤ 4096 * (2 ^ 33 + most)) (λ lists few. answer-small r lists few) (outcomes (row_at plan r).settings call) (outcomes-few (row_at plan r).settings call)) in
+          (All-weaker (λ lists. length lists ≤ 4) (λ lists. price w (cost_of_answer_by plan tell r lists) ≤ 4096 * (2 ^ 33 + most)) (λ lists few. answer-small r lists few) (outcomes (row_at plan r).settings call) ((kinds_are_lawful (row_at plan r).settings).short call)) in
           omega (arith, dearest)
 
     told-small : (telling : Telling) (r : RowId) → price w (cost_of_told plan telling r) ≤ 2 ^ 45

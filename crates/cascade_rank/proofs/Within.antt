@@ -16,7 +16,7 @@ use Rattle.plan_tables.specs.declared.entries.Target.{Target, TheVariants.{Run, 
 use Rattle.plan_tables.specs.declared.entries.Owner.TheVariants as owners
 use Rattle.plan_tables.specs.declared.devices.{Act.TheVariants.{Save, End}, BallTarget.BallTarget, RowId.RowId}
 use Rattle.plan_tables.specs.declared.devices.Telling.{Telling, TheVariants.{Arrived, Wanted}}
-use Rattle.device_objects.{specs.{declared.device.Call.Call, Outcomes.outcomes}, proofs.Lists.outcomes_of_row}
+use Rattle.device_objects.{specs.{declared.device.Call.Call, DeviceStep.outcomes}, proofs.Lawful.outcomes_of_row}
 use Rattle.device_objects.specs.declared.device.Call.TheVariants as calls
 use Rattle.cascade_rank.specs.Cost.{Cost, Lines, Step, Weight, Both, Greater, mentions, each_of, dearest_of, cost_of_post, cost_of_action_by, cost_of_list_by, cost_of_answer_by, cost_of_call_by, cost_of_nobody, cost_of_told, cost_of_arrival, cost_of_trough, cost_of_telling, cost_of_call, cost_of_target, cost_of_binding, led_by, cost_if_led, cost_of_devices, cost_of_starts, cost_of_stops, cost_of_releases, cost_of_choice, cost_of_request, cost_of_drained_ball, cost_of_game, cost_of_work, cost_of_event}
 use Rattle.cascade_rank.specs.{Below.IsBelow, Mentions.weights_in, Tellings.IsTellingWithin}

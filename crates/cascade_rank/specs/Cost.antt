@@ -15,7 +15,7 @@ use Rattle.plan_tables.specs.declared.devices.Telling.{Telling, TheVariants.{Arr
 use Rattle.plan_tables.specs.declared.devices.BallTarget.{BallTarget, TheVariants.{Playfield, Device}}
 use Rattle.player_game.specs.{Players.most_players, Choices.{asks_for_ball, choices, is_drain, tells_scores}}
 use Rattle.plan_tables.specs.declared.entries.Owner.TheVariants as owners
-use Rattle.device_objects.specs.{declared.device.Call.Call, Outcomes.outcomes}
+use Rattle.device_objects.specs.{declared.device.Call.Call, DeviceStep.outcomes}
 use Rattle.device_objects.specs.declared.device.Call.TheVariants as calls
 
 pub data Cost : Type 0 where

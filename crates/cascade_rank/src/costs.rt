@@ -18,7 +18,7 @@ ghost use Rattle.plan_tables.specs.Devices.{list_count};
 ghost use Rattle.plan_tables.specs.PlanView.{bound_to, first_trough, multiball_rows, row_at, rows_of, save_rows, work_of};
 ghost use Rattle.plan_tables.specs.declared.devices.Act.TheVariants.{Save, End};
 ghost use Rattle.device_objects.specs.declared.device.Call.TheVariants as calls;
-ghost use Rattle.device_objects.specs.Outcomes.{outcomes as outcomes_of};
+ghost use Rattle.device_objects.specs.DeviceStep.{outcomes as outcomes_of};
 ghost use Rattle.player_game.specs.Choices.{choices};
 ghost use Rattle.cascade_rank.specs.Cost.{each_of, dearest_of, cost_of_drain, cost_of_action_by, cost_of_list_by, cost_of_answer_by, cost_of_call_by, cost_of_told, cost_of_arrival, cost_of_trough, cost_of_telling, cost_of_call, cost_of_target, cost_of_binding, cost_of_devices, cost_of_starts, cost_of_stops, cost_of_releases, cost_if_led, led_by, cost_of_choice, cost_of_scores, cost_of_request, cost_of_drained_ball, cost_of_game, cost_of_work, cost_of_event};
 ghost use Rattle.cascade_rank.specs.Tellings.{IsTellingWithin};

@@ -1,8 +1,8 @@
 -- Lists of answers: what is among them, and what holds of each.
-use Rattle.std.proofs.Common.{rules, ◌≡◌, ℕ, zero, suc, ◌+◌, ◌<◌, ◌≤◌, Bool, true, false, List, [], ◌∷◌, ◌++◌, if◌then◌else◌, refl, sym, subst, inl, inr, zero-le, suc-le-suc, arith}
+use Rattle.std.proofs.Common.{rules, ◌≡◌, ℕ, zero, suc, ◌+◌, ◌<◌, ◌≤◌, Bool, true, false, List, [], ◌∷◌, ◌++◌, ◌==◌, ◌&&◌, if◌then◌else◌, refl, sym, subst, inl, inr, zero-le, suc-le-suc, arith}
 use Rattle.std.specs.List.{All, Contains, flat_map, range_with_len}
-use Rattle.std.proofs.lemmas.{Bool.cases_eq, List.Elements.{All-cons, All-nil}}
-use Rattle.device_objects.specs.Outcomes.{only_if}
+use Rattle.std.proofs.lemmas.{Bool.{and_parts, cases_eq}, List.Elements.{All-cons, All-contains, All-nil}}
+use Rattle.device_objects.specs.Outcomes.{only_if, of_switch}
 
 -- ---- what is among them
 
@@ -69,6 +69,10 @@ pub by_test : (P : List ℕ → Type 0) (test : Bool) (xs ys : List (List ℕ)) 
     → All P (if test then xs else ys)
 by_test P test xs ys first second = search rules
 
+-- what holds of each holds of one that is among them
+pub of_among : {X : Type 0} (P : X → Type 0) {x : X} {xs : List X} → All P xs → In x xs → P x
+of_among P {x = x} {xs = xs} all at = All-contains P xs x all (contains at)
+
 -- ---- an answer that is one of two
 
 pub if_true : {S : Type 0} (test : Bool) (x y : S × List ℕ) → test ≡ true → (if test then x else y).1 ≡ x.1
@@ -76,3 +80,20 @@ if_true test x y is = search rules
 
 pub if_false : {S : Type 0} (test : Bool) (x y : S × List ℕ) → test ≡ false → (if test then x else y).1 ≡ y.1
 if_false test x y is = search rules
+
+pub second : {S : Type 0} (test : Bool) (x y : S × List ℕ) → (if test then x else y).1 ≡ (if test then x.1 else y.1)
+second test x y = search rules
+
+-- ---- the only switch of a device changes
+
+pub switch-in : {S : Type 0} (ready : Bool) (i list : ℕ) (new old : S)
+    → In (if◌then◌else◌ {A = S × List ℕ} (ready && (i == 0)) (new, list ∷ []) (old, [])).1 (of_switch i list)
+switch-in ready i list new old =
+    either (ready && (i == 0)) (new, list ∷ []) (old, [])
+    (λ is. there (if_holds (i == 0) (and_parts ready (i == 0) is).1 here)) (λ not. here)
+
+pub switch_comes : (P : List ℕ → Type 0) (i list : ℕ) → P [] → ((i == 0) ≡ true → P (list ∷ []))
+    → All P (of_switch i list)
+switch_comes P i list quiet told =
+    All-cons P [] (only_if (i == 0) ((list ∷ []) ∷ [])) quiet
+    (all_if P (i == 0) ((list ∷ []) ∷ []) (λ is. one P (list ∷ []) (told is)))

@@ -4,14 +4,12 @@ use Rattle.std.{specs.List.{All, list_any}, proofs.lemmas.Bool.{and_from, lt-ltb
 use Rattle.std.proofs.lemmas.List.{append-nil, Elements.All-weaker, Folds.list_any_none}
 use Rattle.plan_tables.specs.declared.devices.{Act.Act, BallSettings.BallSettings}
 use Rattle.plan_tables.specs.declared.devices.Act.TheVariants as acts
-use Rattle.plan_tables.specs.declared.devices.Settings.TheVariants as kinds
 use Rattle.device_objects.specs.declared.{device.Call.Call, state.{BallSwitch.BallSwitch, BallState.BallState}}
 use Rattle.device_objects.specs.declared.device.Call.TheVariants as calls
 use Rattle.device_objects.specs.declared.state.Eject.{Eject, TheVariants.{Idle, Pulsing, Away}}
-use Rattle.device_objects.specs.declared.state.DeviceState.TheVariants as states
 use Rattle.device_objects.specs.BallDevice.{empty, switch_at, set_switch, first_due, timeout_of, earlier, is_timeout_first, entered, attempted, left, lost, attempt, can_begin, begin, after, ended, overdue, confirmed, time_out, confirm, turned, gone, count, count_due, fire, requested, act_step, ball_step}
-use Rattle.device_objects.specs.Laws.{IsEjectOf, HasBallShape, MayCome}
-use Rattle.device_objects.specs.Outcomes.{only_if, may_begin, may_eject, ending, of_count, of_attempt, of_ball_fire, of_ball_act, outcomes}
+use Rattle.device_objects.specs.BallDevice.{IsEjectOf, HasBallShape, may_begin, may_eject, ending, moments, of_count, of_attempt, of_ball_fire, of_ball_act, of_ball_device}
+use Rattle.device_objects.specs.{Laws.MayComeAt, Outcomes.only_if}
 use Rattle.device_objects.proofs.Among.{In, here, there, at_last, at_left, at_right, if_holds, by, either}
 use Rattle.device_objects.proofs.BallShapes.{can_begin-parts, ended-shape, first_due-within, with_switch}
 
@@ -86,7 +84,7 @@ module _ (d : BallSettings) where
       (at_left (only_if d.has_coil (of_attempt d))
       (if_holds (nat_lt 0 d.switches) (lt-ltb 0 d.switches (omega (arith, within))) (count-in now a.1 s within shape)))
 
-  fire-in : (now : ℕ) (s : BallState) → HasBallShape d s → MayCome calls.Fire (states.BallDevice s)
+  fire-in : (now : ℕ) (s : BallState) → HasBallShape d s → MayComeAt calls.Fire (moments s)
       → In (fire d now s).1 (of_ball_fire d)
   fire-in now s shape may = search (rules, time_out-in, timeout-some, ended-shape, count_due-in, first-some)
 
@@ -121,8 +119,8 @@ module _ (d : BallSettings) where
   act-in (acts.Request n) now s shape = requested-in n now s shape
   act-in _ now s shape = here
 
-  pub ball-in : (call : Call) (now : ℕ) (s : BallState) → HasBallShape d s → MayCome call (states.BallDevice s)
-      → In (ball_step d call now s).1 (outcomes (kinds.BallDevice d) call)
+  pub ball-in : (call : Call) (now : ℕ) (s : BallState) → HasBallShape d s → MayComeAt call (moments s)
+      → In (ball_step d call now s).1 (of_ball_device d call)
   ball-in calls.Fire now s shape may = fire-in now s shape may
   ball-in (calls.Act act) now s shape may = act-in act now s shape
   ball-in _ now s shape may = here

@@ -3,16 +3,14 @@ use Rattle.std.proofs.Common.{rules, ◌≡◌, ℕ, zero, suc, ◌+◌, ◌<◌
 use Rattle.std.specs.List.{All}
 use Rattle.std.proofs.lemmas.Bool.{and_from, and_left, and_parts, cases_Bool, lt-ltb, ltb-true, or_cases, or_right}
 use Rattle.std.proofs.lemmas.List.{append-nil, Elements.{All-append, All-cons, All-drop, All-replicate}}
-use Rattle.plan_tables.specs.{declared.devices.{Act.Act, BallSettings.BallSettings}, Devices.IsWithinLimits}
+use Rattle.plan_tables.specs.{declared.devices.{Act.Act, BallSettings.BallSettings}, Devices.IsBallDeviceWithin}
 use Rattle.plan_tables.specs.declared.devices.Act.TheVariants as acts
-use Rattle.plan_tables.specs.declared.devices.Settings.TheVariants as kinds
 use Rattle.device_objects.specs.declared.{device.Call.Call, state.Eject.{Eject, TheVariants.{Idle, Pulsing, Away}}}
 use Rattle.device_objects.specs.declared.device.Call.TheVariants as calls
 use Rattle.device_objects.specs.declared.state.{Attempt.Attempt, BallSwitch.BallSwitch, BallState.BallState}
-use Rattle.device_objects.specs.declared.state.DeviceState.TheVariants as states
 use Rattle.device_objects.specs.BallDevice.{empty, first_state, set_switch, turned, entered, attempted, left, lost, failed, attempt, can_begin, begin, after, ended, may_try_again, next_number, greatest_attempt, ball_step}
-use Rattle.device_objects.specs.Laws.{IsEjectOf, HasBallShape, IsAnswer, MayCome}
-use Rattle.device_objects.specs.Outcomes.{only_if, may_begin, may_eject, ending, of_count, of_attempt, of_ball_fire, of_ball_act, of_ball_device}
+use Rattle.device_objects.specs.BallDevice.{IsEjectOf, HasBallShape, ball_device, may_begin, may_eject, ending, moments, of_count, of_attempt, of_ball_fire, of_ball_act, of_ball_device}
+use Rattle.device_objects.specs.{Laws.{MayComeAt, IsAnswerOf}, Outcomes.only_if}
 use Rattle.device_objects.proofs.{Among.{one, all_if, if_true, if_false}, BallShapes.{first_attempt, first_ball-shape}}
 
 -- ---- states
@@ -44,9 +42,9 @@ last_attempt : (most : Option ℕ) → is_some most ≡ true
     → (n : ℕ) × (1 ≤ n) × (n ≤ max 1 (unwrap_or most greatest_attempt)) × (may_try_again most n ≡ false)
 last_attempt most some = search rules
 
-module _ (d : BallSettings) (limits : IsWithinLimits (kinds.BallDevice d)) where
-  answered : (call : Call) (lists : List ℕ) (s : BallState) → HasBallShape d s → MayCome call (states.BallDevice s)
-      → (ball_step d call 0 s).1 ≡ lists → IsAnswer (kinds.BallDevice d) call lists
+module _ (d : BallSettings) (limits : IsBallDeviceWithin d) where
+  answered : (call : Call) (lists : List ℕ) (s : BallState) → HasBallShape d s → MayComeAt call (moments s)
+      → (ball_step d call 0 s).1 ≡ lists → IsAnswerOf (ball_device d) moments call lists
   answered call lists s shape may answers = search rules
 
   shape_with : (b : BallSwitch) (eject : Eject) (wanted : ℕ) → 0 < d.switches → IsEjectOf d eject → wanted ≤ 255
@@ -75,13 +73,13 @@ module _ (d : BallSettings) (limits : IsWithinLimits (kinds.BallDevice d)) where
   gone_off b wanted = state_with b (Away (over 1)) wanted
 
   ending-comes : (call : Call) (lists : List ℕ) → may_eject d ≡ true
-      → MayCome call (states.BallDevice (gone_off empty 0))
-      → MayCome call (states.BallDevice (gone_off full 2))
+      → MayComeAt call (moments (gone_off empty 0))
+      → MayComeAt call (moments (gone_off full 2))
       → (ball_step d call 0 (gone_off empty 0)).1 ≡ lists ++ []
       → (ball_step d call 0 (gone_off full 2)).1 ≡ lists ++ (begin d 0 (ended (gone_off full 2))).1
-      → All (IsAnswer (kinds.BallDevice d) call) (ending d lists)
+      → All (IsAnswerOf (ball_device d) moments call) (ending d lists)
   ending-comes call lists may bare_may full_may bare_is full_is =
-      let Answer : List ℕ → Type 0 = IsAnswer (kinds.BallDevice d) call in
+      let Answer : List ℕ → Type 0 = IsAnswerOf (ball_device d) moments call in
       let t : BallState = ended (gone_off full 2) in
       All-cons Answer lists (only_if (may_begin d) ((lists ++ attempted ∷ []) ∷ []))
       (answered call lists (gone_off empty 0) (bare-shape (Away (over 1)) (may, first_attempt d)) bare_may
@@ -96,7 +94,7 @@ module _ (d : BallSettings) (limits : IsWithinLimits (kinds.BallDevice d)) where
 
   -- ---- a ball switch counts
 
-  entered-comes : 0 < d.switches → IsAnswer (kinds.BallDevice d) calls.Fire (entered ∷ [])
+  entered-comes : 0 < d.switches → IsAnswerOf (ball_device d) moments calls.Fire (entered ∷ [])
   entered-comes some =
       elim (cases_Bool d.has_coil) [
         | inl coil ↦
@@ -109,7 +107,7 @@ module _ (d : BallSettings) (limits : IsWithinLimits (kinds.BallDevice d)) where
             (did_not (set_switch 0 (turned filling) s) (and_left d.has_coil (not d.trough || false) none)))
       ]
 
-  left-comes : 0 < d.switches → may_eject d ≡ true → IsAnswer (kinds.BallDevice d) calls.Fire (left ∷ [])
+  left-comes : 0 < d.switches → may_eject d ≡ true → IsAnswerOf (ball_device d) moments calls.Fire (left ∷ [])
   left-comes some may =
       elim (or_cases d.has_coil d.ejects.mechanical may) [
         | inl coil ↦
@@ -123,7 +121,7 @@ module _ (d : BallSettings) (limits : IsWithinLimits (kinds.BallDevice d)) where
             (if_true d.ejects.mechanical (record t { eject = Away first }, left ∷ []) (t, lost ∷ []) hand)
       ]
 
-  lost-comes : 0 < d.switches → IsAnswer (kinds.BallDevice d) calls.Fire (lost ∷ [])
+  lost-comes : 0 < d.switches → IsAnswerOf (ball_device d) moments calls.Fire (lost ∷ [])
   lost-comes some =
       elim (cases_Bool d.ejects.mechanical) [
         | inl hand ↦
@@ -138,9 +136,9 @@ module _ (d : BallSettings) (limits : IsWithinLimits (kinds.BallDevice d)) where
             (if_false d.ejects.mechanical (record t { eject = Away first }, left ∷ []) (t, lost ∷ []) none)
       ]
 
-  count-comes : 0 < d.switches → All (IsAnswer (kinds.BallDevice d) calls.Fire) (of_count d)
+  count-comes : 0 < d.switches → All (IsAnswerOf (ball_device d) moments calls.Fire) (of_count d)
   count-comes some =
-      let Answer : List ℕ → Type 0 = IsAnswer (kinds.BallDevice d) calls.Fire in
+      let Answer : List ℕ → Type 0 = IsAnswerOf (ball_device d) moments calls.Fire in
       let begins : List (List ℕ) = only_if (may_begin d) ((entered ∷ attempted ∷ []) ∷ []) in
       let leaves : List (List ℕ) = only_if (may_eject d) ((left ∷ []) ∷ []) in
       let s : BallState = state_with filling Idle 1 in
@@ -158,9 +156,9 @@ module _ (d : BallSettings) (limits : IsWithinLimits (kinds.BallDevice d)) where
 
   -- ---- an attempt is over
 
-  attempt-comes : d.has_coil ≡ true → All (IsAnswer (kinds.BallDevice d) calls.Fire) (of_attempt d)
+  attempt-comes : d.has_coil ≡ true → All (IsAnswerOf (ball_device d) moments calls.Fire) (of_attempt d)
   attempt-comes coil =
-      let Answer : List ℕ → Type 0 = IsAnswer (kinds.BallDevice d) calls.Fire in
+      let Answer : List ℕ → Type 0 = IsAnswerOf (ball_device d) moments calls.Fire in
       All-append Answer (only_if (may_try_again d.ejects.max_attempts 1) ((failed ∷ attempted ∷ []) ∷ []))
       (only_if (is_some d.ejects.max_attempts) ((failed ∷ []) ∷ []))
       (all_if Answer (may_try_again d.ejects.max_attempts 1) ((failed ∷ attempted ∷ []) ∷ [])
@@ -175,29 +173,29 @@ module _ (d : BallSettings) (limits : IsWithinLimits (kinds.BallDevice d)) where
     where
       gives_up : (n : ℕ) × (1 ≤ n) × (n ≤ max 1 (unwrap_or d.ejects.max_attempts greatest_attempt))
           × (may_try_again d.ejects.max_attempts n ≡ false)
-          → IsAnswer (kinds.BallDevice d) calls.Fire (failed ∷ [])
+          → IsAnswerOf (ball_device d) moments calls.Fire (failed ∷ [])
       gives_up last =
           let s : BallState = bare (Pulsing (over last.0)) in
           answered calls.Fire (failed ∷ []) s (bare-shape (Pulsing (over last.0)) (coil, (last.1, last.2))) refl
           (if_false (may_try_again d.ejects.max_attempts last.0) (after (failed ∷ []) (attempt d (next_number d.ejects.max_attempts last.0) 0 s))
           (record s { eject = Idle; wanted = 0 }, failed ∷ []) last.3)
 
-  fire-comes : All (IsAnswer (kinds.BallDevice d) calls.Fire) (of_ball_fire d)
+  fire-comes : All (IsAnswerOf (ball_device d) moments calls.Fire) (of_ball_fire d)
   fire-comes = search (rules, nat_lt, All-append, all_if, count-comes, ltb-true, attempt-comes, ending-comes)
 
   -- ---- acts
 
-  quiet : (call : Call) → MayCome call (states.BallDevice first_state) → (ball_step d call 0 first_state).1 ≡ []
-      → IsAnswer (kinds.BallDevice d) call []
+  quiet : (call : Call) → MayComeAt call (moments first_state) → (ball_step d call 0 first_state).1 ≡ []
+      → IsAnswerOf (ball_device d) moments call []
   quiet call may answers = answered call [] first_state (first_ball-shape d) may answers
 
   -- a request that changes nothing, as there is no ball
-  refused : (n : ℕ) → IsAnswer (kinds.BallDevice d) (calls.Act (acts.Request n)) []
+  refused : (n : ℕ) → IsAnswerOf (ball_device d) moments (calls.Act (acts.Request n)) []
   refused n = search (rules, cases_Bool, quiet, if_true, if_false)
 
   -- a request of any number of balls, before which one is wanted
   request-comes : (n : ℕ) → (d.trough && may_begin d) ≡ true
-      → IsAnswer (kinds.BallDevice d) (calls.Act (acts.Request n)) (attempted ∷ [])
+      → IsAnswerOf (ball_device d) moments (calls.Act (acts.Request n)) (attempted ∷ [])
   request-comes n is =
       let may = and_parts d.trough (may_begin d) is in
       let parts = and_parts d.has_coil (nat_lt 0 d.switches) may.1 in
@@ -209,8 +207,8 @@ module _ (d : BallSettings) (limits : IsWithinLimits (kinds.BallDevice d)) where
       (if_true d.trough (begin d 0 t) (s, []) may.0
       ∙ began t (can parts.0 (nat_lt 0 most) (lt-ltb 0 most (omega arith))))
 
-  act-comes : (act : Act) → All (IsAnswer (kinds.BallDevice d) (calls.Act act)) (of_ball_act d act)
+  act-comes : (act : Act) → All (IsAnswerOf (ball_device d) moments (calls.Act act)) (of_ball_act d act)
   act-comes act = search (rules, All-cons, quiet, all_if, ending-comes, refused, request-comes)
 
-  pub ball-comes : (call : Call) → All (IsAnswer (kinds.BallDevice d) call) (of_ball_device d call)
+  pub ball-comes : (call : Call) → All (IsAnswerOf (ball_device d) moments call) (of_ball_device d call)
   ball-comes call = search (rules, quiet, fire-comes, act-comes)

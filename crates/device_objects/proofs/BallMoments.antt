@@ -4,13 +4,11 @@ use Rattle.std.proofs.lemmas.{Bool.{cases_lt, le-ltb, lt-ltb, ltb-true, ltb-fals
 use Rattle.std.proofs.lemmas.Option.{IfSome_then, MatchOption-from_none, none-some, same_Some}
 use Rattle.plan_tables.specs.{declared.devices.{Act.Act, BallSettings.BallSettings}, Devices.IsBallDeviceWithin}
 use Rattle.plan_tables.specs.declared.devices.Act.TheVariants as acts
-use Rattle.plan_tables.specs.declared.devices.Settings.TheVariants as kinds
 use Rattle.device_objects.specs.declared.{device.Call.Call, state.{BallState.BallState, World.World}}
 use Rattle.device_objects.specs.declared.device.Call.TheVariants as calls
 use Rattle.device_objects.specs.declared.state.{BallSwitch.BallSwitch, Eject.{Eject, TheVariants.Idle}}
-use Rattle.device_objects.specs.declared.state.DeviceState.TheVariants as states
-use Rattle.device_objects.specs.BallDevice.{empty, switch_at, set_switch, first_due, first_due_from, timeout_of, earlier, due_of, part_due, is_timeout_first, entered, attempt, can_begin, begin, after, time_out, confirm, delay, switched, turned, gone, count, count_due, fire, fire_part, requested, act_step, halted, ball_step}
-use Rattle.device_objects.specs.{DeviceStep.ball_answer, Laws.{IsDone, IsFirstPart, FiresFirstPart}}
+use Rattle.device_objects.specs.BallDevice.{empty, switch_at, set_switch, first_due, first_due_from, timeout_of, earlier, due_of, part_due, is_timeout_first, entered, attempt, can_begin, begin, after, time_out, confirm, delay, switched, turned, gone, count, count_due, fire, fire_part, requested, act_step, halted, ball_device, ball_step, moments}
+use Rattle.device_objects.specs.Laws.{IsDoneIn, IsFirstPartOf, FiresFirstPartOf}
 use Rattle.device_objects.proofs.BallDue.{not_due-none, first_due-none, first_due-is_due, first_due-is_first, first_due-is_lowest, due-inside, part-of_switch, part-of_attempt, part-past, switch-is_part, which_part}
 
 -- ---- what a step arms
@@ -172,7 +170,7 @@ module _ (d : BallSettings) (now : ℕ) (limits : IsBallDeviceWithin d) where
   counted-switches i s = search rules
 
   timeout-done : (s : BallState) (t due : ℕ) → timeout_of s.eject ≡ Some t → due ≡ t
-      → IsDone now due (states.BallDevice s) (states.BallDevice (time_out d now s.eject s).0)
+      → IsDoneIn now due (moments s) (moments (time_out d now s.eject s).0)
   timeout-done s t due is same =
       let next : BallState = (time_out d now s.eject s).0 in
       let at : part_due next (length s.switches) ≡ timeout_of next.eject =
@@ -184,7 +182,7 @@ module _ (d : BallSettings) (now : ℕ) (limits : IsBallDeviceWithin d) where
       }
 
   count-done : (s : BallState) (a : ℕ × ℕ) (due : ℕ) → first_due s ≡ Some a → due ≡ a.0
-      → IsDone now due (states.BallDevice s) (states.BallDevice (count d now a.1 s).0)
+      → IsDoneIn now due (moments s) (moments (count d now a.1 s).0)
   count-done s a due is same =
       let next : BallState = (count d now a.1 s).0 in
       let within : a.1 < length s.switches = due-inside s.switches a.1 a.0 (switch-is_due s a is) in
@@ -201,17 +199,18 @@ module _ (d : BallSettings) (now : ℕ) (limits : IsBallDeviceWithin d) where
       }
 
   -- of both, that is done which is due first
-  first-done : (s : BallState) (first : Option (ℕ × ℕ)) (timeout : Option ℕ) → first_due s ≡ first
-      → timeout_of s.eject ≡ timeout
-      → IfSome (earlier (option_map (λ a. a.0) first) timeout)
-      (λ due. IsDone now due (states.BallDevice s)
-      (states.BallDevice
-      (if is_timeout_first first timeout then time_out d now s.eject s else count_due d now first s).0))
-  first-done s first timeout at over = search (rules, timeout-done, count-done, nat_lt, ltb-true, ltb-false)
+  first-does : (Does : ℕ → BallState → Type 0) (s : BallState) (first : Option (ℕ × ℕ)) (timeout : Option ℕ)
+      → ((t due : ℕ) → timeout ≡ Some t → due ≡ t → Does due (time_out d now s.eject s).0)
+      → ((a : ℕ × ℕ) (due : ℕ) → first ≡ Some a → due ≡ a.0 → Does due (count d now a.1 s).0)
+      → IfSome (earlier (option_map (λ a. a.0) first) timeout) (λ due. Does due
+      (if is_timeout_first first timeout then time_out d now s.eject s else count_due d now first s).0)
+  first-does Does s first timeout over counted = search (rules, nat_lt, ltb-true, ltb-false)
 
 pub ball-fired : (d : BallSettings) (now : ℕ) (s : BallState) → IsBallDeviceWithin d
-    → IfSome (due_of s) (λ due. IsDone now due (states.BallDevice s) (states.BallDevice (fire d now s).0))
-ball-fired d now s limits = first-done d now limits s (first_due s) (timeout_of s.eject) refl refl
+    → IfSome (due_of s) (λ due. IsDoneIn now due (moments s) (moments (fire d now s).0))
+ball-fired d now s limits =
+    first-does d now limits (λ due next. IsDoneIn now due (moments s) (moments next)) s (first_due s)
+    (timeout_of s.eject) (timeout-done d now limits s) (count-done d now limits s)
 
 -- ---- its parts
 
@@ -251,7 +250,7 @@ ball-parts_few s k long past = part-past s.switches (timeout_of s.eject) k (omeg
 module _ (d : BallSettings) (now : ℕ) (s : BallState) where
   -- a ball switch that is due first is the first part, unless the attempt is over before
   switch-first : (a : ℕ × ℕ) → first_due s ≡ Some a → ((t : ℕ) → timeout_of s.eject ≡ Some t → a.0 ≤ t)
-      → IsFirstPart (states.BallDevice s) a.0 a.1
+      → IsFirstPartOf (moments s) a.0 a.1
   switch-first a is before = record {
     due = first-is_part s a is;
     earliest = λ other at found. elim (which_part s.switches (timeout_of s.eject) other at found) [
@@ -270,7 +269,7 @@ module _ (d : BallSettings) (now : ℕ) (s : BallState) where
 
   -- the attempt is the first part if it is over before any ball switch is due
   attempt-first : (t : ℕ) → timeout_of s.eject ≡ Some t → ((i at : ℕ) → (switch_at s i).due ≡ Some at → t < at)
-      → IsFirstPart (states.BallDevice s) t (length s.switches)
+      → IsFirstPartOf (moments s) t (length s.switches)
   attempt-first t is before = search (rules, part-at_attempt, which_part, same_Some)
 
   of_test : (k : ℕ) (test : Bool) → nat_lt k (length s.switches) ≡ test
@@ -286,7 +285,7 @@ module _ (d : BallSettings) (now : ℕ) (s : BallState) where
   -- what is done, if the first ball switch and the attempt are due then, is what the first part does
   abbrev DoesFirst : BallState × List ℕ → ℕ → Type 0
   DoesFirst answer due =
-      (part : ℕ) × IsFirstPart (states.BallDevice s) due part × (answer ≡ fire_part d part now s)
+      (part : ℕ) × IsFirstPartOf (moments s) due part × (answer ≡ fire_part d part now s)
 
   fires : (first : Option (ℕ × ℕ)) (timeout : Option ℕ) → first_due s ≡ first → timeout_of s.eject ≡ timeout
       → IfSome (earlier (option_map (λ a. a.0) first) timeout)
@@ -313,23 +312,23 @@ module _ (d : BallSettings) (now : ℕ) (s : BallState) where
           let before : t < a.0 = ltb-true t a.0 is in
           let least : t ≡ min a.0 t = omega (arith, before) in (
             length s.switches,
-            subst (λ m. IsFirstPart (states.BallDevice s) m (length s.switches)) least (attempt-first t over (after_first before)),
+            subst (λ m. IsFirstPartOf (moments s) m (length s.switches)) least (attempt-first t over (after_first before)),
             attempt-fires,
           )
       one_of false is =
           let before : a.0 ≤ t = ltb-false t a.0 is in
           let least : a.0 ≡ min a.0 t = omega (arith, before) in (
             a.1,
-            subst (λ m. IsFirstPart (states.BallDevice s) m a.1) least
+            subst (λ m. IsFirstPartOf (moments s) m a.1) least
                 (switch-first a at (λ m due. let same : t ≡ m = same_Some t m (sym over ∙ due) in omega (arith, before, same))),
             switch-fires a at,
           )
 
 pub ball-fires_first : (d : BallSettings) (now : ℕ) (world : World) (s : BallState)
-    → IfSome (due_of s) (FiresFirstPart (kinds.BallDevice d) now world (states.BallDevice s))
+    → IfSome (due_of s) (FiresFirstPartOf (ball_device d) moments now world s)
 ball-fires_first d now world s =
     IfSome_then (due_of s) (fires d now s (first_due s) (timeout_of s.eject) refl refl)
-    (λ due does. record { part = does.0; first = does.1; step = ap ball_answer does.2 })
+    (λ due does. record { part = does.0; first = does.1; step = does.2 })
 
 -- ---- when its mode has stopped
 

@@ -9,7 +9,7 @@ use Rattle.device_objects.specs.declared.{device.Call.Call, state.Eject.{Eject, 
 use Rattle.device_objects.specs.declared.device.Call.TheVariants as calls
 use Rattle.device_objects.specs.declared.state.{BallSwitch.BallSwitch, BallState.BallState}
 use Rattle.device_objects.specs.BallDevice.{empty, first_state, set_switch, has_ball, first_due, can_begin, begin, ended, may_try_again, next_number, greatest_attempt, time_out, confirm, switched, gone, count, count_due, fire, requested, act_step, halted, not_due, ball_step}
-use Rattle.device_objects.{specs.Laws.{IsAttempt, IsEjectOf, HasBallShape}, proofs.BallDue.first_due-is_due}
+use Rattle.device_objects.{specs.BallDevice.{IsAttempt, IsEjectOf, HasBallShape}, proofs.BallDue.first_due-is_due}
 
 -- ---- ball switches that a device does not have
 

@@ -1,47 +1,41 @@
--- Multiballs: what they answer.
-use Rattle.std.proofs.Common.{rules, ◌≡◌, ℕ, nat_lt, Bool, true, false, not, ◌&&◌, List, [], ◌∷◌, refl}
-use Rattle.std.{specs.List.All, proofs.lemmas.Bool.false≢true}
-use Rattle.plan_tables.specs.declared.devices.Act.{Act}
+-- Multiballs are lawful.
+use Rattle.std.proofs.Common.{rules, ◌≡◌, ℕ, ◌<◌, ◌≤◌, Bool, true, false, ◌&&◌, List, [], ◌∷◌, refl, arith}
+use Rattle.std.{specs.List.All, proofs.lemmas.List.Elements.{All-nil, All-cons, All-append}}
+use Rattle.plan_tables.specs.declared.devices.{Act.Act, Settings.TheVariants.Multiball}
+use Rattle.plan_tables.specs.Devices.{IsWithinLimits, list_count}
 use Rattle.plan_tables.specs.declared.devices.Act.TheVariants as acts
 use Rattle.machine_settings.specs.declared.settings.MultiballSettings.{MultiballSettings}
-use Rattle.plan_tables.specs.declared.devices.Settings.TheVariants as kinds
-use Rattle.device_objects.specs.declared.{device.Call.Call, state.{MultiballState.MultiballState, World.World}}
-use Rattle.device_objects.specs.declared.device.Call.TheVariants as calls
+use Rattle.device_objects.specs.declared.state.{MultiballState.MultiballState, World.World}
+use Rattle.device_objects.specs.{Kinds.moments_of, Laws.IsLawful}
+use Rattle.device_objects.specs.Multiball.{act_step, ended, multiball, multiball_state, multiballs, of_multiball, started}
+use Rattle.device_objects.proofs.{Among.{In, here, there, one, two}, Calm.{IsActAnswer, calm-lawful}}
 use Rattle.device_objects.specs.declared.state.DeviceState.TheVariants as states
-use Rattle.device_objects.specs.Multiball.{started, ended, act_step, multiball_step}
-use Rattle.device_objects.specs.{Laws.{IsAnswer, MayCome}, Outcomes.{of_multiball, outcomes}}
-use Rattle.device_objects.proofs.Among.{In, here, there, either, one, two}
 
--- ---- answers are outcomes
+act-in : (act : Act) (world : World) (s : MultiballState) → In (act_step act world s).1 (of_multiball act)
+act-in act world s = search (rules, here, there)
 
-pub multiball_act-in : (act : Act) (world : World) (s : MultiballState) → In (act_step act world s).1 (of_multiball act)
-multiball_act-in acts.Start world s =
-    either (not s.running && nat_lt 0 world.in_play) (record { running = true }, started ∷ []) (s, [])
-    (λ is. there here) (λ not. here)
-multiball_act-in acts.End world s =
-    either s.running (record { running = false }, ended ∷ []) (s, []) (λ is. there here) (λ not. here)
-multiball_act-in _ world s = here
+-- a ball is in play
+abbrev in_play : World
+in_play = record { games = 0; player = 1; in_play = 1 }
 
-pub multiball-in : (m : MultiballSettings) (call : Call) (world : World) (s : MultiballState)
-    → MayCome call (states.Multiball s) → In (multiball_step call world s).1 (outcomes (kinds.Multiball m) call)
-multiball-in m calls.Fire world s may = absurd (false≢true may)
-multiball-in m (calls.Act act) world s may = multiball_act-in act world s
-multiball-in m _ world s may = here
+answered : (act : Act) (lists : List ℕ) (running : Bool) → (act_step act in_play (record { running = running })).1 ≡ lists
+    → IsActAnswer multiball act lists
+answered act lists running answers =
+    record { now = 0; world = in_play; state = record { running = running }; shape = tt; may_come = tt; answer = answers }
 
--- ---- each outcome comes about
+come : (act : Act) → All (IsActAnswer multiball act) (of_multiball act)
+come acts.Start =
+    two (IsActAnswer multiball acts.Start) [] (started ∷ []) (answered acts.Start [] true refl)
+    (answered acts.Start (started ∷ []) false refl)
+come acts.End =
+    two (IsActAnswer multiball acts.End) [] (ended ∷ []) (answered acts.End [] false refl)
+    (answered acts.End (ended ∷ []) true refl)
+come act = one (IsActAnswer multiball act) [] (answered act [] false refl)
 
-module _ (m : MultiballSettings) where
-  -- one that is running, or not, while a ball is in play
-  answered : (call : Call) (lists : List ℕ) (running : Bool) → MayCome call (states.Multiball (record { running = running }))
-      → (multiball_step call (record { games = 0; player = 1; in_play = 1 }) (record { running = running })).1 ≡ lists
-      → IsAnswer (kinds.Multiball m) call lists
-  answered call lists running may answers = search rules
-
-  pub multiball_acts : (act : Act) → All (IsAnswer (kinds.Multiball m) (calls.Act act)) (of_multiball act)
-  multiball_acts acts.Start =
-      two (IsAnswer (kinds.Multiball m) (calls.Act acts.Start)) [] (started ∷ []) (answered (calls.Act acts.Start) [] true tt refl)
-      (answered (calls.Act acts.Start) (started ∷ []) false tt refl)
-  multiball_acts acts.End =
-      two (IsAnswer (kinds.Multiball m) (calls.Act acts.End)) [] (ended ∷ []) (answered (calls.Act acts.End) [] false tt refl)
-      (answered (calls.Act acts.End) (ended ∷ []) true tt refl)
-  multiball_acts act = one (IsAnswer (kinds.Multiball m) (calls.Act act)) [] (answered (calls.Act act) [] false tt refl)
+pub multiballs-lawful : (m : MultiballSettings)
+    → IsLawful multiballs moments_of (IsWithinLimits (Multiball m)) (list_count (Multiball m))
+multiballs-lawful m =
+    calm-lawful states.Multiball multiball_state multiball (IsWithinLimits (Multiball m)) 2 (λ s. refl) (λ state s is. search rules)
+    (λ s. refl) tt (λ s shape. tt) (λ s shape. tt) (λ act now world s shape. tt) (λ act now world s shape. act-in act world s)
+    (λ within. come) (λ act now world s. search rules) (λ act. search rules)
+    (λ act. search (rules, All-nil, All-cons, All-append))

@@ -1,10 +1,13 @@
 -- An accrual: its steps are done in any order.
-use Rattle.std.specs.Prelude.{ℕ, nat_lt, Bool, true, false, not, ◌&&◌, if◌then◌else◌, Option, None, Some, List, [], ◌∷◌, replicate, take, slice_get, slice_set}
+use Rattle.std.specs.Prelude.{◌≡◌, ℕ, nat_lt, Bool, true, false, not, ◌&&◌, if◌then◌else◌, Option, None, Some, List, [], ◌∷◌, ◌++◌, length, replicate, take, slice_get, slice_set}
 use Rattle.std.specs.List.{list_all}
 use Rattle.plan_tables.specs.declared.devices.Act.{Act}
 use Rattle.plan_tables.specs.declared.devices.Act.TheVariants as acts
 use Rattle.machine_settings.specs.declared.settings.StepSettings.{StepSettings}
-use Rattle.device_objects.specs.{declared.state.AccrualSlot.AccrualSlot, Slots.{SlotModel, updated, hit, complete}}
+use Rattle.device_objects.specs.declared.state.{AccrualSlot.AccrualSlot, DeviceState.DeviceState}
+use Rattle.device_objects.specs.declared.state.DeviceState.TheVariants as states
+use Rattle.device_objects.specs.{Slots.{SlotModel, of_slots}, KindModel.{Kind, in_states, never_due}, Outcomes.only_if}
+use Rattle.device_objects.specs.Blocks.{updated, hit, complete, completing, going_on, of_block}
 
 -- no step is done
 abbrev pub none_done : List Bool
@@ -50,6 +53,30 @@ slot_step a acts.Reset slot = (record slot { done = none_done }, updated ∷ [])
 slot_step a acts.Restart slot = (record slot { done = none_done; enabled = true }, updated ∷ [])
 slot_step a _ slot = (slot, [])
 
+-- the only step of an accrual always completes it
+abbrev pub of_accrual : StepSettings → Act → List (List ℕ)
+of_accrual a (acts.Step i) = [] ∷ only_if (nat_lt i a.steps) (only_if (nat_lt 1 a.steps) (going_on ∷ []) ++ completing ∷ [])
+of_accrual a act = of_block a.block act
+
+-- a slot of an accrual: with 16 marks
+abbrev pub HasMarks : AccrualSlot → Type 0
+HasMarks slot = length slot.done ≡ 16
+
 -- the slots of an accrual
 abbrev pub slots : StepSettings → SlotModel AccrualSlot
-slots a = record { persist = a.block.persist; first = first_slot a; game_of = λ slot. slot.game; step = λ act now. slot_step a act }
+slots a = record {
+  persist = a.block.persist;
+  first = first_slot a;
+  game_of = λ slot. slot.game;
+  IsShaped = HasMarks;
+  step = λ act now. slot_step a act;
+  answers = of_accrual a;
+}
+
+-- what a state holds, if it is one of an accrual
+abbrev pub accrual_slots : DeviceState → Option (List AccrualSlot)
+accrual_slots (states.Accrual slots) = Some slots
+accrual_slots _ = None
+
+abbrev pub accruals : StepSettings → Kind DeviceState
+accruals a = in_states states.Accrual accrual_slots (never_due (of_slots (slots a)))

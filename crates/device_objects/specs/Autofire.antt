@@ -1,9 +1,10 @@
 -- An autofire coil. What it fires at is its switch 0.
-use Rattle.std.specs.Prelude.{ℕ, ◌==◌, true, false, ◌&&◌, if◌then◌else◌, List, [], ◌∷◌}
+use Rattle.std.specs.Prelude.{ℕ, ◌==◌, true, false, ◌&&◌, if◌then◌else◌, Option, None, Some, List, [], ◌∷◌}
 use Rattle.plan_tables.specs.declared.devices.Act.{Act}
 use Rattle.plan_tables.specs.declared.devices.Act.TheVariants as acts
-use Rattle.device_objects.specs.declared.{device.Call.Call, state.AutofireState.AutofireState}
-use Rattle.device_objects.specs.declared.device.Call.TheVariants as calls
+use Rattle.device_objects.specs.declared.state.{AutofireState.AutofireState, DeviceState.DeviceState}
+use Rattle.device_objects.specs.declared.state.DeviceState.TheVariants as states
+use Rattle.device_objects.specs.{KindModel.{Kind, CalmModel, in_states, never_due}, Outcomes.{of_switch, silent}}
 
 -- the list of an autofire coil that fires
 abbrev pub fires : ℕ
@@ -19,7 +20,25 @@ act_step acts.Disable s = (record s { enabled = false }, [])
 act_step (acts.SwitchOn i) s = if s.enabled && (i == 0) then (s, fires ∷ []) else (s, [])
 act_step _ s = (s, [])
 
+abbrev pub of_autofire : Act → List (List ℕ)
+of_autofire (acts.SwitchOn i) = of_switch i fires
+of_autofire _ = silent
+
 -- the start and the stop of its mode change nothing, and it is never due
-abbrev pub autofire_step : Call → AutofireState → AutofireState × List ℕ
-autofire_step (calls.Act act) s = act_step act s
-autofire_step _ s = (s, [])
+abbrev pub autofire : CalmModel AutofireState
+autofire = record {
+  first = first_state;
+  IsShaped = λ s. Unit {0};
+  start = λ s. s;
+  stop = λ s. s;
+  act = λ act now world. act_step act;
+  answers = of_autofire;
+}
+
+-- what a state holds, if it is one of an autofire coil
+abbrev pub autofire_state : DeviceState → Option AutofireState
+autofire_state (states.Autofire s) = Some s
+autofire_state _ = None
+
+abbrev pub autofires : Kind DeviceState
+autofires = in_states states.Autofire autofire_state (never_due autofire)

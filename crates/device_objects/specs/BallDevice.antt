@@ -1,13 +1,16 @@
 -- A ball device, such as a trough or a plunger. A ball lies at each ball switch that is counted. The device ejects one
 -- ball at a time.
-use Rattle.std.specs.Prelude.{ℕ, suc, ◌+◌, ◌-◌, nat_lt, min, Bool, true, false, not, ◌&&◌, ◌||◌, if◌then◌else◌, Option, None, Some, List, [], ◌∷◌, ◌++◌, length, map, option_map, replicate, slice_index_or, slice_set}
-use Rattle.std.specs.List.{list_any}
+use Rattle.std.specs.Prelude.{◌≡◌, ℕ, suc, ◌+◌, ◌-◌, ◌≤◌, nat_lt, min, max, Bool, true, false, not, ◌&&◌, ◌||◌, is_some, if◌then◌else◌, Option, None, Some, unwrap_or, List, [], ◌∷◌, ◌++◌, length, map, option_map, replicate, drop, slice_index_or, slice_set}
+use Rattle.std.specs.List.{All, list_any}
 use Rattle.plan_tables.specs.{Due.sooner, declared.devices.{Act.Act, BallTarget.BallTarget, BallSettings.BallSettings}}
 use Rattle.plan_tables.specs.declared.devices.Act.TheVariants as acts
 use Rattle.plan_tables.specs.declared.devices.BallTarget.TheVariants as targets
-use Rattle.device_objects.specs.declared.{device.Call.Call, state.Eject.{Eject, TheVariants.{Idle, Pulsing, Away}}}
+use Rattle.device_objects.specs.declared.{device.Call.Call, state.{Attempt.Attempt, BallState.BallState}}
+use Rattle.device_objects.specs.declared.state.Eject.{Eject, TheVariants.{Idle, Pulsing, Away}}
 use Rattle.device_objects.specs.declared.device.Call.TheVariants as calls
-use Rattle.device_objects.specs.declared.state.{Attempt.Attempt, BallSwitch.BallSwitch, BallState.BallState}
+use Rattle.device_objects.specs.declared.state.{BallSwitch.BallSwitch, DeviceState.DeviceState}
+use Rattle.device_objects.specs.declared.state.DeviceState.TheVariants as states
+use Rattle.device_objects.specs.{KindModel.{Kind, Moments, in_states}, Outcomes.{only_if, silent}}
 
 -- ---- the lists of a ball device
 
@@ -252,3 +255,85 @@ ball_step d calls.ModeStart now s = (s, [])
 ball_step d calls.ModeStop now s = (halted s, [])
 ball_step d calls.Fire now s = fire d now s
 ball_step d (calls.Act act) now s = act_step d act now s
+
+-- ---- what it answers
+
+-- whether a ball device can begin to eject a ball in some state
+abbrev pub may_begin : BallSettings → Bool
+may_begin d = d.has_coil && nat_lt 0 d.switches
+
+-- whether a ball can be on its way from it in some state
+abbrev pub may_eject : BallSettings → Bool
+may_eject d = d.has_coil || d.ejects.mechanical
+
+-- these lists, alone or followed by a new attempt
+abbrev pub ending : BallSettings → List ℕ → List (List ℕ)
+ending d lists = lists ∷ only_if (may_begin d) ((lists ++ attempted ∷ []) ∷ [])
+
+-- a ball switch counts: a ball has entered, has left, or is lost
+abbrev pub of_count : BallSettings → List (List ℕ)
+of_count d = ending d (entered ∷ []) ++ only_if (may_eject d) ((left ∷ []) ∷ []) ++ (lost ∷ []) ∷ []
+
+-- An attempt has failed. Another one follows, unless only one is allowed. If there is a limit, it may also be the last.
+abbrev pub of_attempt : BallSettings → List (List ℕ)
+of_attempt d =
+    only_if (may_try_again d.ejects.max_attempts 1) ((failed ∷ attempted ∷ []) ∷ [])
+    ++ only_if (is_some d.ejects.max_attempts) ((failed ∷ []) ∷ [])
+
+abbrev pub of_ball_fire : BallSettings → List (List ℕ)
+of_ball_fire d =
+    only_if (nat_lt 0 d.switches) (of_count d)
+    ++ only_if d.has_coil (of_attempt d)
+    ++ only_if (may_eject d) (ending d (overdue d.target))
+
+abbrev pub of_ball_act : BallSettings → Act → List (List ℕ)
+of_ball_act d acts.Confirm = [] ∷ only_if (may_eject d) (ending d (confirmed d.target))
+of_ball_act d (acts.Request n) = [] ∷ only_if (d.trough && may_begin d) ((attempted ∷ []) ∷ [])
+of_ball_act d _ = silent
+
+abbrev pub of_ball_device : BallSettings → Call → List (List ℕ)
+of_ball_device d calls.ModeStart = silent
+of_ball_device d calls.ModeStop = silent
+of_ball_device d calls.Fire = of_ball_fire d
+of_ball_device d (calls.Act act) = of_ball_act d act
+
+-- ---- its shape
+
+-- The number of an attempt is at least 1, and at most the limit, or the greatest number if there is none.
+abbrev pub IsAttempt : BallSettings → ℕ → Type 0
+IsAttempt d number = (1 ≤ number) × (number ≤ max 1 (unwrap_or d.ejects.max_attempts greatest_attempt))
+
+-- Only a device with a coil can be Pulsing. Only one with a coil, or with a mechanical eject, can be Away.
+abbrev pub IsEjectOf : BallSettings → Eject → Type 0
+IsEjectOf d Idle = Unit {0}
+IsEjectOf d (Pulsing a) = (d.has_coil ≡ true) × IsAttempt d a.number
+IsEjectOf d (Away a) = (may_eject d ≡ true) × IsAttempt d a.number
+
+-- the state of a ball device: 16 ball switches, of which those that it does not have are empty
+pub record HasBallShape (d : BallSettings) (s : BallState) : Type 0 where
+  pub switches : length s.switches ≡ 16
+  pub unused : All (λ b. b ≡ empty) (drop d.switches s.switches)
+  pub eject : IsEjectOf d s.eject
+  pub wanted : s.wanted ≤ 255
+
+-- ---- ball devices
+
+abbrev pub moments : BallState → Moments
+moments s = record { due = due_of s; part = part_due s }
+
+abbrev pub ball_device : BallSettings → Kind BallState
+ball_device d = record {
+  first = first_state;
+  IsShaped = HasBallShape d;
+  step = λ call now world. ball_step d call now;
+  outcomes = of_ball_device d;
+  fire_part = fire_part d;
+}
+
+-- what a state holds, if it is one of a ball device
+abbrev pub ball_state : DeviceState → Option BallState
+ball_state (states.BallDevice s) = Some s
+ball_state _ = None
+
+abbrev pub ball_devices : BallSettings → Kind DeviceState
+ball_devices d = in_states states.BallDevice ball_state (ball_device d)

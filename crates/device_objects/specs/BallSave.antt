@@ -1,10 +1,12 @@
 -- A ball save. While it is active, a ball that drains can be saved: the first trough ejects another one.
-use Rattle.std.specs.Prelude.{ℕ, ◌+◌, ◌-◌, ◌==◌, true, false, if◌then◌else◌, Option, None, Some, List, [], ◌∷◌}
+use Rattle.std.specs.Prelude.{◌≡◌, ℕ, ◌+◌, ◌-◌, ◌==◌, ◌<◌, ◌≤◌, nat_lt, true, false, if◌then◌else◌, Option, None, Some, IsSome, List, [], ◌∷◌, ◌++◌}
 use Rattle.plan_tables.specs.declared.devices.Act.{Act}
 use Rattle.plan_tables.specs.declared.devices.Act.TheVariants as acts
 use Rattle.machine_settings.specs.declared.settings.SaveSettings.{SaveSettings}
-use Rattle.device_objects.specs.declared.{device.Call.Call, state.SaveState.SaveState}
+use Rattle.device_objects.specs.declared.{device.Call.Call, state.{SaveState.SaveState, DeviceState.DeviceState}}
 use Rattle.device_objects.specs.declared.device.Call.TheVariants as calls
+use Rattle.device_objects.specs.declared.state.DeviceState.TheVariants as states
+use Rattle.device_objects.specs.{KindModel.{Kind, Moments, in_states, of_one_part}, Outcomes.{only_if, silent}}
 
 -- the lists of a ball save
 abbrev pub enabled : ℕ
@@ -56,3 +58,46 @@ save_step b calls.ModeStart now s = (first_state, [])
 save_step b calls.ModeStop now s = (first_state, [])
 save_step b calls.Fire now s = disable s
 save_step b (calls.Act act) now s = act_step b act now s
+
+-- ---- ball saves
+
+-- A ball save that saves only one ball is disabled after it. One that saves more may have some left.
+abbrev pub of_save_act : SaveSettings → Act → List (List ℕ)
+of_save_act b acts.Enable = [] ∷ (enabled ∷ []) ∷ []
+of_save_act b acts.Disable = [] ∷ (disabled ∷ []) ∷ []
+of_save_act b acts.Save =
+    [] ∷ only_if (nat_lt 1 b.balls) ((saving ∷ []) ∷ []) ++ (saving ∷ disabled ∷ []) ∷ []
+of_save_act b _ = silent
+
+-- one that has no end is never due
+abbrev pub of_save : SaveSettings → Call → List (List ℕ)
+of_save b calls.ModeStart = silent
+of_save b calls.ModeStop = silent
+of_save b calls.Fire = only_if (nat_lt 0 b.active_time) ((disabled ∷ []) ∷ [])
+of_save b (calls.Act act) = of_save_act b act
+
+-- the state of a ball save: no more balls are left than it saves, and it is due only while it is active and has an end
+pub record HasSaveShape (b : SaveSettings) (s : SaveState) : Type 0 where
+  pub left : s.left ≤ b.balls
+  pub due : IsSome s.due → (s.active ≡ true) × (0 < b.active_time)
+
+-- a ball save has just one part
+abbrev pub moments : SaveState → Moments
+moments s = of_one_part s.due
+
+abbrev pub ball_save : SaveSettings → Kind SaveState
+ball_save b = record {
+  first = first_state;
+  IsShaped = HasSaveShape b;
+  step = λ call now world. save_step b call now;
+  outcomes = of_save b;
+  fire_part = λ k now. save_step b calls.Fire now;
+}
+
+-- what a state holds, if it is one of a ball save
+abbrev pub save_state : DeviceState → Option SaveState
+save_state (states.BallSave s) = Some s
+save_state _ = None
+
+abbrev pub ball_saves : SaveSettings → Kind DeviceState
+ball_saves b = in_states states.BallSave save_state (ball_save b)

@@ -1,9 +1,12 @@
 -- A bank of shots: a group, or a lone shot. Each player has a slot of their own.
-use Rattle.std.specs.Prelude.{ℕ, suc, ◌+◌, ◌-◌, ◌*◌, ◌==◌, nat_lt, nat_le, Bool, true, false, not, ◌&&◌, if◌then◌else◌, Option, None, Some, List, [], ◌∷◌, ◌++◌, replicate, take, drop, slice_get, slice_set}
-use Rattle.std.specs.List.{list_all}
+use Rattle.std.specs.Prelude.{◌≡◌, ℕ, ◌≤◌, suc, ◌+◌, ◌-◌, ◌*◌, ◌==◌, nat_lt, nat_le, Bool, true, false, not, ◌&&◌, if◌then◌else◌, Option, None, Some, List, [], ◌∷◌, ◌++◌, length, replicate, take, drop, slice_get, slice_set}
+use Rattle.std.specs.List.{All, list_all, flat_map, range_with_len}
 use Rattle.plan_tables.specs.{declared.devices.{Act.Act, BankSettings.BankSettings}, Devices.state_count}
 use Rattle.plan_tables.specs.declared.devices.Act.TheVariants as acts
-use Rattle.device_objects.specs.{declared.state.BankSlot.BankSlot, Slots.SlotModel}
+use Rattle.device_objects.specs.declared.state.{BankSlot.BankSlot, DeviceState.DeviceState}
+use Rattle.device_objects.specs.declared.state.DeviceState.TheVariants as states
+use Rattle.device_objects.specs.{Slots.{SlotModel, of_slots}, Outcomes.{only_if, silent}}
+use Rattle.device_objects.specs.KindModel.{Kind, in_states, never_due}
 
 -- The lists of a bank: for each shot one in each state, by the shot's number and then the state's; then those of the
 -- group when one of its shots is hit in a state; then those of the group when all its shots have come to a state.
@@ -85,6 +88,49 @@ slot_step b acts.RotateRight slot = (record slot { states = turned b.shots (b.sh
 slot_step b acts.RotateLeft slot = (record slot { states = turned b.shots 1 slot.states }, [])
 slot_step b _ slot = (slot, [])
 
+-- whether a hit of a shot in this state moves it, and so can complete its group
+abbrev pub can_complete : BankSettings → ℕ → Bool
+can_complete b state = b.group && (b.advance_on_hit && not (next_state b state == state))
+
+-- a hit that completes the group
+abbrev pub hit_completing : BankSettings → ℕ → ℕ → List ℕ
+hit_completing b i state = hit_lists b i state ++ group_complete b (next_state b state) ∷ []
+
+-- a shot that is hit in this state; the only shot of a group always completes it when it moves
+abbrev pub of_hit_in : BankSettings → ℕ → ℕ → List (List ℕ)
+of_hit_in b i state =
+    if can_complete b state
+    then only_if (nat_lt 1 b.shots) (hit_lists b i state ∷ []) ++ hit_completing b i state ∷ []
+    else hit_lists b i state ∷ []
+
+-- a shot of this number that is hit, in whatever state
+abbrev pub of_hit : BankSettings → ℕ → List (List ℕ)
+of_hit b i = flat_map (of_hit_in b i) (range_with_len 0 (state_count b))
+
+abbrev pub of_bank : BankSettings → Act → List (List ℕ)
+of_bank b (acts.Hit i) = [] ∷ only_if (nat_lt i b.shots) (of_hit b i)
+of_bank b _ = silent
+
+-- a slot of a bank: with as many flags as its settings have, and 16 states, each one of the profile
+abbrev pub HasBankShape : BankSettings → BankSlot → Type 0
+HasBankShape b slot =
+    (length slot.enabled ≡ length b.enabled) × (length slot.states ≡ 16) × All (λ s. s ≤ b.last_state) slot.states
+
 -- the slots of a bank: each player has one
 abbrev pub slots : BankSettings → SlotModel BankSlot
-slots b = record { persist = true; first = first_slot b; game_of = λ slot. slot.game; step = λ act now. slot_step b act }
+slots b = record {
+  persist = true;
+  first = first_slot b;
+  game_of = λ slot. slot.game;
+  IsShaped = HasBankShape b;
+  step = λ act now. slot_step b act;
+  answers = of_bank b;
+}
+
+-- what a state holds, if it is one of a bank
+abbrev pub bank_slots : DeviceState → Option (List BankSlot)
+bank_slots (states.Bank slots) = Some slots
+bank_slots _ = None
+
+abbrev pub banks : BankSettings → Kind DeviceState
+banks b = in_states states.Bank bank_slots (never_due (of_slots (slots b)))

@@ -1,10 +1,13 @@
 -- A counter.
-use Rattle.std.specs.Prelude.{ℕ, ◌+◌, nat_lt, Bool, true, false, not, ◌&&◌, if◌then◌else◌, Option, None, Some, List, [], ◌∷◌}
+use Rattle.std.specs.Prelude.{ℕ, ◌+◌, nat_lt, Bool, true, false, not, ◌&&◌, is_some, if◌then◌else◌, Option, None, Some, List, [], ◌∷◌}
 use Rattle.plan_tables.specs.declared.devices.Act.{Act}
 use Rattle.plan_tables.specs.declared.devices.Act.TheVariants as acts
 use Rattle.machine_settings.specs.{declared.settings.CounterSettings.CounterSettings, Ends.is_at_end}
-use Rattle.device_objects.specs.{declared.state.CounterSlot.CounterSlot, Values.moved}
-use Rattle.device_objects.specs.Slots.{SlotModel, updated, hit, complete}
+use Rattle.device_objects.specs.declared.state.{CounterSlot.CounterSlot, DeviceState.DeviceState}
+use Rattle.device_objects.specs.{Values.moved, Slots.{SlotModel, of_slots}, Outcomes.only_if}
+use Rattle.device_objects.specs.declared.state.DeviceState.TheVariants as states
+use Rattle.device_objects.specs.KindModel.{Kind, in_states, never_due}
+use Rattle.device_objects.specs.Blocks.{updated, hit, complete, completing, going_on, of_block}
 
 -- a new slot, for this game
 abbrev pub first_slot : CounterSettings → ℕ → CounterSlot
@@ -39,6 +42,26 @@ slot_step c acts.Reset now slot = (record slot { value = c.start }, updated ∷ 
 slot_step c acts.Restart now slot = (record slot { value = c.start; enabled = true }, updated ∷ [])
 slot_step c _ now slot = (slot, [])
 
+-- what a counter answers
+abbrev pub of_counter : CounterSettings → Act → List (List ℕ)
+of_counter c acts.Count = [] ∷ going_on ∷ only_if (is_some c.complete) (completing ∷ [])
+of_counter c act = of_block c.block act
+
 -- the slots of a counter
 abbrev pub slots : CounterSettings → SlotModel CounterSlot
-slots c = record { persist = c.block.persist; first = first_slot c; game_of = λ slot. slot.game; step = slot_step c }
+slots c = record {
+  persist = c.block.persist;
+  first = first_slot c;
+  game_of = λ slot. slot.game;
+  IsShaped = λ slot. Unit {0};
+  step = slot_step c;
+  answers = of_counter c;
+}
+
+-- what a state holds, if it is one of a counter
+abbrev pub counter_slots : DeviceState → Option (List CounterSlot)
+counter_slots (states.Counter slots) = Some slots
+counter_slots _ = None
+
+abbrev pub counters : CounterSettings → Kind DeviceState
+counters c = in_states states.Counter counter_slots (never_due (of_slots (slots c)))

@@ -1,9 +1,10 @@
 -- A flipper. Its button is its switch 0.
-use Rattle.std.specs.Prelude.{ℕ, ◌==◌, Bool, true, false, ◌&&◌, if◌then◌else◌, List, [], ◌∷◌}
+use Rattle.std.specs.Prelude.{ℕ, ◌==◌, Bool, true, false, ◌&&◌, if◌then◌else◌, Option, None, Some, List, [], ◌∷◌}
 use Rattle.plan_tables.specs.declared.devices.Act.{Act}
 use Rattle.plan_tables.specs.declared.devices.Act.TheVariants as acts
-use Rattle.device_objects.specs.declared.{device.Call.Call, state.FlipperState.FlipperState}
-use Rattle.device_objects.specs.declared.device.Call.TheVariants as calls
+use Rattle.device_objects.specs.declared.state.{FlipperState.FlipperState, DeviceState.DeviceState}
+use Rattle.device_objects.specs.declared.state.DeviceState.TheVariants as states
+use Rattle.device_objects.specs.{KindModel.{Kind, CalmModel, in_states, never_due}, Outcomes.{of_switch, silent}}
 
 -- the lists of a flipper: of one that goes on, and of one that goes off
 abbrev pub on : ℕ
@@ -32,7 +33,27 @@ act_step (acts.SwitchOn i) s = raised (s.enabled && (i == 0)) s
 act_step (acts.SwitchOff i) s = lowered (s.on && (i == 0)) s
 act_step _ s = (s, [])
 
+abbrev pub of_flipper : Act → List (List ℕ)
+of_flipper acts.Disable = [] ∷ (off ∷ []) ∷ []
+of_flipper (acts.SwitchOn i) = of_switch i on
+of_flipper (acts.SwitchOff i) = of_switch i off
+of_flipper _ = silent
+
 -- the start and the stop of its mode change nothing, and it is never due
-abbrev pub flipper_step : Call → FlipperState → FlipperState × List ℕ
-flipper_step (calls.Act act) s = act_step act s
-flipper_step _ s = (s, [])
+abbrev pub flipper : CalmModel FlipperState
+flipper = record {
+  first = first_state;
+  IsShaped = λ s. Unit {0};
+  start = λ s. s;
+  stop = λ s. s;
+  act = λ act now world. act_step act;
+  answers = of_flipper;
+}
+
+-- what a state holds, if it is one of a flipper
+abbrev pub flipper_state : DeviceState → Option FlipperState
+flipper_state (states.Flipper s) = Some s
+flipper_state _ = None
+
+abbrev pub flippers : Kind DeviceState
+flippers = in_states states.Flipper flipper_state (never_due flipper)

@@ -1,6 +1,9 @@
 pub mod Values
+pub mod Outcomes
+pub mod KindModel
 pub mod Slots
 pub mod Flags
+pub mod Blocks
 pub mod Counter
 pub mod Accrual
 pub mod Sequence
@@ -11,6 +14,6 @@ pub mod Autofire
 pub mod BallDevice
 pub mod BallSave
 pub mod Multiball
+pub mod Kinds
 pub mod DeviceStep
-pub mod Outcomes
 pub mod Laws

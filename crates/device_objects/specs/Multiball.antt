@@ -1,9 +1,10 @@
 -- A multiball. It can start while a ball is in play, and ends when only one is left.
-use Rattle.std.specs.Prelude.{ℕ, nat_lt, true, false, not, ◌&&◌, if◌then◌else◌, List, [], ◌∷◌}
+use Rattle.std.specs.Prelude.{ℕ, nat_lt, true, false, not, ◌&&◌, if◌then◌else◌, Option, None, Some, List, [], ◌∷◌}
 use Rattle.plan_tables.specs.declared.devices.Act.{Act}
 use Rattle.plan_tables.specs.declared.devices.Act.TheVariants as acts
-use Rattle.device_objects.specs.declared.{device.Call.Call, state.{World.World, MultiballState.MultiballState}}
-use Rattle.device_objects.specs.declared.device.Call.TheVariants as calls
+use Rattle.device_objects.specs.declared.state.{World.World, MultiballState.MultiballState, DeviceState.DeviceState}
+use Rattle.device_objects.specs.declared.state.DeviceState.TheVariants as states
+use Rattle.device_objects.specs.{KindModel.{Kind, CalmModel, in_states, never_due}, Outcomes.silent}
 
 -- the lists of a multiball
 abbrev pub started : ℕ
@@ -29,9 +30,26 @@ act_step acts.Start world s = start world s
 act_step acts.End world s = end s
 act_step _ world s = (s, [])
 
--- it is never due
-abbrev pub multiball_step : Call → World → MultiballState → MultiballState × List ℕ
-multiball_step calls.ModeStart world s = (first_state, [])
-multiball_step calls.ModeStop world s = (first_state, [])
-multiball_step calls.Fire world s = (s, [])
-multiball_step (calls.Act act) world s = act_step act world s
+abbrev pub of_multiball : Act → List (List ℕ)
+of_multiball acts.Start = [] ∷ (started ∷ []) ∷ []
+of_multiball acts.End = [] ∷ (ended ∷ []) ∷ []
+of_multiball _ = silent
+
+-- the start and the stop of its mode leave it as it is at first, and it is never due
+abbrev pub multiball : CalmModel MultiballState
+multiball = record {
+  first = first_state;
+  IsShaped = λ s. Unit {0};
+  start = λ s. first_state;
+  stop = λ s. first_state;
+  act = λ act now world. act_step act world;
+  answers = of_multiball;
+}
+
+-- what a state holds, if it is one of a multiball
+abbrev pub multiball_state : DeviceState → Option MultiballState
+multiball_state (states.Multiball s) = Some s
+multiball_state _ = None
+
+abbrev pub multiballs : Kind DeviceState
+multiballs = in_states states.Multiball multiball_state (never_due multiball)

@@ -1,9 +1,12 @@
 -- A sequence: its steps are done in order.
-use Rattle.std.specs.Prelude.{ℕ, suc, ◌==◌, nat_lt, true, false, not, ◌&&◌, if◌then◌else◌, List, [], ◌∷◌}
+use Rattle.std.specs.Prelude.{ℕ, suc, ◌==◌, nat_lt, true, false, not, ◌&&◌, if◌then◌else◌, Option, None, Some, List, [], ◌∷◌}
 use Rattle.plan_tables.specs.declared.devices.Act.{Act}
 use Rattle.plan_tables.specs.declared.devices.Act.TheVariants as acts
 use Rattle.machine_settings.specs.declared.settings.StepSettings.{StepSettings}
-use Rattle.device_objects.specs.{declared.state.SequenceSlot.SequenceSlot, Slots.{SlotModel, updated, hit, complete}}
+use Rattle.device_objects.specs.declared.state.{SequenceSlot.SequenceSlot, DeviceState.DeviceState}
+use Rattle.device_objects.specs.declared.state.DeviceState.TheVariants as states
+use Rattle.device_objects.specs.{Slots.{SlotModel, of_slots}, KindModel.{Kind, in_states, never_due}, Outcomes.only_if}
+use Rattle.device_objects.specs.Blocks.{updated, hit, complete, completing, going_on, of_block}
 
 -- a new slot, for this game
 abbrev pub first_slot : StepSettings → ℕ → SequenceSlot
@@ -33,6 +36,26 @@ slot_step q acts.Reset slot = (record slot { next = 0 }, updated ∷ [])
 slot_step q acts.Restart slot = (record slot { next = 0; enabled = true }, updated ∷ [])
 slot_step q _ slot = (slot, [])
 
+-- only the last step completes a sequence
+abbrev pub of_sequence : StepSettings → Act → List (List ℕ)
+of_sequence q (acts.Step i) = [] ∷ only_if (nat_lt i q.steps) ((if suc i == q.steps then completing else going_on) ∷ [])
+of_sequence q act = of_block q.block act
+
 -- the slots of a sequence
 abbrev pub slots : StepSettings → SlotModel SequenceSlot
-slots q = record { persist = q.block.persist; first = first_slot q; game_of = λ slot. slot.game; step = λ act now. slot_step q act }
+slots q = record {
+  persist = q.block.persist;
+  first = first_slot q;
+  game_of = λ slot. slot.game;
+  IsShaped = λ slot. Unit {0};
+  step = λ act now. slot_step q act;
+  answers = of_sequence q;
+}
+
+-- what a state holds, if it is one of a sequence
+abbrev pub sequence_slots : DeviceState → Option (List SequenceSlot)
+sequence_slots (states.Sequence slots) = Some slots
+sequence_slots _ = None
+
+abbrev pub sequences : StepSettings → Kind DeviceState
+sequences q = in_states states.Sequence sequence_slots (never_due (of_slots (slots q)))

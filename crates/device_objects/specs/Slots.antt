@@ -1,19 +1,23 @@
--- The slots of a device: one for each player, or one for all.
-use Rattle.std.specs.Prelude.{ℕ, ◌-◌, ◌==◌, Bool, not, ◌&&◌, if◌then◌else◌, Option, None, Some, List, [], replicate, slice_get, slice_set}
+-- A kind of device whose state is slots: one for each player, or one for all.
+use Rattle.std.specs.Prelude.{◌≡◌, ℕ, ◌-◌, ◌==◌, Bool, not, ◌&&◌, if◌then◌else◌, Option, None, Some, List, [], length, replicate, slice_get, slice_set}
+use Rattle.std.specs.List.{All}
 use Rattle.plan_tables.specs.declared.devices.Act.{Act}
-use Rattle.device_objects.specs.declared.{device.Call.Call, state.World.World}
-use Rattle.device_objects.specs.declared.device.Call.TheVariants as calls
+use Rattle.device_objects.specs.{declared.{device.Call.Call, state.World.World}, KindModel.{CalmModel, calm_step}}
 
 -- How the slots of a device behave.
-pub record SlotModel (S : Type 0) : Type 0 where
+pub record SlotModel (S : Type 0) : Type 1 where
   -- whether each player has a slot; if not, all share the first
   pub persist : Bool
   -- a new slot, for this game
   pub first : ℕ → S
   -- the game to which a slot belongs
   pub game_of : S → ℕ
+  -- the shape of a slot
+  pub IsShaped : S → Type 0
   -- what an act at this moment does to a slot that counts in this world, and the lists that it answers
   pub step : Act → ℕ → S → S × List ℕ
+  -- each sequence of lists that an act answers
+  pub answers : Act → List (List ℕ)
 
 -- the slot on which the device acts: the current player's, if each player has one (without a current player,
 -- none), and else the first
@@ -48,19 +52,16 @@ first_slots m = replicate 4 (m.first 0)
 
 -- When the mode starts, slots that the players have for themselves go on, and one that all share begins anew. An act is
 -- a step of the slot in use. Nothing is ever due.
+abbrev pub of_slots : {S : Type 0} → SlotModel S → CalmModel (List S)
+of_slots m = record {
+  first = first_slots m;
+  IsShaped = λ slots. (length slots ≡ 4) × All m.IsShaped slots;
+  start = λ slots. if m.persist then slots else slice_set slots 0 (m.first 0);
+  stop = λ slots. slots;
+  act = λ act now world slots.
+      step_in_use (λ slot. m.step act now (current m world slot)) slots (slot_in_use m.persist world);
+  answers = m.answers;
+}
+
 abbrev pub slots_step : {S : Type 0} → SlotModel S → Call → ℕ → World → List S → List S × List ℕ
-slots_step m calls.ModeStart now world slots = (if m.persist then slots else slice_set slots 0 (m.first 0), [])
-slots_step m calls.ModeStop now world slots = (slots, [])
-slots_step m calls.Fire now world slots = (slots, [])
-slots_step m (calls.Act act) now world slots =
-    step_in_use (λ slot. m.step act now (current m world slot)) slots (slot_in_use m.persist world)
-
--- the lists of a block
-abbrev pub updated : ℕ
-updated = 0
-
-abbrev pub hit : ℕ
-hit = 1
-
-abbrev pub complete : ℕ
-complete = 2
+slots_step m = calm_step (of_slots m)

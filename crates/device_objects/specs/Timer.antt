@@ -1,10 +1,13 @@
 -- A timer.
-use Rattle.std.specs.Prelude.{ℕ, ◌+◌, pos, ◌+ℤ◌, ◌-ℤ◌, Bool, ◌&&◌, is_some, if◌then◌else◌, None, Some, List, [], ◌∷◌}
+use Rattle.std.specs.Prelude.{ℕ, ◌+◌, pos, ◌+ℤ◌, ◌-ℤ◌, Bool, ◌&&◌, is_some, if◌then◌else◌, Option, None, Some, List, [], ◌∷◌}
 use Rattle.plan_tables.specs.declared.devices.Act.{Act}
 use Rattle.plan_tables.specs.declared.devices.Act.TheVariants as acts
 use Rattle.machine_settings.specs.{declared.settings.TimerSettings.TimerSettings, Ends.is_at_end}
-use Rattle.device_objects.specs.{declared.{device.Call.Call, state.TimerState.TimerState}, Values.{clamped, moved}}
+use Rattle.device_objects.specs.declared.{device.Call.Call, state.{TimerState.TimerState, DeviceState.DeviceState}}
+use Rattle.device_objects.specs.{Values.{clamped, moved}, Outcomes.{only_if, silent}}
 use Rattle.device_objects.specs.declared.device.Call.TheVariants as calls
+use Rattle.device_objects.specs.declared.state.DeviceState.TheVariants as states
+use Rattle.device_objects.specs.KindModel.{Kind, Moments, in_states, of_one_part}
 
 -- the lists of a timer
 abbrev pub started : ℕ
@@ -73,3 +76,50 @@ timer_step t calls.ModeStart now s =
 timer_step t calls.ModeStop now s = (halt s, [])
 timer_step t calls.Fire now s = ticked t now (record s { value = moved t.direction (pos 1) s.value })
 timer_step t (calls.Act act) now s = act_step t act now s
+
+-- ---- timers
+
+-- a timer that completes
+abbrev pub timer_completing : TimerSettings → List ℕ
+timer_completing t = if t.restart then complete ∷ started ∷ [] else complete ∷ []
+
+-- the value moves by any number
+abbrev pub of_change : TimerSettings → List (List ℕ)
+of_change t = [] ∷ only_if (is_some t.end) (timer_completing t ∷ [])
+
+abbrev pub of_timer_act : TimerSettings → Act → List (List ℕ)
+of_timer_act t acts.Start = [] ∷ (started ∷ []) ∷ []
+of_timer_act t acts.Stop = [] ∷ (stopped ∷ []) ∷ []
+of_timer_act t acts.Pause = [] ∷ (paused ∷ []) ∷ []
+of_timer_act t acts.Restart = (started ∷ []) ∷ []
+of_timer_act t (acts.Add n) = of_change t
+of_timer_act t (acts.Subtract n) = of_change t
+of_timer_act t (acts.Jump n) = [] ∷ only_if (is_at_end t.direction t.end (clamped n)) (timer_completing t ∷ [])
+of_timer_act t _ = silent
+
+abbrev pub of_timer : TimerSettings → Call → List (List ℕ)
+of_timer t calls.ModeStart = (if t.start_running then started ∷ [] else []) ∷ []
+of_timer t calls.ModeStop = silent
+of_timer t calls.Fire = (tick ∷ []) ∷ only_if (is_some t.end) ((tick ∷ timer_completing t) ∷ [])
+of_timer t (calls.Act act) = of_timer_act t act
+
+-- a timer has just one part
+abbrev pub moments : TimerState → Moments
+moments s = of_one_part s.due
+
+abbrev pub timer : TimerSettings → Kind TimerState
+timer t = record {
+  first = first_state t;
+  IsShaped = λ s. Unit {0};
+  step = λ call now world. timer_step t call now;
+  outcomes = of_timer t;
+  fire_part = λ k now. timer_step t calls.Fire now;
+}
+
+-- what a state holds, if it is one of a timer
+abbrev pub timer_state : DeviceState → Option TimerState
+timer_state (states.Timer s) = Some s
+timer_state _ = None
+
+abbrev pub timers : TimerSettings → Kind DeviceState
+timers t = in_states states.Timer timer_state (timer t)

@@ -5,6 +5,7 @@ ghost use Rattle.device_objects.specs.Laws.{AnswersAreOutcomes, ArmsLaterMoments
 /// The first state of a device has the shape of its row, and each step leaves it so.
 ///
 /// It does nothing: its contract is the law, over all steps.
+#[tactic(auto, using(crate::proofs::Lawful::states_keep_their_shape))]
 pub fn states_keep_their_shape()
     ensures { StatesKeepTheirShape }
 {}
@@ -12,6 +13,7 @@ pub fn states_keep_their_shape()
 /// Whatever its state, a device answers one of the call's outcomes.
 ///
 /// It does nothing: its contract is the law, over all steps.
+#[tactic(auto, using(crate::proofs::Lawful::answers_are_outcomes))]
 pub fn answers_are_outcomes()
     ensures { AnswersAreOutcomes }
 {}
@@ -19,6 +21,7 @@ pub fn answers_are_outcomes()
 /// Each outcome of a call is the answer of some state, if the settings are within their limits.
 ///
 /// It does nothing: its contract is the law, over all outcomes.
+#[tactic(auto, using(crate::proofs::Lawful::outcomes_come_about))]
 pub fn outcomes_come_about()
     ensures { OutcomesComeAbout }
 {}
@@ -26,6 +29,7 @@ pub fn outcomes_come_about()
 /// Every list that a device answers is one of its row.
 ///
 /// It does nothing: its contract is the law, over all outcomes.
+#[tactic(auto, using(crate::proofs::Lawful::outcomes_of_row))]
 pub fn outcomes_are_of_the_row()
     ensures { OutcomesAreOfTheRow }
 {}
@@ -34,6 +38,7 @@ pub fn outcomes_are_of_the_row()
 /// parts: the ball switches of a ball device, and its attempt to eject a ball.
 ///
 /// It does nothing: its contract is the law, over all states.
+#[tactic(auto, using(crate::proofs::Lawful::devices_are_due_with_their_parts))]
 pub fn devices_are_due_with_their_parts()
     ensures { DevicesAreDueWithTheirParts }
 {}
@@ -42,6 +47,7 @@ pub fn devices_are_due_with_their_parts()
 /// were due is done: it is due later, or not at all.
 ///
 /// It does nothing: its contract is the law, over all steps.
+#[tactic(auto, using(crate::proofs::Lawful::arms_later_moments))]
 pub fn arms_later_moments()
     ensures { ArmsLaterMoments }
 {}
@@ -51,6 +57,7 @@ pub fn arms_later_moments()
 /// and then the attempt to eject a ball, which is part 16.
 ///
 /// It does nothing: its contract is the law, over all steps.
+#[tactic(auto, using(crate::proofs::Lawful::first_parts_fire))]
 pub fn first_parts_fire()
     ensures { FirstPartsFire }
 {}
@@ -58,6 +65,7 @@ pub fn first_parts_fire()
 /// Nothing of a device is due at first, and nothing after its mode has stopped.
 ///
 /// It does nothing: its contract is the law, over all steps.
+#[tactic(auto, using(crate::proofs::Lawful::nothing_is_due))]
 pub fn nothing_is_due()
     ensures { NothingIsDue }
 {}

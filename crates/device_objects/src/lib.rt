@@ -1,24 +1,31 @@
 //! The interface of devices, their states, and what each call does.
 #![tactic(auto)]
 
+mod accrual;
 pub mod answers;
+mod autofire;
+mod ball_device;
+mod ball_save;
 pub mod bank;
 pub mod boxed;
+mod counter;
 pub mod device;
-pub mod first;
 pub mod flags;
+mod flipper;
+pub mod kinds;
 pub mod law;
+mod multiball;
 pub mod outcome;
 pub mod same;
-pub mod shape;
+mod sequence;
 pub mod state;
+mod timer;
 pub mod values;
 
-pub use answers::{Outcomes, outcomes};
+pub use answers::Outcomes;
 pub use device::{Call, Device, Outcome};
-pub use first::first_state;
-pub use same::{is_same_row, is_same_state};
-pub use shape::has_shape;
+pub use kinds::{first_state, has_shape, is_same_state, outcomes};
+pub use same::is_same_row;
 pub use state::{
     AccrualSlot, Attempt, AutofireState, BallState, BallSwitch, BankSlot, CounterSlot, DeviceState,
     Eject, FlipperState, GREATEST_ATTEMPT, MultiballState, SaveState, SequenceSlot, TimerState,

@@ -1,7 +1,7 @@
 //! The lists that blocks answer.
 
 ghost use Rattle.std.specs.Prelude.{◌≡◌, [], ◌∷◌, if◌then◌else◌};
-ghost use Rattle.device_objects.specs.Slots.{updated, hit, complete};
+ghost use Rattle.device_objects.specs.Blocks.{updated, hit, complete};
 
 use device_objects::Outcome;
 use device_objects::outcome::one_list;

@@ -4,7 +4,7 @@ use Rattle.std.{specs.Prelude.slice_get, proofs.lemmas.{Bool.cases_lt, List.{get
 use Rattle.std.proofs.lemmas.Option.{slice_get-get_or, slice_get_within, same_Some}
 use Rattle.plan_tables.specs.{PlanView.{PlanView, no_row, row_at}, declared.devices.DeviceRow.DeviceRow}
 use Rattle.device_objects.specs.{declared.state.DeviceState.DeviceState, DeviceStep.{due_of, first_state}}
-use Rattle.device_objects.proofs.Moments.{first-quiet}
+use Rattle.device_objects.proofs.Lawful.{nothing_is_due}
 use Rattle.machine_core.specs.Fit.{IsRight, IsFit, IsFirstWrong}
 
 -- lists with the same items are the same
@@ -91,4 +91,4 @@ module _ {A : Type 0} (row : A → DeviceRow) (state : A → DeviceState) (plan 
 -- at first no device is due
 pub first-dues : (rows : List DeviceRow) → map due_of (map (λ (r : DeviceRow). first_state r.settings) rows) ≡ replicate (length rows) None
 first-dues [] = refl
-first-dues (r ∷ rows) = λ i. first-quiet r.settings i ∷ first-dues rows i
+first-dues (r ∷ rows) = λ i. nothing_is_due.first r.settings i ∷ first-dues rows i

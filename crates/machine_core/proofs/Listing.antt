@@ -5,8 +5,8 @@ use Rattle.std.proofs.lemmas.{Bool.and_parts, List.{drop_all, drop_more, Element
 use Rattle.plan_tables.specs.{PlanView.{PlanView, is_owner, row_at, row_numbers}, Devices.list_count}
 use Rattle.plan_tables.specs.declared.{entries.ModeId.ModeId, devices.RowId.RowId}
 use Rattle.plan_tables.specs.declared.entries.Owner.TheVariants as owners
-use Rattle.device_objects.specs.{declared.device.Call.Call, Laws.MayCome, Outcomes.outcomes}
-use Rattle.device_objects.proofs.{Answered.answers_are_outcomes, Lists.outcomes_of_row}
+use Rattle.device_objects.specs.{declared.device.Call.Call, Laws.MayCome, DeviceStep.outcomes}
+use Rattle.device_objects.proofs.Lawful.{answers_are_outcomes, outcomes_of_row}
 use Rattle.cascade_rank.proofs.Rows.{length-rows, row_of}
 use Rattle.written_machine.specs.{Devices.HasDevices, Machine.{Machine, world_of, device_at, called, call_device}}
 use Rattle.machine_core.{specs.Core.{CoreView, CanCall, after}, proofs.Going.{goes-can, goes-call}}

@@ -1,7 +1,7 @@
 -- A device is taken out, and steps are as without exchanges.
 use Rattle.std.proofs.Common.{rules, ◌≡◌, ℕ, ◌<◌, List, [], ◌∷◌, length, ap, sym, ◌∙◌, subst}
 use Rattle.plan_tables.specs.{PlanView.{PlanView, row_at}, declared.devices.{DeviceRow.DeviceRow, RowId.RowId}}
-use Rattle.device_objects.{specs.declared.state.DeviceState.DeviceState, proofs.Moments.stopped-quiet}
+use Rattle.device_objects.{specs.declared.state.DeviceState.DeviceState, proofs.Lawful.nothing_is_due}
 use Rattle.written_machine.specs.{declared.line.Line.Line, CheckedView.CheckedView, Machine.{device_at, world_of}}
 use Rattle.coil_driver.specs.Driver.{DriverView}
 use Rattle.machine_core.specs.{Core.CoreView, Stopping.stopped_state}
@@ -21,7 +21,7 @@ module _ (checked : CheckedView) (core : CoreView) (driver : DriverView) (shown 
   pub taken-out : (last : DeviceRow) (stopped : DeviceState) → last ≡ row_at core.plan number
       → stopped ≡ stopped_state core.machine.moment (world_of core.machine) (row_at core.plan number) (device_at core.machine number)
       → IsTakenOut (rig_of checked core driver shown) number last stopped
-  taken-out last stopped row_is state_is = search (rules, stopped-quiet)
+  taken-out last stopped row_is state_is = search (rules, nothing_is_due)
 
 -- exchanges leave the rig as it is
 pub calls-steps : (calls : List RigCall) (old : RigView) (trace : List Line) (new : RigView) → AreCalls calls old trace new → AreSteps (inputs_of calls) old trace new

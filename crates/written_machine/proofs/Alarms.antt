@@ -8,8 +8,7 @@ use Rattle.plan_tables.specs.declared.{entries.SwitchId.SwitchId, devices.{RowId
 use Rattle.device_objects.specs.{declared.{device.Call.Call, state.DeviceState.DeviceState}, Laws.IsDone}
 use Rattle.device_objects.specs.declared.device.Call.TheVariants as calls
 use Rattle.device_objects.specs.DeviceStep as devices
-use Rattle.device_objects.proofs.{Shapes.states_keep_their_shape, Lists.lists_are_of_the_row}
-use Rattle.device_objects.proofs.Moments.{arms-later, fired-done, first-quiet, devices_are_due_with_their_parts}
+use Rattle.device_objects.proofs.Lawful.{arms_later_moments, devices_are_due_with_their_parts, lists_are_of_the_row, nothing_is_due, states_keep_their_shape}
 use Rattle.switch_core.{specs.SwitchStep.idle, proofs.DueMoments.{changes_arm_later, accept-due, accept-done}}
 use Rattle.switch_core.specs.Switches.{SwitchesView, IsComplete, due_of, after_change, reported_by_change, accept, reported}
 use Rattle.written_machine.specs.{declared.line.Line.Line, AlarmsEnd.IsPartDone}
@@ -17,7 +16,7 @@ use Rattle.written_machine.specs.Machine.{Machine, set_switches, set_device, wor
 use Rattle.written_machine.specs.{Devices.HasDevices, EventStep.{taken, EventStep, EventSteps}, PlanOrder.settled}
 use Rattle.written_machine.specs.Run.{Source, switch, device, source_due, part_due, IsNothingLate, IsNextAlarm, Stimulus, SwitchChange, Alarm, Wait, moment_of, IsAllowed, arrived, begin, IsRun}
 use Rattle.cascade_rank.specs.Cost.{Cost}
-use Rattle.written_machine.specs.Moves.{Move, do_move, Does, TakesPart, Begins, IsMachine, ordinary, working, MayWork}
+use Rattle.written_machine.specs.Moves.{Move, Turned, do_move, Does, TakesPart, Begins, IsMachine, ordinary, working, MayWork}
 use Rattle.written_machine.proofs.Does.{start-by, stop-by, book-by, does-keeps, due-row, off-has_coils, HasStates, moment-move, moment-does, has_states-does, switches-does}
 use Rattle.written_machine.proofs.Parts.{does-answer, does-call, does-accepted, does-if_accepted, does-begin, does-before, does-after}
 use Rattle.written_machine.proofs.{Keeps.{step-keeps, steps-keep, run-keeps}, PlanSteps.plan_steps-event_steps}
@@ -54,10 +53,11 @@ module _ (plan : PlanView) where
         new = slice_set s.devices r.0 (called plan call r s).0
 
         at : devices.part_due (device_state new r) k ≡ Some due → (devices.part_due (device_at s r) k ≡ Some due) ⊎ (s.moment < due)
-        at here = search (rules, turned-at, arms-later, limits, none-some)
+        at here = search (rules, turned-at, arms_later_moments, limits, none-some)
 
     later-move : (x : Move) (s : Machine) → IsLater s (do_move plan x s)
-    later-move x s = search (rules, start-by, stop-by, later-turned, book-by)
+    later-move (Turned call r) s = later-turned call r s
+    later-move x s = search (rules, start-by, stop-by, book-by)
 
     later-then : (s m t : Machine) → m.moment ≡ s.moment → IsLater s m → IsLater m t → IsLater s t
     later-then s m t here one next r k due is = search rules
@@ -140,10 +140,13 @@ module _ (plan : PlanView) where
   first_at r there = get_or-map (λ (row : DeviceRow). devices.first_state row.settings) plan.rows r.0 no_row (devices.first_state no_row.settings) there
 
   pub initial-devices : HasDevices plan (initial plan).devices
-  initial-devices = search (rules, length-map, first_at, states_keep_their_shape)
+  initial-devices = record {
+    count = search (rules, length-map);
+    shapes = λ r there. rw (first_at r there) (states_keep_their_shape.first (row_at plan r).settings);
+  }
 
   pub initial-quiet : (r : RowId) → devices.due_of (device_at (initial plan) r) ≡ None
-  initial-quiet r = search (rules, cases_lt, first_at, first-quiet, get_or_past, length-map)
+  initial-quiet r = search (rules, cases_lt, first_at, nothing_is_due, get_or_past, length-map)
 
 -- ---- what stimuli leave due
 
@@ -218,7 +221,7 @@ module _ (plan : PlanView) (valid : IsValid plan) where
       let fires = called plan calls.Fire r (arrived at s) in
       let fired = set_device r fires.0 (arrived at s) in
       let there = due-row plan s r at has is in
-      let done = if_some (λ (d : ℕ). IsDone at d state fires.0) (devices.due_of state) at (fired-done (row_at plan r).settings at (world_of s) state (limits plan valid r) (has.shapes r there)) is in
+      let done = if_some (λ (d : ℕ). IsDone at d state fires.0) (devices.due_of state) at (arms_later_moments.fired (row_at plan r).settings at (world_of s) state (limits plan valid r) (has.shapes r there)) is in
       let within : r.0 < length s.devices = let count = has.count in omega (arith, there, count) in
       let next : device_at fired r ≡ fires.0 = get_or-set_same s.devices r.0 fires.0 (devices.first_state no_row.settings) within in
       let answers = does-answer plan (λ owner. Unit {0}) ⊥ tt r (λ own. tt) fires.1 (lists_are_of_the_row (row_at plan r).settings calls.Fire at (world_of s) state) fired in

@@ -19,7 +19,7 @@ use Rattle.cascade_rank.proofs.Rows.{rows-within}
 use Rattle.device_objects.specs.declared.{device.Call.Call, state.{BallState.BallState, DeviceState.DeviceState}}
 use Rattle.device_objects.specs.declared.device.Call.TheVariants as calls
 use Rattle.device_objects.specs.declared.state.DeviceState.TheVariants as states
-use Rattle.device_objects.specs.{BallDevice.{is_away, ball_step}, DeviceStep.device_step, Laws.HasBallShape}
+use Rattle.device_objects.specs.{BallDevice.{is_away, ball_step, HasBallShape}, DeviceStep.device_step}
 use Rattle.device_objects.specs.BallDevice as lists
 use Rattle.device_objects.proofs.BallShapes.{ball_step-shape}
 use Rattle.player_game.specs.GameStep.{is_ball_on}

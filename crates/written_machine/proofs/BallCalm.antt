@@ -15,7 +15,7 @@ use Rattle.ball_devices.specs.Bookings.{LedgerCall, MayBook, after_call, booked,
 use Rattle.cascade_rank.proofs.Rows.{length-rows}
 use Rattle.device_objects.specs.declared.state.{BallState.BallState, DeviceState.DeviceState}
 use Rattle.device_objects.specs.declared.state.DeviceState.TheVariants as states
-use Rattle.device_objects.specs.{BallDevice.is_away, DeviceStep.first_state, Laws.HasBallShape}
+use Rattle.device_objects.specs.{BallDevice.{is_away, HasBallShape}, DeviceStep.first_state}
 use Rattle.written_machine.specs.declared.line.Happening.TheVariants as lines
 use Rattle.written_machine.specs.Machine.{Machine, write, set_ledger, counts_of, book, device_state, device_at, is_device_away}
 use Rattle.written_machine.proofs.{BallSteps.balls_in, BallPlays.{IsOther, one_row}}

@@ -23,7 +23,7 @@ use Rattle.cascade_rank.proofs.Rows.{rows-within}
 use Rattle.coil_guard.specs.declared.command.{Answer.Answer, Command.Command}
 use Rattle.coil_guard.specs.declared.command.Command.TheVariants as commands
 use Rattle.coil_guard.specs.{Asked.{after_asking, answer_asking}, CoilStep.is_held_by, Coils.coil_at}
-use Rattle.device_objects.proofs.Lists.{lists_are_of_the_row}
+use Rattle.device_objects.proofs.Lawful.{lists_are_of_the_row}
 use Rattle.device_objects.specs.declared.{device.Call.Call, state.DeviceState.DeviceState}
 use Rattle.device_objects.specs.declared.device.Call.TheVariants as calls
 use Rattle.event_queue.specs.{declared.queue.Posted.Posted, Handlers.{runs_at, handlers, IsHandlerOrder}}

@@ -1,5 +1,5 @@
 -- A mode's own five events come in turn: which of them wait, by its phase.
-use Rattle.std.proofs.Common.{◌≡◌, true, false, ◌==◌, cond, List, [], ◌∷◌, ◌++◌, refl, rules}
+use Rattle.std.proofs.Common.{◌≡◌, true, ◌==◌, cond, List, [], ◌∷◌, ◌++◌, refl, rules}
 use Rattle.plan_tables.specs.PlanView.{PlanView, work_of}
 use Rattle.plan_tables.specs.declared.entries.{ModeId.ModeId, ModeEvent.ModeEvent, Work.{Work, TheVariants.Mode}}
 use Rattle.plan_tables.specs.declared.entries.ModeEvent.TheVariants.{WillStart, Starting, Started, Stopping, Stopped}
@@ -62,9 +62,6 @@ turn-stopped p q again = first
 
 pub stopping-runs : (p : Phase) (q : List ModeEvent) → IsTurn p (Stopping ∷ q) → is_running p ≡ true
 stopping-runs p q stops = refl
-
-pub stopped-quiet : (p : Phase) (q : List ModeEvent) → IsTurn p (Stopped ∷ q) → is_running p ≡ false
-stopped-quiet p q x1 = search rules
 
 -- an event that is not the last of a mode's
 abbrev pub IsNoEnd : ModeEvent → Type 0

@@ -11,7 +11,7 @@ use Rattle.plan_tables.specs.declared.entries.{Owner.Owner, CoilId.CoilId, Varia
 use Rattle.plan_tables.specs.declared.entries.Owner.TheVariants as owners
 use Rattle.device_objects.specs.declared.{device.Call.Call, state.DeviceState.DeviceState}
 use Rattle.device_objects.specs.{DeviceStep.{due_of, first_state}, Laws.HasShape}
-use Rattle.device_objects.proofs.Shapes.{states_keep_their_shape}
+use Rattle.device_objects.proofs.Lawful.{states_keep_their_shape}
 use Rattle.mode_stack.specs.{declared.phase.ModeState.ModeState, Modes.{needs_game, mode_state}}
 use Rattle.mode_stack.specs.ModeStep.{starts, started, stopped, stop_answer}
 use Rattle.player_game.{specs.GameStep.{GameState, held_if, released, more_balls}, proofs.StayFew.players_stay_few}
@@ -254,7 +254,8 @@ module _ (plan : PlanView) where
   due-row s r due has is = search (rules, cases_lt, none-some, get_or_past)
 
   pub has_devices-move : (x : Move) (s : Machine) → HasDevices plan s.devices → HasDevices plan (do_move plan x s).devices
-  has_devices-move x s h = search (rules, start-by, stop-by, turned-has_devices, book-by)
+  has_devices-move (Turned call r) s h = turned-has_devices call r s h
+  has_devices-move x s h = search (rules, start-by, stop-by, book-by)
 
   module _ {may : Move → Type 0} {c : Cost} {s t : Machine} where
     pub has_devices-does : Does plan may c s t → HasDevices plan s.devices → HasDevices plan t.devices

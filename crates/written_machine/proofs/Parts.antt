@@ -22,7 +22,7 @@ use Rattle.ball_devices.specs.{declared.booking.Origin.{Origin, TheVariants.Awai
 use Rattle.ball_devices.specs.Bookings as calls_of_ledger
 use Rattle.coil_guard.specs.declared.command.Command.TheVariants as commands
 use Rattle.coil_guard.specs.{CoilStep.is_held_by, Coils.coil_at}
-use Rattle.device_objects.{proofs.Lists.lists_are_of_the_row, specs.declared.device.Call.Call}
+use Rattle.device_objects.{proofs.Lawful.lists_are_of_the_row, specs.declared.device.Call.Call}
 use Rattle.device_objects.specs.declared.device.Call.TheVariants as calls
 use Rattle.plan_tables.proofs.{Owners.is_owner-same, Worked.work_found}
 use Rattle.switch_core.specs.{declared.change.Change.Change, SwitchStep.{changed, fired}}

@@ -25,7 +25,7 @@ use Rattle.player_game.specs.{Players.most_players, Choices.{choices, tells_scor
 use Rattle.player_game.specs.GameStep.{GameStep, game_step, in_play}
 use Rattle.player_game.proofs.{StayFew.players_stay_few, DrainEvent.drain-is}
 use Rattle.device_objects.specs.declared.{device.Call.Call, state.DeviceState.DeviceState}
-use Rattle.device_objects.{specs.{Outcomes.outcomes, Laws.MayCome}, proofs.Answered.answers_are_outcomes}
+use Rattle.device_objects.{specs.{DeviceStep.outcomes, Laws.MayCome}, proofs.Lawful.answers_are_outcomes}
 use Rattle.device_objects.specs.declared.device.Call.TheVariants as calls
 use Rattle.mode_stack.specs.{ModeStep.entered, Modes.mode_state}
 use Rattle.cascade_rank.specs.Cost.{Cost, Lines, Greater, price_at, each_of, dearest_of, cost_of_acceptance, cost_of_action_by, cost_of_list_by, cost_of_answer_by, cost_of_call_by, cost_of_nobody, cost_of_told, cost_of_telling, cost_of_arrival, cost_of_scores, cost_of_devices, cost_of_drain, cost_of_list, cost_of_call, cost_of_choice, cost_of_trough, cost_of_request, cost_of_playfield_switch, cost_of_game, cost_of_listener, cost_of_releases, cost_of_target, cost_of_starts, cost_of_stops, led_by, cost_if_led}

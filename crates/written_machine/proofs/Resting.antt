@@ -8,7 +8,7 @@ use Rattle.plan_tables.specs.declared.{entries.{ModeId.ModeId, Owner.Owner, Coil
 use Rattle.plan_tables.specs.declared.entries.Owner.TheVariants as owners
 use Rattle.device_objects.specs.declared.{device.Call.Call, state.DeviceState.DeviceState}
 use Rattle.device_objects.specs.declared.device.Call.TheVariants as calls
-use Rattle.device_objects.{specs.DeviceStep.{due_of, first_state}, proofs.Moments.stopped-quiet}
+use Rattle.device_objects.{specs.DeviceStep.{due_of, first_state}, proofs.Lawful.nothing_is_due}
 use Rattle.mode_stack.{specs.Modes.{needs_game, running_of}, proofs.WhoRuns.starting_keeps_who_runs}
 use Rattle.event_queue.specs.Handlers.{takes_part}
 use Rattle.written_machine.{specs.Devices.{HasDevices, ActsAreOwn}, proofs.Inactive.{is_on, stopped-off}}
@@ -47,7 +47,7 @@ module _ (plan : PlanView) where
             let count : r.0 < length s.devices = let is = has.count in omega (arith, within, is) in
             subst (λ (n : ℕ). IsQuietState (device_state (slice_set s.devices r.0 (called plan calls.ModeStop r s).0) (record { 0 = n }))) (sym same)
             (subst IsQuietState (sym (get_or-set_same s.devices r.0 (called plan calls.ModeStop r s).0 (first_state no_row.settings) count)) (
-              stopped-quiet (row_at plan r).settings s.moment (world_of s) (device_at s r) (has.shapes r within),
+              nothing_is_due.stopped (row_at plan r).settings s.moment (world_of s) (device_at s r) (has.shapes r within),
               stopped-off (row_at plan r).settings s.moment (world_of s) (device_at s r) (has.shapes r within),
             ))
         | inr other ↦

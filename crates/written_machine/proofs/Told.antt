@@ -13,8 +13,7 @@ use Rattle.plan_tables.specs.declared.entries.Action.TheVariants.{Post, Pulse, E
 use Rattle.device_objects.specs.declared.state.{World.World, BallState.BallState, DeviceState.DeviceState}
 use Rattle.device_objects.specs.declared.device.Call.TheVariants as calls
 use Rattle.device_objects.specs.declared.state.Eject.{Eject, TheVariants.{Idle, Pulsing, Away}}
-use Rattle.device_objects.specs.BallDevice.{begin, confirm, confirmed, ended}
-use Rattle.device_objects.specs.DeviceStep.{ball_answer, ball_state, device_step, of_kind}
+use Rattle.device_objects.specs.{BallDevice.{begin, confirm, confirmed, ended}, DeviceStep.device_step}
 use Rattle.device_objects.specs.BallDevice as lists
 use Rattle.written_machine.specs.Machine.{Machine, all_do, call_device_by, called, device_at, do_action_by, do_answer_by, do_list_by, set_device, tell_nobody, told_device, world_of}
 use Rattle.written_machine.proofs.{BallCalm.feeder, Feeding.{first_away-is, first_trough-is}}
@@ -111,11 +110,7 @@ module _ (plan : PlanView) where
 
       told-untold : (telling : Telling) (world : World) (state : DeviceState)
           → All (AreUntold r) (device_step (kinds.BallDevice d) (calls.Act (act_told telling)) now world state).1
-      told-untold telling world state = by (ball_state state)
-        where
-          by : (o : Option BallState) → All (AreUntold r) (of_kind ball_answer (lists.ball_step d (calls.Act (act_told telling)) now) state o).1
-          by None = All-nil (AreUntold r)
-          by (Some b) = step-untold telling b
+      told-untold telling world state = search (rules, All-nil, step-untold)
 
   -- ---- the device that is told
 

@@ -1,7 +1,7 @@
 use Rattle.std.{proofs.Common.{◌≡◌, ℕ, ◌<◌, List, map, sym, ap, ◌∙◌, subst, take_all}, specs.List.All}
 use Rattle.arrayvec.specs.ArrayVec.{ArrayVec}
 use Rattle.plan_tables.specs.{PlanView.row_at, Devices.list_count}
-use Rattle.device_objects.specs.Outcomes.{outcomes}
+use Rattle.device_objects.specs.DeviceStep.{outcomes}
 use Rattle.cascade_rank.specs.Cost.{Cost, dearest_of, cost_of_answer_by}
 use Rattle.cascade_rank.proofs.{Alike.dearest_more, Outcomes.{outcomes-read, answer-within, answers-cost}}
 use Rattle.cascade_rank.proofs.costs.measure_answers.Goals as goal

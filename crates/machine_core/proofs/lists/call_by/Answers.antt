@@ -1,6 +1,6 @@
 use Rattle.std.{proofs.Common.{rules, ◌<◌, length, sym, ◌∙◌, subst}, specs.List.All}
 use Rattle.plan_tables.specs.{PlanView.row_at, Devices.list_count}
-use Rattle.machine_core.{specs.Core.CoreView, proofs.{Going.{goes-can, goes-turn}, Listing.answer-lists}}
+use Rattle.machine_core.{specs.Core.{CoreView, CanCall}, proofs.{Going.{goes-can, goes-turn}, Listing.answer-lists}}
 use Rattle.machine_core.proofs.lists.call_by.Goals as goal
 
 pub lists_by-requires-clause-row : goal.lists_by-requires-clause-row
@@ -9,13 +9,13 @@ lists_by-requires-clause-row g c = subst (λ (v : CoreView). c.args.row.0 < leng
 pub lists_by-requires-clause-lists : goal.lists_by-requires-clause-lists
 lists_by-requires-clause-lists g c =
     let core = c.args.core.now in
-    let r = c.args.row in
     let is = c.deref.ensures.0 ∙ c.call-lists.ensures.lists in
-    subst (λ (v : CoreView). All (λ k. k < list_count (row_at v.plan r).settings) c.deref.result.now) (sym c.call-lists.ensures.called)
-    (subst (All (λ k. k < list_count (row_at core.plan r).settings)) (sym is) (answer-lists core.plan c.args.call r core.machine c.requires.row c.requires.calls.devices c.requires.may))
+    subst (λ (v : CoreView). All (λ k. k < list_count (row_at v.plan c.args.row).settings) c.deref.result.now) (sym c.call-lists.ensures.called)
+    (subst (All (λ k. k < list_count (row_at core.plan c.args.row).settings)) (sym is) (answer-lists core.plan c.args.call c.args.row core.machine c.requires.row c.requires.calls.devices c.requires.may))
 
 pub lists_by-requires-clause-calls : goal.lists_by-requires-clause-calls
-lists_by-requires-clause-calls g c = search (rules, goes-can, goes-turn)
+lists_by-requires-clause-calls g c = let core = c.args.core.now in subst CanCall (sym c.call-lists.ensures.called)
+    (goes-can core _ (goes-turn core.plan c.args.call c.args.row core.machine) c.requires.calls)
 
 pub lists_by-requires-clause-room : goal.lists_by-requires-clause-room
 lists_by-requires-clause-room g c = search rules

@@ -1,0 +1,83 @@
+-- Every kind is lawful, and so are devices.
+use Rattle.std.{proofs.Common.{rules, ◌≡◌, ℕ, ◌<◌, ◌≤◌, ◌⊎◌, None, Some, IfSome}, specs.List.All}
+use Rattle.plan_tables.specs.{declared.devices.Settings.Settings, Devices.{IsWithinLimits, list_count}}
+use Rattle.plan_tables.specs.declared.devices.Settings.TheVariants as kinds
+use Rattle.device_objects.specs.declared.{device.Call.Call, state.{DeviceState.DeviceState, World.World}}
+use Rattle.device_objects.specs.{Kinds.{kind_of, moments_of}, DeviceStep.{device_step, due_of, part_due}}
+use Rattle.device_objects.specs.Laws.{AnswersAreOutcomes, ArmsLaterMoments, DevicesAreDueWithTheirParts, FirstPartsFire, IsLawful, NothingIsDue, OutcomesAreOfTheRow, OutcomesComeAbout, StatesKeepTheirShape, StopsAreSilent}
+use Rattle.device_objects.proofs.{Counters.counters-lawful, Flippers.flippers-lawful}
+use Rattle.device_objects.proofs.{Accruals.accruals-lawful, Saves.ball_saves-lawful}
+use Rattle.device_objects.proofs.{Sequences.sequences-lawful, Multiballs.multiballs-lawful}
+use Rattle.device_objects.proofs.{Timers.timers-lawful, Banks.banks-lawful}
+use Rattle.device_objects.proofs.{Autofires.autofires-lawful, Balls.ball_devices-lawful}
+use Rattle.device_objects.proofs.BallMoments.{ball-parts_none, ball-parts_one, ball-parts_first}
+use Rattle.device_objects.specs.declared.state.DeviceState.TheVariants as states
+
+pub kinds_are_lawful : (settings : Settings)
+    → IsLawful (kind_of settings) moments_of (IsWithinLimits settings) (list_count settings)
+kinds_are_lawful (kinds.Counter c) = counters-lawful c
+kinds_are_lawful (kinds.Accrual a) = accruals-lawful a
+kinds_are_lawful (kinds.Sequence q) = sequences-lawful q
+kinds_are_lawful (kinds.Timer t) = timers-lawful t
+kinds_are_lawful (kinds.Bank b) = banks-lawful b
+kinds_are_lawful kinds.Flipper = flippers-lawful
+kinds_are_lawful kinds.Autofire = autofires-lawful
+kinds_are_lawful (kinds.BallDevice d) = ball_devices-lawful d
+kinds_are_lawful (kinds.BallSave b) = ball_saves-lawful b
+kinds_are_lawful (kinds.Multiball m) = multiballs-lawful m
+
+-- ---- what follows for devices
+
+pub states_keep_their_shape : StatesKeepTheirShape
+states_keep_their_shape = record { first = λ s. (kinds_are_lawful s).first; step = λ s. (kinds_are_lawful s).step }
+
+pub answers_are_outcomes : AnswersAreOutcomes
+answers_are_outcomes = λ s. (kinds_are_lawful s).answers
+
+pub outcomes_come_about : OutcomesComeAbout
+outcomes_come_about = λ s call within. (kinds_are_lawful s).comes within call
+
+pub outcomes_of_row : OutcomesAreOfTheRow
+outcomes_of_row = λ s. (kinds_are_lawful s).of_row
+
+pub lists_are_of_the_row : (settings : Settings) (call : Call) (now : ℕ) (world : World) (state : DeviceState)
+    → All (λ k. k < list_count settings) (device_step settings call now world state).1
+lists_are_of_the_row settings = (kinds_are_lawful settings).answers_of_row
+
+pub stops_are_silent : StopsAreSilent
+stops_are_silent = λ s. (kinds_are_lawful s).silent_stop
+
+pub arms_later_moments : ArmsLaterMoments
+arms_later_moments = record {
+  step = λ s call now world state within. (kinds_are_lawful s).arms within call now world state;
+  fired = λ s now world state within. (kinds_are_lawful s).done within now world state;
+}
+
+pub first_parts_fire : FirstPartsFire
+first_parts_fire = λ s. (kinds_are_lawful s).fires
+
+pub nothing_is_due : NothingIsDue
+nothing_is_due = record { first = λ s. (kinds_are_lawful s).quiet; stopped = λ s. (kinds_are_lawful s).stopped }
+
+-- ---- moments
+
+-- while a device is not due, none of its parts is; while it is, one is due at the same moment, and none before
+pub parts-none : (state : DeviceState) → due_of state ≡ None → (k : ℕ) → part_due state k ≡ None
+parts-none state is k = search (rules, ball-parts_none)
+
+pub parts-one : (state : DeviceState) → IfSome (due_of state) (λ due. (k : ℕ) × (part_due state k ≡ Some due))
+parts-one (states.Timer s) = search rules
+parts-one (states.BallDevice s) = ball-parts_one s
+parts-one (states.BallSave s) = search rules
+parts-one _ = tt
+
+pub parts-first : (state : DeviceState)
+    → IfSome (due_of state) (λ due. (k other : ℕ) → part_due state k ≡ Some other → due ≤ other)
+parts-first (states.Timer s) = search rules
+parts-first (states.BallDevice s) = ball-parts_first s
+parts-first (states.BallSave s) = search rules
+parts-first _ = tt
+
+pub devices_are_due_with_their_parts : DevicesAreDueWithTheirParts
+devices_are_due_with_their_parts =
+    record { none = parts-none; one = parts-one; first = parts-first; few = λ s. (kinds_are_lawful s).few }

@@ -1,1 +1,0 @@
--- How many balls a device is asked for does not change what it can answer.

@@ -1,5 +1,0 @@
-use Rattle.device_objects.proofs.Moments.{arms_later_moments}
-use Rattle.device_objects.proofs.law.arms_later_moments.Goals as goal
-
-pub returns : goal.returns
-returns c = arms_later_moments

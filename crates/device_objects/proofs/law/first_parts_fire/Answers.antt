@@ -1,5 +1,0 @@
-use Rattle.device_objects.proofs.Moments.{first_parts_fire}
-use Rattle.device_objects.proofs.law.first_parts_fire.Goals as goal
-
-pub returns : goal.returns
-returns c = first_parts_fire

@@ -1,5 +1,0 @@
-use Rattle.device_objects.proofs.Lists.{outcomes_of_row}
-use Rattle.device_objects.proofs.law.outcomes_are_of_the_row.Goals as goal
-
-pub returns : goal.returns
-returns c = outcomes_of_row

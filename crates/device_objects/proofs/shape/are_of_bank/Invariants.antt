@@ -1,6 +1,0 @@
-use Rattle.std.proofs.Common.{ℕ, ◌<◌, get_or}
-use Rattle.device_objects.specs.{Bank.first_slot, Laws.HasBankShape}
-use Rattle.device_objects.proofs.shape.are_of_bank.Given as goal
-
-abbrev pub invariant-loop-slot : goal.invariant-loop-slot
-invariant-loop-slot l = (k : ℕ) → k < l.slot-index → HasBankShape l.bank (get_or l.slots k (first_slot l.bank 0))
