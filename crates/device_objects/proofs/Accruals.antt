@@ -1,5 +1,5 @@
 -- Accruals are lawful.
-use Rattle.std.proofs.Common.{rules, ◌≡◌, ◌⊎◌, inl, ℕ, zero, suc, nat_lt, ◌<◌, ◌≤◌, Bool, true, false, ◌&&◌, Some, List, [], ◌∷◌, ◌++◌, length, replicate, take, slice_get, slice_set, if◌then◌else◌, refl, sym, ap, ◌∙◌, arith}
+use Rattle.std.proofs.Common.{rules, ◌≡◌, inl, ℕ, zero, suc, nat_lt, ◌<◌, ◌≤◌, Bool, true, false, ◌&&◌, Some, List, [], ◌∷◌, ◌++◌, length, replicate, take, slice_get, slice_set, refl, sym, ap, ◌∙◌, arith}
 use Rattle.std.{specs.List.{All, list_all}, proofs.lemmas.Bool.{and_from, and_parts, false≢true, ltb-true, true≢false}}
 use Rattle.std.proofs.lemmas.List.{length-set, set-set, take-replicate, Elements.{All-nil, All-cons, All-append}}
 use Rattle.plan_tables.specs.declared.devices.{Act.Act, Settings.TheVariants.Accrual}

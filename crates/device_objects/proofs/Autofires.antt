@@ -1,5 +1,5 @@
 -- Autofire coils are lawful.
-use Rattle.std.proofs.Common.{rules, ◌≡◌, ℕ, ◌==◌, ◌<◌, ◌≤◌, true, ◌&&◌, List, [], ◌∷◌, if◌then◌else◌, refl, arith}
+use Rattle.std.proofs.Common.{rules, ◌≡◌, ℕ, ◌==◌, true, List, [], ◌∷◌, refl}
 use Rattle.std.{specs.List.All, proofs.lemmas.List.Elements.{All-nil, All-cons, All-append}}
 use Rattle.plan_tables.specs.declared.devices.{Act.Act, Settings.TheVariants.Autofire}
 use Rattle.plan_tables.specs.Devices.{IsWithinLimits, list_count}
@@ -14,8 +14,8 @@ act-in : (act : Act) (s : AutofireState) → In (act_step act s).1 (of_autofire 
 act-in (acts.SwitchOn i) s = switch-in s.enabled i fires s s
 act-in _ s = here
 
-answered : (act : Act) (lists : List ℕ) (s : AutofireState) → (act_step act s).1 ≡ lists → IsActAnswer autofire act lists
-answered act lists s answers = record { now = 0; world = someone; state = s; shape = tt; may_come = tt; answer = answers }
+answered : (act : Act) (ls : List ℕ) (s : AutofireState) → (act_step act s).1 ≡ ls → IsActAnswer autofire act ls
+answered act ls s is = record { now = 0; world = someone; state = s; shape = tt; may_come = tt; answer = is }
 
 -- an autofire coil that is enabled
 abbrev enabled : AutofireState
@@ -29,7 +29,7 @@ come act = one (IsActAnswer autofire act) [] (answered act [] first_state refl)
 
 pub autofires-lawful : IsLawful autofires moments_of (IsWithinLimits Autofire) (list_count Autofire)
 autofires-lawful =
-    calm-lawful states.Autofire autofire_state autofire (IsWithinLimits Autofire) 1 (λ s. refl) (λ state s is. search rules)
-    (λ s. refl) tt (λ s shape. tt) (λ s shape. tt) (λ act now world s shape. tt) (λ act now world s shape. act-in act s)
+    calm-lawful states.Autofire autofire_state autofire (IsWithinLimits Autofire) 1 (λ s. refl)
+    (λ state s is. search rules) (λ s. refl) tt (λ s shape. tt) (λ s shape. tt) (λ act now world s shape. tt) (λ act now world s shape. act-in act s)
     (λ within. come) (λ act now world s. search rules) (λ act. search rules)
     (λ act. search (rules, All-nil, All-cons, All-append))

@@ -1,5 +1,5 @@
 -- Ball devices are lawful.
-use Rattle.std.proofs.Common.{rules, ◌≡◌, ℕ, ◌<◌, ◌≤◌, Bool, Option, List, [], if◌then◌else◌, refl, arith}
+use Rattle.std.proofs.Common.{rules, ℕ, ◌<◌, Bool, Option, List, [], if◌then◌else◌, refl}
 use Rattle.std.{specs.List.All, proofs.lemmas.List.Elements.{All-nil, All-cons, All-append}}
 use Rattle.plan_tables.specs.declared.devices.{Act.Act, BallSettings.BallSettings, Settings.TheVariants.BallDevice}
 use Rattle.plan_tables.specs.Devices.{IsWithinLimits, list_count}

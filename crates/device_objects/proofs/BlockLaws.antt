@@ -1,5 +1,5 @@
 -- Counters, accruals and sequences: what all of them answer.
-use Rattle.std.proofs.{Common.{rules, ◌≡◌, ◌⊎◌, inr, true, [], ◌∷◌, ◌++◌, refl, ◌∙◌}, lemmas.List.Elements.All-append}
+use Rattle.std.proofs.{Common.{rules, ◌≡◌, inr, true, [], ◌∷◌, refl, ◌∙◌}, lemmas.List.Elements.All-append}
 use Rattle.std.specs.List.{All}
 use Rattle.plan_tables.specs.declared.devices.Act.{Act}
 use Rattle.machine_settings.specs.declared.settings.BlockSettings.{BlockSettings}

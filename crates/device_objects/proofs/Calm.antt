@@ -29,7 +29,8 @@ module _ {S : Type 0} (state_of : S → DeviceState) (held : DeviceState → Opt
     (first : m.IsShaped m.first) (start : (s : S) → m.IsShaped s → m.IsShaped (m.start s))
     (stop : (s : S) → m.IsShaped s → m.IsShaped (m.stop s))
     (acts : (act : Act) (now : ℕ) (world : World) (s : S) → m.IsShaped s → m.IsShaped (m.act act now world s).0)
-    (answer : (act : Act) (now : ℕ) (world : World) (s : S) → m.IsShaped s → In (m.act act now world s).1 (m.answers act))
+    (answer : (act : Act) (now : ℕ) (world : World) (s : S) → m.IsShaped s
+    → In (m.act act now world s).1 (m.answers act))
     (comes : IsWithin → (act : Act) → All (IsActAnswer m act) (m.answers act))
     (below : (act : Act) (now : ℕ) (world : World) (s : S) → All (λ list. list < lists) (m.act act now world s).1)
     (of_row : (act : Act) → All (All (λ list. list < lists)) (m.answers act))

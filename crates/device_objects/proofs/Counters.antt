@@ -1,5 +1,5 @@
 -- Counters are lawful.
-use Rattle.std.proofs.Common.{rules, ◌≡◌, ◌⊎◌, inl, ℕ, ◌<◌, ◌≤◌, Bool, true, false, not, ◌&&◌, None, Some, List, [], ◌∷◌, is_some, ℤ, pos, refl, arith}
+use Rattle.std.proofs.Common.{rules, ◌≡◌, inl, ℕ, Bool, true, false, not, ◌&&◌, None, Some, List, [], ◌∷◌, is_some, ℤ, pos, refl}
 use Rattle.std.{specs.List.All, proofs.lemmas.List.Elements.{All-nil, All-cons, All-append}}
 use Rattle.plan_tables.specs.declared.devices.{Act.Act, Settings.TheVariants.Counter}
 use Rattle.plan_tables.specs.Devices.{IsWithinLimits, list_count}

@@ -1,5 +1,5 @@
 -- Flippers are lawful.
-use Rattle.std.proofs.Common.{rules, ◌≡◌, ℕ, ◌==◌, ◌<◌, ◌≤◌, true, false, ◌&&◌, List, [], ◌∷◌, if◌then◌else◌, refl, arith}
+use Rattle.std.proofs.Common.{rules, ◌≡◌, ℕ, ◌==◌, true, false, List, [], ◌∷◌, refl}
 use Rattle.std.{specs.List.All, proofs.lemmas.List.Elements.{All-nil, All-cons, All-append}}
 use Rattle.plan_tables.specs.declared.devices.{Act.Act, Settings.TheVariants.Flipper}
 use Rattle.plan_tables.specs.Devices.{IsWithinLimits, list_count}
@@ -18,8 +18,8 @@ act-in (acts.SwitchOn i) s = switch-in s.enabled i on (record s { on = true }) s
 act-in (acts.SwitchOff i) s = switch-in s.on i off (record s { on = false }) s
 act-in _ s = here
 
-answered : (act : Act) (lists : List ℕ) (s : FlipperState) → (act_step act s).1 ≡ lists → IsActAnswer flipper act lists
-answered act lists s answers = record { now = 0; world = someone; state = s; shape = tt; may_come = tt; answer = answers }
+answered : (act : Act) (ls : List ℕ) (s : FlipperState) → (act_step act s).1 ≡ ls → IsActAnswer flipper act ls
+answered act ls s is = record { now = 0; world = someone; state = s; shape = tt; may_come = tt; answer = is }
 
 -- a flipper that is enabled and on
 abbrev up : FlipperState

@@ -1,5 +1,5 @@
 -- A kind is lawful by the states of its devices, if it is by what they remember.
-use Rattle.std.proofs.Common.{rules, ◌≡◌, ℕ, ◌<◌, ◌≤◌, ◌⊎◌, inl, Option, None, Some, IsSomeAnd, IfSome, refl, sym, ap, subst}
+use Rattle.std.proofs.Common.{◌≡◌, ℕ, ◌<◌, ◌≤◌, ◌⊎◌, inl, Option, None, Some, IsSomeAnd, IfSome, refl, sym, ap, subst}
 use Rattle.std.{specs.List.{All, Contains}, proofs.lemmas.{List.Elements.{All-nil, All-weaker}, Option.IfSome_then}}
 use Rattle.device_objects.specs.declared.{device.Call.Call, state.{World.World, DeviceState.DeviceState}}
 use Rattle.device_objects.specs.declared.device.Call.TheVariants as calls
@@ -7,8 +7,8 @@ use Rattle.device_objects.specs.{Kinds.moments_of, KindModel.{Kind, Moments, in_
 use Rattle.device_objects.specs.Laws.{MayComeAt, IsAnswerOf, IsDoneIn, FiresFirstPartOf, IsLawful}
 
 -- the kind, its moments by what is remembered, and what a state holds
-module _ {S : Type 0} (state_of : S → DeviceState) (held : DeviceState → Option S) (kind : Kind S) (moments : S → Moments)
-    (IsWithin : Type 0) (lists : ℕ) (back : (s : S) → held (state_of s) ≡ Some s)
+module _ {S : Type 0} (state_of : S → DeviceState) (held : DeviceState → Option S) (kind : Kind S)
+    (moments : S → Moments) (IsWithin : Type 0) (lists : ℕ) (back : (s : S) → held (state_of s) ≡ Some s)
     (same : (state : DeviceState) (s : S) → held state ≡ Some s → state ≡ state_of s)
     (due : (s : S) → moments_of (state_of s) ≡ moments s) (laws : IsLawful kind moments IsWithin lists) where
   abbrev outer : Kind DeviceState
@@ -28,8 +28,8 @@ module _ {S : Type 0} (state_of : S → DeviceState) (held : DeviceState → Opt
   answered call now world state None = All-nil (λ list. list < lists)
   answered call now world state (Some s) = laws.answers_of_row call now world s
 
-  arms : IsWithin → (call : Call) (now : ℕ) (world : World) (state : DeviceState) (k t : ℕ) (o : Option S) → held state ≡ o
-      → (moments_of (in_state state_of (kind.step call now world) state o).0).part k ≡ Some t
+  arms : IsWithin → (call : Call) (now : ℕ) (world : World) (state : DeviceState) (k t : ℕ) (o : Option S)
+      → held state ≡ o → (moments_of (in_state state_of (kind.step call now world) state o).0).part k ≡ Some t
       → ((moments_of state).part k ≡ Some t) ⊎ (now < t)
   arms within call now world state k t None at is = inl is
   arms within call now world state k t (Some s) at is =
@@ -61,7 +61,8 @@ module _ {S : Type 0} (state_of : S → DeviceState) (held : DeviceState → Opt
     stopped = λ now world. on_held (λ state. (moments_of (outer.step calls.ModeStop now world state).0).due ≡ None)
         (λ s at. rw (back s) (rw (due (kind.step calls.ModeStop now world s).0) (laws.stopped now world s at)));
     arms = λ within call now world state k t is. arms within call now world state k t (held state) refl is;
-    fires = λ now world. on_held (λ state. IfSome (moments_of state).due (FiresFirstPartOf outer moments_of now world state))
+    fires = λ now world. on_held
+        (λ state. IfSome (moments_of state).due (FiresFirstPartOf outer moments_of now world state))
         (λ s at. rw (due s) (IfSome_then (moments s).due (laws.fires now world s at) (λ t f. record {
           part = f.part;
           first = rw (due s) f.first;
@@ -69,7 +70,8 @@ module _ {S : Type 0} (state_of : S → DeviceState) (held : DeviceState → Opt
         })));
     done = λ within now world. on_held (λ state. IfSome (moments_of state).due
         (λ t. IsDoneIn now t (moments_of state) (moments_of (outer.step calls.Fire now world state).0)))
-        (λ s at. rw (back s) (rw (due s) (rw (due (kind.step calls.Fire now world s).0) (laws.done within now world s at))));
+        (λ s at. rw (back s) (rw (due s) (rw (due (kind.step calls.Fire now world s).0)
+        (laws.done within now world s at))));
     few = λ state k. on_held (λ st. 17 ≤ k → (moments_of st).part k ≡ None)
         (λ s at past. rw (due s) (laws.few s k at past)) state;
   }

@@ -23,4 +23,3 @@ pub mod Balls
 pub mod Saves
 pub mod Multiballs
 pub mod Lawful
-pub mod Inactive

@@ -1,5 +1,5 @@
 -- Multiballs are lawful.
-use Rattle.std.proofs.Common.{rules, ◌≡◌, ℕ, ◌<◌, ◌≤◌, Bool, true, false, ◌&&◌, List, [], ◌∷◌, refl, arith}
+use Rattle.std.proofs.Common.{rules, ◌≡◌, ℕ, Bool, true, false, List, [], ◌∷◌, refl}
 use Rattle.std.{specs.List.All, proofs.lemmas.List.Elements.{All-nil, All-cons, All-append}}
 use Rattle.plan_tables.specs.declared.devices.{Act.Act, Settings.TheVariants.Multiball}
 use Rattle.plan_tables.specs.Devices.{IsWithinLimits, list_count}
@@ -18,10 +18,10 @@ act-in act world s = search (rules, here, there)
 abbrev in_play : World
 in_play = record { games = 0; player = 1; in_play = 1 }
 
-answered : (act : Act) (lists : List ℕ) (running : Bool) → (act_step act in_play (record { running = running })).1 ≡ lists
-    → IsActAnswer multiball act lists
-answered act lists running answers =
-    record { now = 0; world = in_play; state = record { running = running }; shape = tt; may_come = tt; answer = answers }
+answered : (act : Act) (ls : List ℕ) (b : Bool) → (act_step act in_play (record { running = b })).1 ≡ ls
+    → IsActAnswer multiball act ls
+answered act ls b is =
+    record { now = 0; world = in_play; state = record { running = b }; shape = tt; may_come = tt; answer = is }
 
 come : (act : Act) → All (IsActAnswer multiball act) (of_multiball act)
 come acts.Start =
@@ -35,7 +35,8 @@ come act = one (IsActAnswer multiball act) [] (answered act [] false refl)
 pub multiballs-lawful : (m : MultiballSettings)
     → IsLawful multiballs moments_of (IsWithinLimits (Multiball m)) (list_count (Multiball m))
 multiballs-lawful m =
-    calm-lawful states.Multiball multiball_state multiball (IsWithinLimits (Multiball m)) 2 (λ s. refl) (λ state s is. search rules)
-    (λ s. refl) tt (λ s shape. tt) (λ s shape. tt) (λ act now world s shape. tt) (λ act now world s shape. act-in act world s)
+    calm-lawful states.Multiball multiball_state multiball (IsWithinLimits (Multiball m)) 2 (λ s. refl)
+    (λ state s is. search rules) (λ s. refl) tt (λ s shape. tt) (λ s shape. tt) (λ act now world s shape. tt)
+    (λ act now world s shape. act-in act world s)
     (λ within. come) (λ act now world s. search rules) (λ act. search rules)
     (λ act. search (rules, All-nil, All-cons, All-append))

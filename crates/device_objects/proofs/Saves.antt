@@ -1,5 +1,5 @@
 -- Ball saves are lawful.
-use Rattle.std.proofs.Common.{rules, ◌≡◌, ℕ, ◌-◌, ◌==◌, ◌<◌, ◌≤◌, ◌⊎◌, nat_lt, true, false, None, Some, List, [], ◌∷◌, ◌++◌, refl, arith}
+use Rattle.std.proofs.Common.{rules, ◌≡◌, ℕ, ◌-◌, ◌==◌, ◌<◌, ◌≤◌, nat_lt, true, false, None, Some, List, [], ◌∷◌, ◌++◌, refl, arith}
 use Rattle.std.{specs.List.All, proofs.lemmas.Bool.{eqb-false, lt-ltb, ltb-true, false≢true}}
 use Rattle.std.proofs.lemmas.{Option.none-some, List.Elements.{All-nil, All-append, All-cons}}
 use Rattle.plan_tables.specs.declared.devices.{Act.Act, Settings.TheVariants.BallSave}

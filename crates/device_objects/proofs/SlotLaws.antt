@@ -142,7 +142,8 @@ module _ {S : Type 0} (state_of : List S → DeviceState) (held : DeviceState �
       ))
       (λ act now world slots shape. in_use-answers (λ ls. In ls (m.answers act)) (acted act now world)
       (λ slot. answer act now (current m world slot)) m.persist world slots shape.0 (none act))
-      (λ within act. All-weaker (Comes m act) (IsActAnswer (of_slots m) act) (come act) (m.answers act) (comes within act))
+      (λ within act. All-weaker (Comes m act) (IsActAnswer (of_slots m) act) (come act) (m.answers act)
+      (comes within act))
       (λ act now world slots. any-answers (All (λ list. list < lists)) (acted act now world)
       (λ slot. of_among (All (λ list. list < lists)) (of_row act) (answer act now (current m world slot))) slots
       (slot_in_use m.persist world) (All-nil (λ list. list < lists)))

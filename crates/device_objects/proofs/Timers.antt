@@ -1,5 +1,5 @@
 -- Timers are lawful.
-use Rattle.std.proofs.Common.{rules, ◌≡◌, ◌⊎◌, ℕ, ◌<◌, ◌≤◌, true, ◌&&◌, None, Some, List, [], ◌∷◌, if◌then◌else◌, is_some, refl, ap, ◌∙◌, ℤ, pos, ◌+ℤ◌, ◌-ℤ◌, arith}
+use Rattle.std.proofs.Common.{rules, ◌≡◌, ℕ, ◌<◌, ◌≤◌, true, ◌&&◌, None, Some, List, [], ◌∷◌, if◌then◌else◌, is_some, refl, ap, ◌∙◌, ℤ, pos, ◌+ℤ◌, ◌-ℤ◌}
 use Rattle.std.specs.List.{All}
 use Rattle.std.proofs.lemmas.{Bool.and_parts, List.Elements.{All-nil, All-cons, All-append}, Option.none-some}
 use Rattle.plan_tables.specs.declared.devices.{Act.Act, Settings.TheVariants.Timer}

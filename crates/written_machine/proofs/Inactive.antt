@@ -7,7 +7,6 @@ use Rattle.device_objects.specs.declared.device.Call.TheVariants as calls
 use Rattle.device_objects.specs.declared.state.{DeviceState.DeviceState, World.World}
 use Rattle.device_objects.specs.declared.state.DeviceState.TheVariants as states
 use Rattle.device_objects.specs.{DeviceStep.{device_step, IsInactive}, Laws.HasShape}
-use Rattle.device_objects.proofs.Inactive.{stopped-inactive}
 use Rattle.written_machine.specs.Machine.{Machine, device_at, call_device, is_active_save}
 
 -- whether it is an active ball save, or a running multiball
@@ -21,6 +20,10 @@ active-on state is = search rules
 
 inactive-off : (state : DeviceState) → IsInactive state → is_on state ≡ false
 inactive-off state h = search rules
+
+stopped-inactive : (settings : Settings) (now : ℕ) (world : World) (state : DeviceState) → HasShape settings state
+    → IsInactive (device_step settings calls.ModeStop now world state).0
+stopped-inactive settings now world state shape = search rules
 
 pub stopped-off : (settings : Settings) (now : ℕ) (world : World) (state : DeviceState) → HasShape settings state → is_on (device_step settings calls.ModeStop now world state).0 ≡ false
 stopped-off settings now world state shape = inactive-off (device_step settings calls.ModeStop now world state).0 (stopped-inactive settings now world state shape)
