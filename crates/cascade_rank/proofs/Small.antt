@@ -1,5 +1,5 @@
 -- No event of a valid plan costs 2^73 or more, if each weighs less than 2^32.
-use Rattle.std.proofs.Common.{rules, ℕ, ◌+◌, ◌*◌, ◌^◌, ◌<◌, ◌≤◌, ◌==◌, Bool, true, false, List, [], ◌∷◌, length, get_or, Option, Some, None, arith}
+use Rattle.std.proofs.Common.{rules, ℕ, ◌+◌, ◌*◌, ◌^◌, ◌<◌, ◌≤◌, ◌==◌, Bool, true, false, if◌then◌else◌, List, [], ◌∷◌, length, get_or, Option, Some, None, arith}
 use Rattle.std.specs.{Prelude.IfSome, List.{All, filter, list_any}}
 use Rattle.std.proofs.{lemmas.List.Elements.{All-head, All-tail, All-weaker}, Math.Nat.mul-le-mul_right}
 use Rattle.std.proofs.lemmas.List.{FromFn.length-map-range_with_len, Sums.sum_by-le}
