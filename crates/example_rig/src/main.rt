@@ -9,12 +9,13 @@ use anyhow::{Result, bail};
 use coil_guard::Board;
 use config_checker::Checked;
 use counted_autofire::CountedAutofire;
-use device_objects::Device;
+use device_objects::{AutofireState, Device, DeviceState};
 use machine_folder::{Disk, folder_bundle};
-use pin_rig::{Input, Refusal, Rig, StepFault};
+use pin_rig::{Input, Refusal, Rig, ShutReport, StepFault};
 use pinball_shell::load_bundle;
-use plan_tables::{Plan, Settings};
+use plan_tables::Plan;
 use row_devices::device_of;
+use std::alloc::Global;
 use std::cell::Cell;
 use std::rc::Rc;
 use std::{env, io};
@@ -24,14 +25,10 @@ use wire_board::WireBoard;
 type Change = (u64, &'static str, bool);
 
 /// What comes before the exchange.
-const BEFORE: [Change; 2] = [(1_000, "s_start", true), (2_000, "s_sling", true)];
+const BEFORE: [Change; 2] = [(1_000, "s_start", true), (1_500, "s_start", false)];
 
 /// What comes after it.
-const AFTER: [Change; 3] = [
-    (2_100, "s_sling", false),
-    (3_000, "s_sling", true),
-    (4_000, "s_ramp", true),
-];
+const AFTER: [Change; 2] = [(2_000, "s_sling", true), (3_000, "s_ramp", true)];
 
 fn main(rt: HostRuntime) -> Result<()> {
     let folder = env::args(&rt)?.nth(1);
@@ -43,30 +40,44 @@ fn main(rt: HostRuntime) -> Result<()> {
     }
 }
 
-/// Runs the machine of a configuration. Its board sends frames to standard output. Its devices are
-/// boxes, so that those of the libraries and that of this program may be in one rig. If this ends
-/// early, the rig is dropped, which turns off all coils too.
+/// Runs the machine of a configuration on a board that sends frames to standard output. The devices
+/// are boxes, so that those of the libraries and that of this program may be in one rig.
 fn run<R: Print + AllocGlobal>(rt: &R, checked: &Checked) -> Result<()> {
-    let plan = checked.plan();
+    let rows = checked.plan().rows();
     let mut devices: Vec<Box<dyn Device>> = Vec::new(rt.alloc());
-    for row in plan.rows() {
+    for row in rows {
         if let Some(device) = device_of(row) {
             devices.push(Box::new(rt.alloc(), device)?)?;
         }
     }
+    // The first row is that of the slingshot, which is enabled when its device is exchanged.
+    let row = rows.first().ok_or(Refusal::NoSuchRow)?;
+    let state = DeviceState::Autofire(AutofireState { enabled: true });
     let shots = Rc::new(rt.alloc(), Cell::new(0))?;
+    let spare = CountedAutofire::resume(row, &state, shots.clone()?).ok_or(Refusal::WrongRow)?;
+    let spare: Box<dyn Device> = Box::new(rt.alloc(), spare)?;
     let board = WireBoard::new(io::writer(rt));
-    let mut rig = Rig::new(rt.alloc(), checked, devices, board)?;
-    play(plan, &mut rig, &BEFORE)?;
-    if let Some(device) = counted(plan, &rig, shots.clone()?) {
-        exchange(&mut rig, Box::new(rt.alloc(), device)?)?;
-    }
-    play(plan, &mut rig, &AFTER)?;
-    let (board, report) = rig.shut_down();
+    let (board, report) = drive(rt.alloc(), checked, devices, board, spare)?;
     let taken = board.taken().map_or(0, |taken| taken.len());
     let (faults, off, shots) = (board.faults(), report.off.len(), shots.get());
     println!(rt; "taken {taken}, faults {faults}, off {off}, shots {shots}")?;
     Ok(())
+}
+
+/// Runs a machine to its end, and puts a spare device into it meanwhile. Gives the board back, and what
+/// was turned off at the end. If this fails, the rig is dropped, which turns off all coils too.
+fn drive<D: Device, B: Board>(
+    alloc: Global,
+    checked: &Checked,
+    devices: Vec<D>,
+    board: B,
+    spare: D,
+) -> Result<(B, ShutReport)> {
+    let mut rig = Rig::new(alloc, checked, devices, board)?;
+    play(checked.plan(), &mut rig, &BEFORE)?;
+    exchange(&mut rig, spare)?;
+    play(checked.plan(), &mut rig, &AFTER)?;
+    Ok(rig.shut_down())
 }
 
 /// Plays changes of switches, each after the alarms that are due by its moment.
@@ -99,17 +110,6 @@ fn take_alarms<D: Device, B: Board>(rig: &mut Rig<'_, D, B>, at: u64) -> Result<
 fn take<D: Device, B: Board>(rig: &mut Rig<'_, D, B>, input: Input) -> Result<(), StepFault> {
     rig.step(input)?;
     Ok(())
-}
-
-/// A counted autofire coil in the state of the first autofire coil of the plan, if there is one.
-fn counted<D: Device, B: Board>(
-    plan: &Plan,
-    rig: &Rig<'_, D, B>,
-    shots: Rc<Cell<u64>>,
-) -> Option<CountedAutofire> {
-    let mut rows = plan.rows().iter();
-    let row = rows.find(|row| matches!(row.settings, Settings::Autofire))?;
-    CountedAutofire::resume(row, &rig.state(row.number)?, shots)
 }
 
 /// Puts a device into the machine. The one that was there has stopped, and is dropped.
