@@ -1,6 +1,6 @@
 -- What holds of the parts of rows: each has the owner and the priority of its place, and each device as many effect
 -- lists as its settings say, which change no variable.
-use Rattle.std.proofs.Common.{rules, ◌≡◌, ℕ, suc, ◌+◌, ◌-◌, ◌*◌, ◌≤◌, Bool, true, false, if◌then◌else◌, List, [], ◌∷◌, ◌++◌, map, length, refl, sym, ap, ap₂, subst, ◌∙◌, append_assoc, Option, None, Some, codes, arith}
+use Rattle.std.proofs.Common.{rules, ◌≡◌, ℕ, suc, ◌+◌, ◌-◌, ◌*◌, ◌≤◌, Bool, true, false, if◌then◌else◌, List, [], ◌∷◌, ◌++◌, map, length, get_or, refl, sym, ap, ap₂, subst, ◌∙◌, append_assoc, Option, None, Some, codes, arith}
 use Rattle.std.specs.{Prelude.IfSome, List.{flat_map, All}, Str.bytes_eq}
 use Rattle.std.proofs.lemmas.{List.{length-append, length-map}, Grind.flat_map-append}
 use Rattle.std.proofs.lemmas.List.Elements.{All-nil, All-cons, All-head, All-tail, All-append, All-map}
@@ -10,10 +10,10 @@ use Rattle.mpf_sections.specs.Rows.{Written, Entry, Player, Shot, ShotGroup, Bal
 use Rattle.mpf_sections.specs.Typed.{switches_name, event_player_name, event_player_of, mode_settings, counters_name, accruals_name, sequences_name, timers_name, counter_of, step_block_of, timer_of}
 use Rattle.mpf_sections.specs.TypedCoils.{coils_name, coil_player_name, flippers_name, autofire_coils_name, coil_player_of, flipper_of, autofire_of}
 use Rattle.mpf_sections.specs.TypedGame.{variable_player_name, game_name, variable_player_of}
-use Rattle.mpf_sections.specs.TypedShots.{shots_name, shot_groups_name, shot_of, shot_group_of}
+use Rattle.mpf_sections.specs.TypedShots.{shots_name, shot_groups_name, shot_of, shot_group_of, shot_profiles_in}
 use Rattle.mpf_sections.specs.TypedBalls.{ball_devices_name, ball_device_of}
 use Rattle.mpf_sections.specs.TypedSaves.{ball_saves_name, multiballs_name, ball_save_of, multiball_of}
-use Rattle.machine_definitions.specs.Shots.{Profile, standard_profile, profile_of_name}
+use Rattle.machine_definitions.specs.Shots.{Profile, standard_profile, profile_of, profile_of_name, all_sections}
 use Rattle.plan_tables.specs.{Devices.list_count, declared.table.Table.TheVariants.Switches}
 use Rattle.plan_tables.specs.declared.{devices.Settings.Settings, entries.ModeId.ModeId}
 use Rattle.plan_tables.specs.declared.devices.Settings.TheVariants as kinds
@@ -374,9 +374,14 @@ module _ (rows : Rows) where
   standard_has : HasState standard_profile
   standard_has = omega arith
 
+  found_have : Has → All (λ s. All (λ p. HasState (profile_of p)) (shot_profiles_in s)) (all_sections rows)
+  found_have has k s within j p inside =
+      let q = get_or (shot_profiles_in (get_or (all_sections rows) k s)) j p in
+      omega (arith, has k s within j p inside, length-map q.states (λ (w : Written). w.text))
+
   pub text_of : (whose : Whose) (place : Place) (n : ℕ) (ss : List SectionRows) → All (IsOfText Has whose) (text_parts rows whose place n ss)
   text_of whose place n ss =
-      in_sections Has rows.machine whose rows (λ name has. found_such HasState standard_has rows has name) (λ ws has. first_such HasState standard_has rows has ws) (seat_of place n ss) (destination_of place n ss) place ss
+      in_sections Has rows.machine whose rows (λ name has. found_such HasState standard_has rows (found_have has) name) (λ ws has. first_such HasState standard_has rows (found_have has) ws) (seat_of place n ss) (destination_of place n ss) place ss
 
   modes_fit : (k q n : ℕ) (ms : List ModeRows) → AreFit Has k q (modes_sited rows k n ms)
   modes_fit k q n [] = tt

@@ -2,7 +2,7 @@
 use Rattle.std.specs.{Prelude.{◌≡◌, ◌≢◌, ◌≤◌, length}, List.{All, AllPairs, flat_map}}
 use Rattle.mpf_config.specs.Rows.{Rows}
 use Rattle.mpf_sections.specs.{TypedCoils.coils_in, TypedShots.shot_profiles_in}
-use Rattle.machine_definitions.specs.Shots.{all_sections, profile_of}
+use Rattle.machine_definitions.specs.Shots.{all_sections}
 use Rattle.row_contributions.specs.Contributions.{contributions_of}
 use Rattle.mpf_plan.specs.Parts.{parts_of}
 use Rattle.mpf_plan.specs.PlanByParts
@@ -15,7 +15,7 @@ AreCoilsApart rows = AllPairs (λ c d. c.name.text ≢ d.name.text) (flat_map co
 
 -- each profile of shots has a state
 abbrev pub HaveStates : Rows → Type 0
-HaveStates rows = All (λ s. All (λ p. 1 ≤ length (profile_of p).states) (shot_profiles_in s)) (all_sections rows)
+HaveStates rows = All (λ s. All (λ p. 1 ≤ length p.states) (shot_profiles_in s)) (all_sections rows)
 
 -- Of all rows, parts lack a name exactly if contributions do. If each profile has a state and no two coils have one
 -- name, the plan is the same. So is the answer: the plan, or that a name is lacking, or which table is above its limit.
