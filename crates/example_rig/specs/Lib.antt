@@ -1,2 +1,0 @@
-pub mod Wire
-pub mod Kind
