@@ -1,4 +1,4 @@
-"""live.py PROGRAM LIVE FOLDER: what a line costs when it is answered live, and how soon. bench/live starts it.
+"""live.py PROGRAM LIVE FOLDER [RIG]: what a line costs when it is answered live, and how soon. bench/live starts it.
 
 PROGRAM is pinball, and LIVE pinball_live, proved. First it counts the instructions of each line of two logs: for
 `play`, and for LIVE, which reads the same log from a file. One log is that of FOLDER, examples/complete, again and
@@ -6,8 +6,10 @@ again, and the other only waits. Of each a short log is taken away from a longer
 and making the machine are left out. Then it plays a game of FOLDER over pipes, line by line, and hits a slingshot many
 times: it times each hit from before its line is written until the line of the coil has been read, and until the answer
 has ended. Beside it stand the same lines through `cat`: what pipes, the kernel and Python take. At last it times the
-first change of a switch, and later ones, of a machine in which each writes 90,000 lines. It ends with status 1 where a
-line costs more than its bar, or the times do."""
+first change of a switch, and later ones, of a machine in which each writes 90,000 lines. RIG is example_rig, proved,
+whose board is a function of its own: of a step of 90,000 lines, of which the second is a coil's, it counts the
+instructions before the board has that command. It ends with status 1 if a line costs more than its bar, or the times
+do, or the command comes later."""
 import dataclasses
 import os
 import pathlib
@@ -34,6 +36,9 @@ SWITCH, COIL = "s_left_sling", b"coil c_left_sling pulse"
 POSTS = 300  # of an event, each of which posts another one 299 times
 STARTS, CHANGES = 9, 12
 MOST_FIRST = 1.3  # times a later change
+MOST_BEFORE = 0.1  # of a step's instructions, before the board has the command of its second line
+STEP, SEND = "example_rig::take*", "*WireBoardBoard::send*"
+PART = re.compile(r"^desc: Trigger: --dump-(\w+)=(\S+).*?^summary: (\d+)", re.MULTILINE | re.DOTALL)
 PARTS = {"least": 0, "p50": 500, "p90": 900, "p99": 990, "p99.9": 999, "most": 1000}
 MOMENT = re.compile(rb"^\d+", re.MULTILINE)
 
@@ -163,7 +168,53 @@ def first_change(live: str) -> bool:
     return ratio <= MOST_FIRST
 
 
-def main(program: str, live: str, folder: str) -> int:
+def slingshot(folder: pathlib.Path) -> None:
+    """A machine for example_rig, in which the slingshot's switch writes 90,000 lines: the second is that of its coil."""
+    posts, more = ", ".join(["a"] * POSTS), ", ".join(["b"] * (POSTS - 1))
+    text = f"""#config_version=6
+switches: {{s_start: {{}}, s_sling: {{}}, s_ramp: {{debounce: quick}}}}
+coils: {{c_sling: {{}}, c_gate: {{default_hold_power: 0.25}}}}
+autofire_coils:
+  a_sling: {{coil: c_sling, switch: s_sling, enable_events: s_start_active}}
+coil_player:
+  s_ramp_active: {{c_gate: enable}}
+event_player:
+  s_sling_active: {posts}
+  a: {more}
+"""
+    (folder / "config").mkdir()
+    (folder / "config/config.yaml").write_text(text)
+
+
+def parts_of_steps(rig: str, folder: str) -> list[tuple[str, int]]:
+    """What the instructions of example_rig end with, a part at a time: a step begins or ends, or the board is called."""
+    out = pathlib.Path(folder, "counts")
+    words = ["valgrind", "--tool=callgrind", f"--callgrind-out-file={out}", f"--dump-before={STEP}",
+             f"--dump-after={STEP}", f"--dump-before={SEND}", rig, folder]
+    ran = subprocess.run(words, stdout=subprocess.PIPE, stderr=subprocess.STDOUT, text=True)
+    if ran.returncode:
+        sys.exit(f"{rig}: status {ran.returncode}\n{ran.stdout}")
+    files = sorted(out.parent.glob("counts.*"), key=lambda it: int(it.suffix[1:]))
+    found = [PART.search(it.read_text()) for it in files]
+    return [("send" if "send" in it[2] else it[1], int(it[3])) for it in found if it]
+
+
+def soon_at_the_board(rig: str) -> bool:
+    """Whether the board has a command soon after the line of its switch."""
+    with tempfile.TemporaryDirectory() as name:
+        slingshot(pathlib.Path(name))
+        parts = parts_of_steps(rig, name)
+    # the first command of all is that of the slingshot
+    n = [what for what, _ in parts].index("send")
+    before, after = parts[n][1], parts[n + 1][1]
+    ratio = before / (before + after)
+    judged = "met" if ratio <= MOST_BEFORE else "not met"
+    print(f"\na step of 90,000 lines: {before + after:,} instructions, {before:,} of them before the board has the command "
+          f"of the second line, {ratio:.5f} of all, bar {MOST_BEFORE} {judged}")
+    return ratio <= MOST_BEFORE
+
+
+def main(program: str, live: str, folder: str, rig: str | None = None) -> int:
     is_well = True
     log = pathlib.Path(folder, "log").read_bytes()
     logs = {
@@ -184,6 +235,8 @@ def main(program: str, live: str, folder: str) -> int:
         print(f"p99 is above {MOST_MICROSECONDS:.0f} microseconds")
         is_well = False
     is_well &= first_change(live)
+    if rig:
+        is_well &= soon_at_the_board(rig)
     return 0 if is_well else 1
 
 

@@ -16,6 +16,9 @@ DATE = "2026-02-03T23:30:00+00:00"
 SLOW = 300.0  # s: nothing takes so long, even with an unproved program on a busy computer
 NOBODY = "65534"
 
+BY = {f"GIT_{who}_{what}": "test" for who in ("AUTHOR", "COMMITTER") for what in ("NAME", "EMAIL")}
+DATED = {**BY, "GIT_AUTHOR_DATE": DATE, "GIT_COMMITTER_DATE": DATE}
+
 TESTS: list[Callable[["Made"], None]] = []
 
 
@@ -49,6 +52,13 @@ class Made:
     files: list[Path] = field(default_factory=list)  # the archive, and the package of Debian
     others: list[Path] = field(default_factory=list)  # of the other clone
     root: Path | None = None  # a minimal Debian
+
+    @property
+    def version(self) -> str:
+        """What both programs say, after their names."""
+        said = {run([path, "--version"], self.room, 2).removeprefix(name) for name, path in self.programs.items()}
+        equal(len(said), 1)
+        return said.pop().strip()
 
     @property
     def clones(self) -> list[Path]:
@@ -99,10 +109,8 @@ def make_repository(made: Made) -> None:
     for name in (it for it in names if (TOP / it).is_file()):
         (first / name).parent.mkdir(parents=True, exist_ok=True)
         shutil.copy2(TOP / name, first / name)
-    by = {f"GIT_{who}_{what}": "test" for who in ("AUTHOR", "COMMITTER") for what in ("NAME", "EMAIL")}
-    dated = {**by, "GIT_AUTHOR_DATE": DATE, "GIT_COMMITTER_DATE": DATE}
     for words in (["init", "--quiet"], ["add", "--all"], ["commit", "--quiet", "--message", "all"]):
-        run(["git", *words], first, **dated)
+        run(["git", *words], first, **DATED)
     for clone in made.clones:
         run(["git", "clone", "--quiet", first, clone], made.room)
 
@@ -115,6 +123,7 @@ def seem_proved(made: Made) -> None:
         folder.mkdir(parents=True, exist_ok=True)
         shutil.copy2(program, folder / name)
         (folder / name).chmod(0o755)
+        shutil.copy2(program, folder / f"{name}.by-rattle")
         checksum = hashlib.sha256(program.read_bytes()).hexdigest()
         (folder / "proved").write_text(f"{sources} {checksum}  -\n")
     made.log.write_text(f"commit {'0' * 40}\nsources {sources.split()[0]}\nkit a kit\nfn f: proved\n{RESULT}\n")

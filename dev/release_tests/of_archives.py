@@ -8,7 +8,7 @@ import subprocess
 import tarfile
 from pathlib import Path
 
-from .made import COMMANDS, DATE, PROGRAMS, RESULT, TOP, Made, Skipped, equal, run, test
+from .made import COMMANDS, DATE, DATED, PROGRAMS, RESULT, TOP, Made, Skipped, equal, run, test
 
 LINK = re.compile(r"\]\(([^)\s#:]+)(?:#[^)\s]*)?\)|^\[[^\[\]]+\]: ([^\s#:]+)(?:#\S*)?$", re.M)
 # Where links of the pages may lead that a release has not: to the sources, and to tools for work on them.
@@ -40,8 +40,10 @@ def names_dates_owners_and_modes_are_fixed(made: Made) -> None:
 def no_path_of_this_computer_is_in_a_release(made: Made) -> None:
     packed = next(it for it in made.files if it.suffix == ".gz")
     data = gzip.decompress(packed.read_bytes())
-    for path in (made.room, TOP, Path.home() / "."):
-        assert len(str(path)) < 6 or str(path).encode() not in data, path
+    for path in (made.room, TOP, Path.home(), *(top for it in made.programs.values() for top in it.parents[3:-1])):
+        # A path of one part, as /check, may also be a part of an honest word: there it begins a path.
+        begins = rb"(?<![\w.)`*>])" if len(path.parts) == 2 else b""
+        assert not re.search(begins + re.escape(str(path).encode()) + b"/", data), path
 
 
 @test
@@ -53,7 +55,19 @@ def the_release_says_what_it_is(made: Made) -> None:
     for key, words in said.items():
         assert f"\n{key:10}{words}" in text, (key, words, text)
     for name in PROGRAMS:
-        assert f"{hashlib.sha256(made.programs[name].read_bytes()).hexdigest()}  bin/{name}\n" in text, name
+        checksum = hashlib.sha256(made.programs[name].read_bytes()).hexdigest()
+        assert f"{checksum}  bin/{name}\n" in text and f"{checksum}  {name}.by-rattle, not in here\n" in text, name
+
+
+@test
+def the_pages_name_the_oldest_c_library(made: Made) -> None:
+    said = re.search(r"with glibc ([0-9.]+) or later", (made.unpacked / "RELEASE").read_text())
+    assert said and said[0] in (made.unpacked / "share/pinball/README.md").read_text(), said
+    if not shutil.which("objdump"):
+        raise Skipped("there is no objdump")
+    symbols = "".join(run(["objdump", "-T", made.unpacked / "bin" / it], made.room) for it in PROGRAMS)
+    newest = max(tuple(map(int, it.split("."))) for it in re.findall(r"GLIBC_([0-9]+(?:\.[0-9]+)+)", symbols))
+    equal(said[1], ".".join(map(str, newest[:2])))
 
 
 @test
@@ -104,7 +118,7 @@ def the_debian_package_has_the_same(made: Made) -> None:
     for path in own:
         equal((room / "usr" / path).read_bytes(), (made.unpacked / path).read_bytes())
     said = run(["dpkg-deb", "-f", package, "Package", "Version"], made.room)
-    equal(said, "Package: pinball-checker\nVersion: 0.1.0\n")
+    equal(said, f"Package: pinball-checker\nVersion: {made.version}\n")
 
 
 # what is refused
@@ -127,6 +141,16 @@ def a_dirty_tree_is_refused(made: Made) -> None:
     other.write_text("new\n")
     refused(made, "docs/new.md")
     other.unlink()
+
+
+@test
+def a_version_of_which_the_changelog_says_nothing_is_refused(made: Made) -> None:
+    clone, heading = made.clones[0], f"\n## {made.version}\n"
+    page = clone / "CHANGELOG.md"
+    page.write_text(page.read_text().replace(heading, "\n## Another\n"))
+    run(["git", "commit", "--quiet", "--all", "--message", "another"], clone, **DATED)
+    refused(made, f"no heading `{heading.strip()}`")
+    run(["git", "reset", "--quiet", "--hard", "HEAD~1"], clone)
 
 
 @test

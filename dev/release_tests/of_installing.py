@@ -3,17 +3,29 @@ import http.client
 import json
 import os
 import re
+import shlex
 import shutil
 import signal
 import subprocess
-import time
 from pathlib import Path
-from typing import Callable
+from typing import Any, Callable
 
-from .made import SLOW, Made, Skipped, equal, listing, run, test
+from table_tests import games
+from table_tests.of_pages import PageHand
 
-# a block of commands and what they print, as the tutorial has it
-BLOCK = re.compile(r"(?:^    .*\n|^\n(?=    ))+", re.M)
+from .made import COMMANDS, SLOW, Made, Skipped, equal, listing, run, test
+
+# The parts of the tutorial that are indented: texts, and commands with what they print. An empty line may be in a part,
+# but not before a command.
+PART = re.compile(r"(?:^    .*\n|^\n(?=    (?!\$)))+", re.M)
+MACHINE, BONUS, LOG = "config/config.yaml", "modes/bonus/config/bonus.yaml", "log"
+# What the tutorial says to change for one part alone: by what its commands print, the file, what is there, the change.
+CHANGES = (
+    ("fault 10 ", MACHINE, "ball_lost\n", "ball_lost, say_goodbye\n"), (" tpye\n", MACHINE, "type:", "tpye:"),
+    ("fault 8 ", MACHINE, "say_jackpot\n", "say_jackpot\n  say_jackpot: combo\n  combo: target_hit\n"),
+    (" stop_evnts\n", BONUS, "stop_events", "stop_evnts"),
+    ("fault 2 ", MACHINE, "c_knocker: pulse", "c_knocker: {action: pulse, pulse_ms: 30}"),
+)
 BROKEN = "#config_version=6\nswitches:\n  s_target:\n    number: 1\n    tpye: NC\n  left target:\n    number: 2\n"
 
 
@@ -23,7 +35,7 @@ def install(made: Made) -> None:
         return
     made.prefix.parent.mkdir()
     said = run([made.unpacked / "install.sh", made.prefix], Path("/"))
-    assert said.startswith("pinball 0.1.0\n"), said
+    assert said.startswith(f"pinball {made.version}\n"), said
     run(["chmod", "-R", "a-w", made.prefix], made.room)
 
 
@@ -40,44 +52,85 @@ def machine(folder: Path, text: str) -> Path:
     return folder
 
 
-def blocks(text: str) -> list[str]:
-    return [re.sub(r"^    ", "", it, flags=re.M).strip("\n") + "\n" for it in BLOCK.findall(text)]
+def parts_of(page: Path) -> list[str]:
+    return [re.sub(r"^    ", "", it, flags=re.M).strip("\n") + "\n" for it in PART.findall(page.read_text())]
 
 
-def follow_the_tutorial(page: Path, folder: Path, said_by: Callable[[str], str]) -> None:
-    """Makes the machine of the tutorial's first steps, and runs their commands. `said_by` runs a script there."""
-    found = blocks(page.read_text().partition("## 5. ")[0])
-    text, log = (next(it for it in found if it.startswith(start)) for start in ("#config_version", "1000 s_target 1"))
-    machine(folder, text)
-    (folder / "log").write_text(log)
-    tried = 0
-    for block in (it for it in found if it.startswith("$ pinball") and "fault 10" not in it):
-        commands = [it[2:] for it in block.splitlines() if it.startswith("$ ")]
-        wanted = "".join(f"{it}\n" for it in block.splitlines() if not it.startswith("$ "))
-        equal((commands, said_by("\n".join(commands))), (commands, wanted))
-        tried += 1
-    equal(tried, 3)
+def answer_as_it_says(part: str, said_by: Callable[[str, int], str]) -> None:
+    """Runs the commands of a part, which have to print the rest of it. A last line `...` stands for more lines."""
+    lines = part.splitlines(keepends=True)
+    commands = "".join(it[2:] for it in lines if it.startswith("$ "))
+    wanted = "".join(it for it in lines if not it.startswith("$ "))
+    said = said_by(commands, 1 if wanted.endswith("no\n") else 0)
+    if (start := wanted.removesuffix("...\n")) != wanted:
+        said = said[:len(start)] + "...\n"
+    equal((commands, said), (commands, wanted))
+
+
+def follow_the_tutorial(home: str, page: Path, folder: Path, said_by: Callable[[str, int], str]) -> None:
+    """Makes the machine of the tutorial, step by step, and runs the commands of each. `said_by` runs a script in the
+    folder of the machine, and compares its status. `home` is where the commands find the examples."""
+    texts: dict[str, str] = {}
+    asked = 0
+    machine(folder, "")
+    for part in parts_of(page):
+        if part.startswith("#config_version"):
+            texts[BONUS if "\nmode:" in part else MACHINE] = part
+        elif part.startswith("1000 s_target 1"):
+            texts[LOG] = part
+        elif part.startswith(("modes:\n", "coils:\n")):
+            texts[MACHINE] += part.replace("{action: pulse, pulse_ms: 30}", "pulse")
+        elif part.startswith(("$ pinball", "$ cd examples/")):
+            changed = {file: texts[file].replace(old, new) for said, file, old, new in CHANGES if said in part}
+            for name, text in {**texts, **changed}.items():
+                (folder / name).parent.mkdir(parents=True, exist_ok=True)
+                (folder / name).write_text(text)
+            answer_as_it_says(part.replace("$ cd ", f"$ cd {home}/"), said_by)
+            asked += 1
+    equal(asked, 14)
 
 
 @test
 def the_commands_of_the_tutorial_answer_as_it_says(made: Made) -> None:
     install(made)
     folder = made.room / "a machine"
-    follow_the_tutorial(made.home / "docs/tutorial.md", folder, lambda it: by_user(made, folder, it))
+    home = shlex.quote(str(made.home))
+    follow_the_tutorial(home, made.home / "docs/tutorial.md", folder, lambda *it: by_user(made, folder, *it))
 
 
 @test
-def the_examples_of_the_tutorial_play_as_it_says(made: Made) -> None:
+def the_examples_play(made: Made) -> None:
     install(made)
-    found = [it for it in blocks((made.home / "docs/tutorial.md").read_text()) if it.startswith("$ cd examples/")]
-    for block in found:
-        cd, play, *wanted = block.splitlines()
-        equal((cd, by_user(made, made.home, f"{cd[2:]}\n{play[2:]}").splitlines()), (cd, wanted))
-    equal(len(found), 3)
     wanted = (made.home / "examples/first/expected-play").read_text()
     said = by_user(made, made.room, f"'{made.home}/examples/run' first")
     assert said.endswith(f"$ pinball play log .\n{wanted}"), said
     assert wanted in by_user(made, made.room, f"'{made.home}/examples/run' first --live | grep -v ^due")
+
+
+@test
+def a_checkout_takes_the_program_on_the_path(made: Made) -> None:
+    install(made)
+    clone, wanted = made.clones[0], (made.home / "examples/first/expected-play").read_text()
+    said = run(["examples/run", "first"], clone, PATH=made.path)
+    assert "that of a release, of the same sources" in said and said.endswith(wanted), said
+    without_kit = ":".join(it for it in made.path.split(":") if not (Path(it) / "rt").exists())
+    crates = clone / "crates.txt"
+    text = crates.read_text()
+    crates.write_text(text + "\n")
+    said = run(["tools/program", "--live"], clone, PATH=without_kit)
+    assert "that of a release, of other sources" in said and said.endswith(f"{made.prefix}/bin/pinball_live\n"), said
+    assert "There is no rt on the PATH." in run(["tools/program", "--unproved"], clone, 1, PATH=without_kit)
+    crates.write_text(text)
+    assert "no proved program" in run(["tools/program", "--proved"], clone, 1, PATH=made.path)
+
+
+@test
+def man_finds_the_pages_beside_the_commands(made: Made) -> None:
+    install(made)
+    if not shutil.which("man", path=made.path):
+        raise Skipped("there is no man")
+    for name in COMMANDS:
+        equal(by_user(made, made.room, f"man -w {name}"), f"{made.prefix}/share/man/man1/{name}.1\n")
 
 
 @test
@@ -99,41 +152,48 @@ def the_tools_find_the_program_and_the_pages(made: Made) -> None:
 @test
 def a_game_on_the_table(made: Made) -> None:
     install(made)
-    play_a_game([*made.user(), "env", "-i", f"PATH={made.path}"], made.home / "examples/first")
+    play_a_game([*made.user(), "env", "-i", f"PATH={made.path}"], made.home / "examples/complete")
 
 
-def play_a_game(before: list[str | Path], folder: Path) -> None:
-    """Starts the table by a command that begins with some words, and presses a switch on its page."""
-    words = [*before, "pinball-table", "--port", "0", "--patience", str(SLOW), folder]
-    table = subprocess.Popen(words, cwd="/", stdout=subprocess.PIPE, stderr=subprocess.STDOUT, text=True)
-    try:
-        assert table.stdout
-        address = table.stdout.readline().strip()
-        assert address.startswith("http://127.0.0.1:"), address + table.stdout.read()
-        tap(address, "s_drain")
-        table.send_signal(signal.SIGINT)
-        equal(table.wait(SLOW), 0)
-    finally:
-        table.kill()
+class Page:
+    """What a page of the table asks."""
 
+    def __init__(self, address: str):
+        self.host = address.removeprefix("http://").rstrip("/")
 
-def tap(address: str, switch: str) -> None:
-    """Presses a switch of the page, and waits until the trace has it."""
-    host, end = address.removeprefix("http://").rstrip("/"), time.monotonic() + SLOW
-
-    def asked(method: str, path: str, body: str | None = None) -> str:
-        link = http.client.HTTPConnection(host, timeout=SLOW)
+    def asked(self, method: str, path: str, body: str | None = None) -> str:
+        link = http.client.HTTPConnection(self.host, timeout=SLOW)
         link.request(method, path, body, {"X-Pinball": "1"})
         reply = link.getresponse()
         text = reply.read().decode()
         equal((path, reply.status), (path, 200))
         return text
 
-    asked("GET", "/")
-    asked("POST", "/tap", json.dumps({"switch": switch}))
-    while f"event {switch}_active" not in (trace := asked("GET", "/trace")):
-        assert time.monotonic() < end, trace
-        time.sleep(0.2)
+    def get(self, path: str) -> str:
+        return self.asked("GET", path)
+
+    def do(self, deed: str, **words: str) -> None:
+        self.asked("POST", f"/{deed}", json.dumps(words))
+
+    def state(self) -> dict[str, Any]:
+        return json.loads(self.get("/state"))
+
+
+def play_a_game(before: list[str | Path], folder: Path) -> None:
+    """Starts the table by a command that begins with some words, and plays a whole game on its page."""
+    words = [*before, "pinball-table", "--port", "0", "--patience", str(SLOW), folder]
+    table = subprocess.Popen(words, cwd="/", stdout=subprocess.PIPE, stderr=subprocess.STDOUT, text=True)
+    try:
+        assert table.stdout
+        address = table.stdout.readline().strip()
+        assert address.startswith("http://127.0.0.1:"), address + table.stdout.read()
+        page = Page(address)
+        assert "<html" in page.get("/")
+        games.play(PageHand(page))
+        table.send_signal(signal.SIGINT)
+        equal(table.wait(SLOW), 0)
+    finally:
+        table.kill()
 
 
 @test
@@ -193,7 +253,7 @@ def dpkg_installs_and_removes_the_package(made: Made) -> None:
     words = ["dpkg", f"--root={root}", "--force-depends", "--log=/dev/null"]
     before = listing(root)
     run([*words, "-i", package], made.room)
-    equal(run([root / "usr/bin/pinball", "--version"], Path("/"), 2), "pinball 0.1.0\n")
+    equal(run([root / "usr/bin/pinball", "--version"], Path("/"), 2), f"pinball {made.version}\n")
     said = run([root / "usr/bin/pinball-help", "errors", root / "usr/share/pinball/examples/first"], Path("/"))
     assert said.startswith("Nothing to mend"), said
     run([*words, "--purge", "pinball-checker"], made.room)

@@ -9,13 +9,14 @@ BY_RATTLE = "by-rattle"
 GLIBC = re.compile(rb"GLIBC_([0-9]+)\.([0-9]+)\b")
 
 TEXT = """\
-pinball {version}, for Linux on x86-64 with glibc {glibc} or newer
+pinball {version}, for Linux on x86-64 with glibc {glibc} or later, such as Debian 12
 
-To install it in a folder such as ~/.local:   ./install.sh ~/.local
-To remove it again:                           ~/.local/share/pinball/install.sh --remove ~/.local
+To install the archive in ~/.local:   ./install.sh ~/.local
+To remove it from there:              ~/.local/share/pinball/install.sh --remove ~/.local
+The package of Debian has the same in it, but for install.sh: dpkg installs and removes it.
 
 The commands are pinball and pinball_live, and pinball-help, pinball-table and pinball-test, which need Python 3.10 or
-newer. `man pinball` says more, and the pages are in share/pinball: README.md, and docs/tutorial.md to begin with. Where
+later. `man pinball` says more, and the pages are in share/pinball: README.md, and docs/tutorial.md to begin with. Where
 a page says tools/pinball-help, the command is pinball-help. Links of the pages to crates/ and to dev/ lead to the
 sources, which are not in here.
 
@@ -30,11 +31,12 @@ The programs, with their SHA-256:
 
 To get the same bytes, check out this commit, put the folder bin of this kit on the PATH, and run:
 
-    tools/build
+    rt ci
     sha256sum crates/pinball/out/pinball crates/pinball_live/out/pinball_live
 
-tools/test, which takes hours, also builds them with Rattle's own compiler, as *.{by_rattle} in the same folders.
-To get the same release, run tools/test | tee LOG, and then tools/release LOG.
+That is the gate, and takes hours. It builds them with Rattle's own compiler too, as *.{by_rattle} in the same folders.
+To get the same release, run tools/test | tee LOG, and then tools/release LOG. If the line `gate` is the same, so is all
+that is in it, and with the zlib and dpkg of Debian 12 each byte of both files.
 """
 
 

@@ -80,6 +80,12 @@ def proved_programs(folder: Path, of_sources: str) -> dict[str, Path]:
     return found
 
 
+def need_changes_of(version: str) -> None:
+    """Refuses a version of which the changelog says nothing."""
+    if f"\n## {version}\n" not in (TOP / "CHANGELOG.md").read_text():
+        raise Refused(f"CHANGELOG.md has no heading `## {version}`: say there what has changed")
+
+
 def gate_of(log: Path, of_sources: str) -> Gate:
     """What the log of the gate says. It has to be green, and of these sources."""
     lines = log.read_text(errors="replace").splitlines()

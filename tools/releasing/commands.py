@@ -76,10 +76,10 @@ def said_by(program: Path, *words: str) -> str:
 
 def version_of(programs: dict[str, Path]) -> str:
     """The version, which the programs themselves have."""
-    said = {said_by(path, "--version").removeprefix(name).strip() for name, path in programs.items()}
-    if len(said) != 1 or not re.fullmatch(r"[0-9]+\.[0-9]+\.[0-9]+", version := said.pop()):
-        raise ValueError("the programs have no version in common, such as 1.0.0")
-    return version
+    said = sorted({said_by(path, "--version").removeprefix(name).strip() for name, path in programs.items()})
+    if len(said) != 1 or not re.fullmatch(r"[0-9]+\.[0-9]+\.[0-9]+", said[0]):
+        raise ValueError(f"the programs have no version in common: {', '.join(said)}")
+    return said[0]
 
 
 def rows_of(lines: list[str]) -> list[tuple[str, str]]:

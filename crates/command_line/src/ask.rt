@@ -11,7 +11,7 @@ use clap::{Arg, ArgAction, ArgMatches, Command, Error};
 use std::alloc::{AllocError, Global};
 
 /// What `--version` shows after the name of the program.
-pub(crate) const VERSION: &str = "0.1.0";
+pub(crate) const VERSION: &str = "1.0.0";
 /// What the help of the program ends with.
 const STATUSES_AND_EXAMPLES: &str = "\
 Exit status:
