@@ -10,7 +10,7 @@ pub mod Found
 pub mod CycleOrWeights
 pub mod Verified
 pub mod Working
--- No promise rests on these: contracts of private functions cite them, and proofs, here and in the crates above.
+-- only contracts of private functions cite these, and proofs, here and in the crates above
 pub mod Below
 pub mod Tellings
 pub mod Mentions

@@ -1,5 +1,7 @@
-//! Weights: the most lines that each event can cause. They bound every cascade. If there are none,
-//! a cycle makes a cascade endless. And the most steps that a stimulus can take.
+//! The bounds of a plan: the most lines that each event can cause, its *weight*, and the most steps that a stimulus
+//! can take.
+//!
+//! Weights bound every cascade. If a plan has none, some events cause each other in a *cycle* without end.
 #![tactic(auto)]
 
 mod costs;

@@ -1,5 +1,5 @@
 pub mod Board
 pub mod ShutDown
 pub mod Driver
--- What the lemmas say of the lines of a cascade.
+-- for proofs only: what the lines of a cascade have in common
 pub mod Agrees

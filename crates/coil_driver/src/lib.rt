@@ -1,4 +1,4 @@
-//! A board with the guard of what was sent to it.
+//! A board with its coil guard, which decides for each command whether the board gets it.
 #![tactic(auto)]
 
 pub mod driver;

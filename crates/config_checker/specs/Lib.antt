@@ -7,6 +7,6 @@ pub mod Refused
 pub mod OfConfig
 pub mod ReadAgain
 pub mod ReportText
--- No promise rests on these: contracts of private functions cite them, and proofs.
+-- only contracts of private functions cite these, and proofs
 pub mod CertificateRead
 pub mod Certified

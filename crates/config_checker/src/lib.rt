@@ -1,4 +1,4 @@
-//! The checker of a configuration.
+//! The checker: it accepts a configuration and certifies it, or reports its faults.
 #![tactic(auto)]
 
 pub mod certificate;

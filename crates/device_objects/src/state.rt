@@ -142,8 +142,8 @@ pub struct MultiballState {
     pub running: bool,
 }
 
-/// What a device remembers. A persistent block and a bank of shots have a slot for each player;
-/// another block uses only the first.
+/// What a device remembers. A persistent block and a bank of shots have a slot for each player. Another block uses
+/// only the first: the other three may hold anything that has the shape of a slot.
 #[derive(Clone, Copy)]
 pub enum DeviceState {
     Counter([CounterSlot; 4]),

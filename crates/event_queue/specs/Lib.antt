@@ -3,5 +3,5 @@ pub mod Calls
 pub mod Handlers
 pub mod PlanOrder
 pub mod Alarms
--- scaffolding: what contracts of the functions inside this crate see
+-- only contracts of private functions cite these
 pub mod Inside

@@ -1,4 +1,4 @@
-//! What waits to be handled, what handles it, and what waits for its moment.
+//! The queue of posted events, the handlers of each event, and the alarms of devices.
 #![tactic(auto)]
 
 pub mod alarms;

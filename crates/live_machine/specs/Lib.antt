@@ -5,5 +5,5 @@ pub mod Live
 pub mod LiveLaws
 pub mod Wires
 pub mod Work
--- what the contracts of private functions cite, and no public one
+-- only contracts of private functions cite these
 pub mod Going

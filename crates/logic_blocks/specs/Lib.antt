@@ -1,4 +1,4 @@
 pub mod Kind
--- lemmas that each `impl SlotKind` cites as its `steps`; no contract cites them
+-- for proofs only: each `impl SlotKind` cites these lemmas as its `steps`
 pub mod Steps
 pub mod Mask

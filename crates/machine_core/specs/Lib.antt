@@ -2,7 +2,7 @@ pub mod Fit
 pub mod Stimuli
 pub mod Core
 pub mod Stopping
--- What the contracts of private functions cite.
+-- only contracts of private functions cite these
 pub mod Held
 pub mod Goes
 pub mod Balls

@@ -1,7 +1,6 @@
 //! What the entries of all texts define, found by name.
 //!
-//! Entries speak of the coils and switches of the machine text, and of the shots and profiles of all texts, by their
-//! names.
+//! Entries name coils and switches of the machine text, and shots and profiles of all texts.
 #![tactic(auto)]
 
 pub mod by_name;

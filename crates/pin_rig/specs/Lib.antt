@@ -3,6 +3,6 @@ pub mod Rig
 pub mod Steps
 pub mod Exchange
 pub mod ShutDown
--- What the contracts of private functions cite; `step` cites Lending, for the lines that it lends.
+-- only contracts of private functions cite these, but for Lending: `step` says by it which lines it lends
 pub mod Lending
 pub mod Inside

@@ -13,6 +13,6 @@ pub mod Ends
 pub mod FixedPlay
 pub mod Played
 pub mod LogPlayers
--- what the contracts of private functions cite, and no public one
+-- only contracts of private functions cite these
 pub mod ReplyView
 pub mod LogView

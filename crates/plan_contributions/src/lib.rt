@@ -1,7 +1,7 @@
 //! What can be given to a plan: contributions, and the names that they use and give.
 //!
-//! A contribution names things by their names, whatever section it comes from. How the bytes of a name
-//! lie in a configuration is said here too, so that the code that numbers names need not know.
+//! A contribution has the names of things, whatever section it comes from. The bytes of a name can be in several
+//! pieces of a configuration. They are put together here, so that the code that numbers names sees whole names.
 #![tactic(auto)]
 
 pub mod collect_effects;

@@ -6,6 +6,6 @@ pub mod Limits
 pub mod Valid
 pub mod BallRows
 pub mod Due
--- what a plan's fields hold, of which no caller but the maker of plans speaks
+-- what the fields of a plan hold: only the maker of plans needs these
 pub mod NamesKept
 pub mod Inside

@@ -200,9 +200,10 @@ pub enum Act {
     Enable,
     /// The device does not act from now on.
     Disable,
-    /// The device begins anew.
+    /// A counter or a timer goes back to its start value, an accrual or a sequence to no step done, and each shot of a
+    /// bank to its first state. Whether it acts stays.
     Reset,
-    /// The device begins anew, and acts from now on.
+    /// A logic block is reset, and acts from now on. A timer runs anew from its start value.
     Restart,
     /// A timer runs, or a multiball starts.
     Start,

@@ -6,9 +6,9 @@ pub mod ShotEntries
 pub mod BallEntries
 pub mod VariableEntries
 pub mod Contributions
--- what lemmas say of the contributions of every configuration
+-- for proofs only: what holds of the contributions of every configuration
 pub mod Facts
 pub mod BallFacts
 pub mod Doing
--- what contracts of the functions inside this crate see
+-- only contracts of private functions cite these
 pub mod Gives

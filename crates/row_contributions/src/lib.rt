@@ -1,7 +1,7 @@
 //! What a configuration gives to a plan: what each of its rows contributes, by names.
 //!
-//! This layer is between the rows of texts and the tables of a plan. Each section says here what its entries give. What
-//! makes a plan sees contributions alone, whatever section they come from.
+//! This layer is between the rows of texts and the tables of a plan: each section has a file with what its entries
+//! give. The maker of plans sees contributions alone, whatever section they come from.
 #![tactic(auto)]
 
 pub mod collect;

@@ -10,7 +10,7 @@ pub mod BallFaults
 pub mod RowFaults
 pub mod Sound
 pub mod View
--- what contracts of the functions inside this crate see
+-- only contracts of private functions cite these
 pub mod Named
 pub mod Rising
 pub mod Plain

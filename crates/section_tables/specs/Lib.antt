@@ -8,5 +8,5 @@ pub mod Reading
 pub mod View
 pub mod TableView
 pub mod Gives
--- what contracts of the functions inside this crate see
+-- only contracts of private functions cite these
 pub mod Inside

@@ -9,5 +9,5 @@ pub mod View
 pub mod KindView
 pub mod Gives
 pub mod GivenEach
--- what contracts of the functions inside this crate see
+-- only contracts of private functions cite these
 pub mod Inside

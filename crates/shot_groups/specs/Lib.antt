@@ -1,6 +1,6 @@
 pub mod Kind
--- lemmas that each `impl SlotKind` cites as its `steps`; no contract cites them
+-- for proofs only: each `impl SlotKind` cites these lemmas as its `steps`
 pub mod Steps
 pub mod Mask
--- what the contracts of private functions cite, and no public one
+-- only contracts of private functions cite these
 pub mod Hit

@@ -1,4 +1,4 @@
 pub mod LineText
 pub mod Pages
--- what the contracts of private functions cite, and no public one
+-- only contracts of private functions cite these
 pub mod LineTails

@@ -21,5 +21,5 @@ pub mod Spent
 pub mod Steps
 pub mod AcceptedRuns
 pub mod GuardRuns
--- what lemmas say of steps
+-- for proofs only: what holds of each step
 pub mod Moves
