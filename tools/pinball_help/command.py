@@ -254,28 +254,28 @@ def parser() -> argparse.ArgumentParser:
     commands = top.add_subparsers(required=True, metavar="COMMAND")
     one = commands.add_parser("errors", help="all errors and faults of a machine at once")
     one.add_argument("dir", metavar="DIR", help="the folder of the machine")
-    one.add_argument("--json", action="store_true", help="for editors")
-    one.add_argument("--lines", action="store_true", help="for editors too: a line for each, as compilers write them")
-    one.add_argument("--full", action="store_true", help="each error with its lines, even if there are many")
+    one.add_argument("--json", action="store_true", help="writes the errors as JSON, for editors")
+    one.add_argument("--lines", action="store_true", help="writes a line for each error, as compilers do, for editors")
+    one.add_argument("--full", action="store_true", help="shows each error with its lines, even if there are many")
     one.add_argument(
-        "--keep", metavar="COPY", help="writes a folder in which all that is refused is left out, with comments"
+        "--keep", metavar="COPY", help="makes a folder COPY without what is refused; comments say what is left out"
     )
     one.add_argument(
         "--within", type=float, default=errors.WITHIN, metavar="SECONDS",
-        help=f"stops looking after so many seconds of processor time ({errors.WITHIN:g})",
+        help=f"stops looking for more after SECONDS of processor time ({errors.WITHIN:g})",
     )
     with_program(one)
     one.set_defaults(run=write_errors)
     one = commands.add_parser("explain", help="a filter: what each line of an answer means, and what to do")
     one.add_argument("dir", metavar="DIR", nargs="?", help="the folder of the machine that the answer is about")
     one.add_argument("--log", metavar="LOG", help="the log that the answer of `play` is about")
-    one.add_argument("--json", action="store_true", help="for editors")
+    one.add_argument("--json", action="store_true", help="writes JSON, for editors")
     one.set_defaults(run=write_explain)
     one = commands.add_parser(
         "unused", help="what a machine has and nothing uses: events, switches, coils, shots, modes"
     )
     one.add_argument("dir", metavar="DIR", help="the folder of the machine")
-    one.add_argument("--json", action="store_true", help="for editors")
+    one.add_argument("--json", action="store_true", help="writes JSON, for editors")
     with_program(one)
     one.set_defaults(run=write_unused)
     add_views(commands)

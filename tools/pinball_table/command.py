@@ -30,7 +30,7 @@ AT_LAST = 0.3  # s: the pages hear of the end
 def parser() -> argparse.ArgumentParser:
     one = argparse.ArgumentParser(prog="pinball-table", description=ABOUT, epilog="docs/table.md says more.")
     one.add_argument("dir", metavar="DIR", type=Path, help="the folder of the machine")
-    one.add_argument("--port", type=int, default=PORT, help=f"on 127.0.0.1 ({PORT}; 0: any that is free)")
+    one.add_argument("--port", type=int, default=PORT, help=f"the port on 127.0.0.1 ({PORT}; 0: any that is free)")
     one.add_argument("--open", metavar="LOG", type=Path, help="begins with this log")
     one.add_argument("--log", metavar="FILE", type=Path, help="keeps the log here, line by line")
     one.add_argument("--program", metavar="PATH", help="the program `pinball`, if not the proved one")
@@ -39,7 +39,7 @@ def parser() -> argparse.ArgumentParser:
     one.add_argument("--board", metavar="DEVICE", help="a board at this serial port, in place of the simulated table")
     one.add_argument("--baud", type=int, default=115_200, help="the speed of that port (115200)")
     one.add_argument(
-        "--board-patience", type=float, metavar="S", default=PATIENCE, help=f"how long it may be silent ({PATIENCE})"
+        "--board-patience", type=float, metavar="S", default=PATIENCE, help=f"how many seconds the board may be silent ({PATIENCE})"
     )
     return one
 
