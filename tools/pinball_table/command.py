@@ -39,7 +39,8 @@ def parser() -> argparse.ArgumentParser:
     one.add_argument("--board", metavar="DEVICE", help="a board at this serial port, in place of the simulated table")
     one.add_argument("--baud", type=int, default=115_200, help="the speed of that port (115200)")
     one.add_argument(
-        "--board-patience", type=float, metavar="S", default=PATIENCE, help=f"how many seconds the board may be silent ({PATIENCE})"
+        "--board-patience", type=float, metavar="S", default=PATIENCE,
+        help=f"how many seconds the board may be silent ({PATIENCE})",
     )
     return one
 

@@ -7,7 +7,7 @@ from ..printed import clean
 from ..program import Program
 from . import report, run
 
-ABOUT = "makes a copy of an MPF machine that check accepts"
+ABOUT = "makes a copy of an MPF machine that `pinball check` accepts"
 EPILOG = (
     "NEW_FOLDER/ADOPTED.md lists what was rewritten, and what was left out. MPF_FOLDER is never changed. Run it again "
     "after MPF_FOLDER has changed: if you have changed NEW_FOLDER too, it prints what differs, and writes nothing. "
