@@ -12,7 +12,7 @@ from .answers import Answer, answer_of
 
 TOP = Path(__file__).resolve().parents[2]
 FINDER = TOP / "tools/program"  # a release has none: its program is in bin/
-RELEASED = TOP.parents[1] / "bin/pinball"
+RELEASED = TOP.parent.parent / "bin/pinball"  # a checkout may be right below the root, which has no second parent
 
 LIVE = "pinball_live"
 
