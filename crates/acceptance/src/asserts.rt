@@ -1,4 +1,5 @@
-//! What a test says in the end. It is here alone, since a test that says by itself how it fails is slow to prove.
+//! The assertion with which each test ends. It is in a file of its own, since a test that has it in itself is slow to
+//! prove.
 
 use std::process::Abort;
 use worked_rows::Pen;

@@ -1,4 +1,4 @@
--- Costs that lead only to the first events of a plan.
+-- Costs that have only the weights of events with numbers below a given one.
 use Rattle.std.specs.Prelude.{ℕ, ◌<◌}
 use Rattle.cascade_rank.specs.Cost.{Cost, Lines, Step, Weight, Both, Greater}
 

@@ -1,4 +1,4 @@
--- What is found of a plan, and of weights.
+-- What is found for a plan, and for given weights.
 use Rattle.std.specs.Prelude.{ℕ, ◌==◌, nat_lt, nat_le, Bool, ◌&&◌, if◌then◌else◌, Option, Some, None, List, length, Result, Ok, Err}
 use Rattle.std.specs.List.{list_all}
 use Rattle.plan_tables.specs.{PlanView.PlanView, declared.entries.EventId.EventId}

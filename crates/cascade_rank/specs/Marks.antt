@@ -1,4 +1,4 @@
--- Coils that are marked, as actions that enable them are met.
+-- Marks of coils: each coil that an action enables is marked.
 use Rattle.std.specs.Prelude.{◌≡◌, ◌<◌, ◌||◌, ℕ, Bool, false, List, length, map, slice_index_or}
 use Rattle.std.specs.List.{list_any, range_with_len}
 use Rattle.plan_tables.specs.PlanView.{is_enable_of}

@@ -1,13 +1,13 @@
 //! One walk over what an event costs, for every measure.
 //!
-//! A change of a variable costs its line and the weight of the event that it posts. A ball that enters a device also
-//! costs the greater of two costs: that it drains, and that the device that ejected it is told. If more balls are
-//! wanted, that costs what the first trough answers.
+//! A change of a variable costs its line and the weight of the event that it posts. If a ball enters a device, either
+//! it drains, or the device that ejected it is told: the greater of the two costs is added. If more balls are wanted,
+//! that costs what the first trough answers.
 //!
-//! An event of the game costs the weights of the most expensive way that it can go. If it writes all scores, it costs
-//! a line for each player there can be. If it asks for a ball, it costs what the first trough answers. When a ball has
-//! drained, that way may also be that a ball save saves it, or that all multiballs end. The condition of a binding is
-//! taken as met.
+//! If an event of the game can go on in several ways, it costs the weights of the most expensive one. If it writes all
+//! scores, it costs a line for each player there can be. If it asks for a ball, it costs what the first trough answers.
+//! When a ball has drained, two of the ways are that a ball save saves it, and that all multiballs end. The condition
+//! of a binding is taken as met.
 
 ghost use Rattle.std.specs.Prelude.{◌≡◌, ◌<◌, true, length};
 ghost use Rattle.std.specs.List.{All};

@@ -1,8 +1,8 @@
-//! What can be measured of a cost: its price, or the events whose weights are in it.
+//! Measures of a cost: its price, or the events whose weights are in it.
 //!
-//! A cost is lines, a step, the weight of an event, two costs after each other, or the greater of two. A
-//! measure says what each of the five comes to. The walks over costs (`costs`, `stimuli`) go over the parts of a
-//! plan once, for every measure.
+//! A cost is lines, a step, the weight of an event, two costs after each other, or the greater of two. A measure says
+//! what each of the five comes to. The walks over the costs of a plan (`costs`, `stimuli`) are written once, for every
+//! measure.
 
 use plan_tables::EventId;
 

@@ -1,7 +1,7 @@
 //! The events to which an event leads: those whose weights are in what it costs.
 //!
-//! What follows depends only on which events these are. So a post counts even if the variable may not
-//! change, or the condition of the binding may not be met. A ball that enters a device leads to the device's event, to
+//! These events are the same in every state of the machine. So a post counts even if the variable may keep its value,
+//! or the condition of the binding may not be met. A ball that enters a device leads to the device's event, to
 //! `ball_drain`, and to the answers of the devices that may be told of it.
 
 ghost use Rattle.std.specs.Prelude.{◌≡◌, ◌<◌, length, IfOk, OnOk};

@@ -2,8 +2,8 @@
 //! wanted.
 //!
 //! A device that is told something answers effect lists, and these tell no further device. So the cost of an effect
-//! list has the cost of telling as a parameter. With `Told` that is what the devices answer that may be told. With
-//! `Untold` telling costs nothing.
+//! list has the cost of telling as a parameter. With `Told`, telling costs what the devices that may be told answer.
+//! With `Untold`, telling costs nothing.
 
 use crate::costs::measure_telling;
 use crate::measure::Measure;

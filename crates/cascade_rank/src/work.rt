@@ -1,4 +1,4 @@
-//! What the machine itself leads to at an event.
+//! The event that the machine itself posts next, at an event of a mode.
 
 ghost use Rattle.std.specs.Prelude.{◌≡◌, ◌<◌, length, IfSome};
 ghost use Rattle.plan_tables.specs.declared.entries.Work.TheVariants as works;

@@ -1,8 +1,8 @@
 //! The most lines and steps that one stimulus can take.
 //!
 //! A bound counts lines. A handler whose condition is not met writes none, nor does a device that answers no list, and
-//! yet they take time. So a handler that is looked at is a step here, and so is a call of a device. The least weights in
-//! lines and steps are found as those in lines are.
+//! yet they take time. So each handler that is looked at is a step here, and so is each call of a device. The least
+//! weights in lines and steps are found in the same way as those in lines.
 
 ghost use Rattle.std.specs.Prelude.{◌≡◌, ◌-◌, ◌^◌, None, length, IfOk};
 ghost use Rattle.cascade_rank.specs.Cycle.{first_open};

@@ -1,4 +1,4 @@
--- What a board is sent, and what it takes of that.
+-- The commands that a board is sent, and those of them that it takes.
 use Rattle.std.specs.{Prelude.{◌≡◌, ℕ, true, false, Option, None, Some, Ok, List, [], ◌∷◌, ◌++◌}, List.flat_map}
 use Rattle.plan_tables.specs.declared.entries.Owner.{Owner}
 use Rattle.coil_guard.specs.declared.{command.Command.Command, state.CoilState.CoilState}

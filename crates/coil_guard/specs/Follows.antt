@@ -1,5 +1,5 @@
--- The state of a guard and the commands that it has sent. What drives a guard keeps this from call to call, and then
--- has the laws without a list of calls.
+-- The state of a guard follows from the commands that it has sent. Code that calls a guard can carry this from call to
+-- call. It then has the laws without a list of calls.
 use Rattle.std.specs.Prelude.{◌≡◌, ℕ, ◌+◌, ◌<◌, ◌≤◌, true, false, is_some, List, [], ◌++◌, length, nat_lt, All}
 use Rattle.plan_tables.specs.declared.entries.{Owner.Owner, CoilId.CoilId, CoilLimits.CoilLimits}
 use Rattle.coil_guard.specs.{declared.state.CoilState.CoilState, Owners.is_holder, CoilStep.is_on_at}

@@ -3,8 +3,8 @@ use Rattle.std.proofs.Common.{rules, ◌≡◌, ℕ, ◌+◌, ◌*◌, ◌≤◌
 use Rattle.std.specs.{List.{All, zip}, Fmt.decimal}
 use Rattle.std.proofs.lemmas.{Fmt.length-decimal-le, Slice.Zip.{firsts-zip, seconds-zip}}
 use Rattle.std.proofs.lemmas.List.{length-append, length-map, Concat.length-flat_map, Sums.sum_by-le}
-use Rattle.mpf_config.specs.{Rows.Rows, Reading.rows_at}
-use Rattle.mpf_config.proofs.{RowNames.{rows_are_named, modes_are_named}, ShortRows.{rows_are_short, rows_are_few}}
+use Rattle.mpf_config.{specs.{Rows.Rows, Reading.rows_at}, proofs.RowNames.{rows_are_named, modes_are_named}}
+use Rattle.mpf_config.proofs.{ShortRows.{rows_are_short, rows_are_few}, StateRows.rows_have_states}
 use Rattle.plan_tables.specs.{PlanView.PlanView, declared.table.Table.TheVariants.Switches, Limits.entry_names}
 use Rattle.cascade_rank.specs.{Events.weight_of, Weights.{greatest, switch_costs}}
 use Rattle.written_machine.specs.{CheckedView.CheckedView, Accepted.IsAccepted}
@@ -60,7 +60,8 @@ pub certificate-few : (rows : Rows) (bundle : List ℕ) (c : CheckedView) → ro
 certificate-few rows bundle c read is =
     let machine = rows_are_named bundle rows read in
     let modes = modes_are_named bundle rows read in
-    let plan = found-plan rows c is in
-    text-few c (found_is_accepted rows (rows_are_short bundle rows read) (rows_are_few bundle rows read) c is)
+    let states = rows_have_states bundle rows read in
+    let plan = found-plan rows states c is in
+    text-few c (found_is_accepted rows (rows_are_short bundle rows read) states (rows_are_few bundle rows read) c is)
     (subst (λ (p : PlanView). All (λ name. length name ≤ 198) p.events) (sym plan) (events_are_few rows machine modes))
     (subst (λ (p : PlanView). All (λ name. length name ≤ 64) (entry_names p Switches)) (sym plan) (switches_are_few rows machine modes))

@@ -2,8 +2,8 @@
 use Rattle.std.{proofs.Common.{rules, ◌≡◌, ℕ, List, ap}, specs.Prelude.{Some, unwrap_or}}
 use Rattle.mpf_sections.specs.{declared.words.CoilAction.CoilAction, Rows.{Coil, CoilItem, SectionRows}}
 use Rattle.machine_definitions.specs.Definitions.{coil_called, no_coil}
-use Rattle.plan_contributions.specs.Effects.{Deed, pulse, enable, disable}
-use Rattle.row_contributions.specs.CoilEntries.{Defaults, defaults_of_coil, defaults_called, deed_by}
+use Rattle.plan_parts.specs.Effects.{Deed, pulse, enable, disable}
+use Rattle.plan_parts.specs.CoilEntries.{Defaults, defaults_of_coil, defaults_called, deed_by}
 use Rattle.row_faults.specs.Sound.{IsPulseWithin, IsHoldWithin, IsCoilSuch, IsActionWithin, IsItemSound}
 
 -- what is done with a coil is within its limits
@@ -30,4 +30,3 @@ module _ (machine : List SectionRows) where
 
   pub item_deed : (i : CoilItem) → IsItemSound machine i → IsDeedSound i.coil.text (deed_by (defaults_called machine i.coil.text) i i.action)
   item_deed i h = sound i.coil.text (λ c. IsActionWithin c i i.action) (λ d. deed_by d i i.action) (λ c within. action_within i i.action c within) h
-  -- ---- flippers

@@ -7,10 +7,10 @@ use Rattle.mpf_config.specs.{Rows.Rows, Named.IsNamedMode}
 use Rattle.mpf_sections.{specs.Named.{IsName, IsNamed}, proofs.RowNames.name_bytes}
 use Rattle.plan_tables.specs.declared.entries.ModeEvent.{ModeEvent}
 use Rattle.machine_definitions.specs.{GameEvents.game_event_names, Players.player_event}
-use Rattle.plan_contributions.specs.Contributions.{event_ending, mode_event_name}
-use Rattle.row_contributions.specs.DeviceEntries.{block_event, block_endings, timer_event, timer_endings}
-use Rattle.row_contributions.specs.{BallEntries.{ball_event, ball_endings}, ShotEntries.{shot_events, group_events}}
-use Rattle.row_contributions.specs.SaveEntries.{save_event, save_endings, multiball_event, multiball_endings}
+use Rattle.plan_parts.specs.{Effects.{event_ending, mode_event_name}, BallEntries.{ball_event, ball_endings}}
+use Rattle.plan_parts.specs.DeviceEntries.{block_event, block_endings, timer_event, timer_endings}
+use Rattle.plan_parts.specs.ShotEntries.{shot_events, group_events}
+use Rattle.plan_parts.specs.SaveEntries.{save_event, save_endings, multiball_event, multiball_endings}
 use Rattle.mpf_plan.{specs.PlanOf.plan_of, proofs.EventNames.event_names}
 use Rattle.config_checker.specs.CertificateOf.{is_in_word, IsWord}
 

@@ -5,8 +5,8 @@ use Rattle.std.specs.{List.{All, list_any}, Str.bytes_eq}
 use Rattle.std.proofs.lemmas.{Bool.eq-eqb, List.Elements.All-from_recursion, Slice.Eq.bytes_eq-Decides}
 use Rattle.yaml_subset.specs.Keys.{is_among}
 use Rattle.mpf_config.specs.Rows.{Rows}
-use Rattle.row_contributions.specs.{DeviceEntries.{block_event, timer_event}, SaveEntries.{save_event, multiball_event}}
-use Rattle.row_contributions.specs.{BallEntries.ball_event, ShotEntries.{shot_events, group_events}}
+use Rattle.plan_parts.specs.{DeviceEntries.{block_event, timer_event}, SaveEntries.{save_event, multiball_event}}
+use Rattle.plan_parts.specs.{BallEntries.ball_event, ShotEntries.{shot_events, group_events}}
 use Rattle.machine_definitions.specs.GameEvents.{reserved_game_events}
 use Rattle.row_faults.specs.Reserved.{events_of_modes, mode_names, is_reserved}
 

@@ -1,115 +1,117 @@
--- Sound rows use no name that nothing has: each coil and each switch that their contributions use is given.
-use Rattle.std.proofs.Common.{rules, ◌≡◌, ℕ, zero, suc, ◌<◌, Bool, true, false, cond, ◌||◌, if◌then◌else◌, List, [], ◌∷◌, ◌++◌, length, map, fold, get_or, refl, sym, ◌∙◌, ap, true≢false, arith}
-use Rattle.std.specs.{Prelude.{Option, Some}, List.{list_any, flat_map}, Str.bytes_eq}
-use Rattle.std.proofs.lemmas.{Bool.{eq-eqb, or_left, or_right}, List.Folds.list_any-append}
-use Rattle.mpf_sections.specs.Rows.{Coil}
+-- Sound rows use no name that nothing has: each coil and each switch that their parts use is given.
+use Rattle.std.proofs.Common.{rules, ◌≡◌, ℕ, Bool, true, false, not, ◌&&◌, ◌||◌, List, [], ◌∷◌, ◌++◌, suc, map, get_or, refl, sym, ◌∙◌, ap, ap₂, arith}
+use Rattle.std.specs.{Prelude.{Option, None, Some, is_some}, List.{All, flat_map, list_any}, Str.bytes_eq}
+use Rattle.std.proofs.lemmas.List.{Elements.{All-nil, All-cons, All-append, All-map, All-weaker}, Folds.list_any_none}
+use Rattle.mpf_values.specs.Events.{Condition, Event}
 use Rattle.mpf_config.specs.Rows.{Rows}
-use Rattle.plan_tables.specs.declared.entries.{CoilLimits.CoilLimits, ModeEvent.TheVariants.WillStart}
-use Rattle.plan_tables.specs.{declared.table.Table.{Table, TheVariants.{Events, Coils, Variables}}, Limits.order_of}
-use Rattle.machine_definitions.specs.Definitions.{latest_coil, coil_called}
-use Rattle.plan_contributions.specs.{Effects.Effect, UsedNames.{used, given, name_in_table, given_names}}
-use Rattle.row_contributions.specs.{CoilEntries.limits_of_coil, Contributions.contributions_of}
-use Rattle.plan_contributions.specs.Contributions.{Contribution, gives, active, inactive, mode, mode_event, mode_event_name, binds, does, does_in, listens, mentions, unknown, coil, under}
-use Rattle.row_contributions.specs.{Doing.{IsMention, Does}, Facts.given_coil}
-use Rattle.row_contributions.proofs.{CoilsGiven.coils_given, SwitchesGiven.switches_given, RowEffects.all_do}
-use Rattle.mpf_plan.{specs.{Uses.{is_unknown, lacks_name}, ByName.{IsGiven, AreGiven}}, proofs.Judged.nothing_lacks}
+use Rattle.plan_tables.specs.declared.devices.Act.{Act}
+use Rattle.plan_tables.specs.declared.table.Table.{Table, TheVariants.{Events, Switches, Coils, Variables}}
+use Rattle.machine_definitions.specs.{Definitions.coil_called, GameEvents.game_event_names, Players.player_event}
+use Rattle.plan_parts.specs.Effects.{Effect, posts, works, changes, enters, leaves, loses, arrives, requests, adds_balls}
+use Rattle.plan_parts.specs.Parts.{Whose, Device, Part, switch, coil, game, mode, handler, device, mention, unknown, Reaction, run, start, stop, act_on, parts_of}
+use Rattle.plan_parts.{specs.Doing.{IsMention, Does}, proofs.DoingFacts.all_do}
+use Rattle.mpf_plan.specs.{Uses.{Names, is_to_be_given, is_lacking}, Named.{AreNamed, IsNamed}}
+use Rattle.mpf_plan.proofs.{DoneGiven.{switch_is_given, coil_is_given}, Named.are_named, DoneNames.does_lists}
+use Rattle.mpf_plan.specs.PlanOf.{Use, uses_of, condition_uses, event_uses, effect_uses, lists_in, mode_event_names, settings_uses, part_uses, in_table, part_gives, is_unknown, lacks_name}
 use Rattle.row_faults.specs.Sound.{IsSound}
 use Rattle.config_checker.proofs.RowsDoing.{IsUnreserved, IsFine, IsThere, rows_doing}
-use Rattle.yaml_bytes.proofs.Words.{is_word}
+use Rattle.yaml_bytes.proofs.Each.{All-flat_map, All-from_flat_map}
 
--- ---- what a contribution gives itself
+-- ---- lists
 
-own_name : (t : Table) (n : List ℕ) → list_any (bytes_eq n) (name_in_table t (Some (t, n))) ≡ true
-own_name t n = ap (λ b. list_any (bytes_eq n) (cond b (n ∷ []) [])) (eq-eqb (order_of t) (order_of t) refl) ∙ or_left (bytes_eq n n) false (is_word n n refl)
-
-given_there : (cs : List Contribution) (i : ℕ) (d c : Contribution) (t : Table) (n : List ℕ) → i < length cs → get_or cs i d ≡ c → given c ≡ Some (t, n) → list_any (bytes_eq n) (given_names t cs) ≡ true
-given_there [] i d c t n within at is = absurd (omega arith)
-given_there (x ∷ cs) zero d c t n within at is = search (rules, list_any-append, or_left, own_name)
-given_there (x ∷ cs) (suc i) d c t n within at is = search (rules, list_any-append, or_right, given_there cs i d c t n (omega arith) at is)
-
--- ---- coils
-
-module _ (n : List ℕ) where
-  abbrev is_it : List ℕ × CoilLimits → Bool
-  is_it g = bytes_eq n g.0
-
-  abbrev is_called : Coil → Bool
-  is_called c = bytes_eq n c.name.text
-
-  -- a coil that is found is one of them
-  found_step : (c x : Coil) (cs : List Coil) (o : Option Coil) (b : Bool)
-      → (fold (latest_coil n) o cs ≡ Some c → ((y : Coil) → o ≡ Some y → list_any is_called cs ≡ true) → list_any is_called cs ≡ true)
-      → fold (latest_coil n) (if b then Some x else o) cs ≡ Some c → ((y : Coil) → o ≡ Some y → (b || list_any is_called cs) ≡ true) → (b || list_any is_called cs) ≡ true
-  found_step c x cs o x5 rest is old = search rules
-
-  found_any : (c : Coil) (cs : List Coil) (o : Option Coil) → fold (latest_coil n) o cs ≡ Some c → ((y : Coil) → o ≡ Some y → list_any is_called cs ≡ true) → list_any is_called cs ≡ true
-  found_any c [] o is old = old c is
-  found_any c (x ∷ cs) o is old = found_step c x cs o (is_called x) (found_any c cs o) is old
-
-  abbrev as_given : Coil → List ℕ × CoilLimits
-  as_given c = (c.name.text, limits_of_coil c)
-
-  as_given-any : (cs : List Coil) → list_any is_called cs ≡ list_any is_it (map as_given cs)
-  as_given-any [] = refl
-  as_given-any (c ∷ cs) = ap (λ b. bytes_eq n c.name.text || b) (as_given-any cs)
-
-  -- a coil that a contribution gives is among the names that are given
-  coil-named : (cs : List Contribution) → list_any is_it (flat_map given_coil cs) ≡ true → list_any (bytes_eq n) (given_names Coils cs) ≡ true
-  coil-named [] is = is
-  coil-named (c ∷ cs) is = by c (coil-named cs) is
-    where
-      own : (b : Bool) → (list_any is_it (flat_map given_coil cs) ≡ true → list_any (bytes_eq n) (given_names Coils cs) ≡ true) → (b || list_any is_it (flat_map given_coil cs)) ≡ true → (b || list_any (bytes_eq n) (given_names Coils cs)) ≡ true
-      own x1 rest h = search rules
-
-      by : (c : Contribution) → (list_any is_it (flat_map given_coil cs) ≡ true → list_any (bytes_eq n) (given_names Coils cs) ≡ true) → list_any is_it (given_coil c ++ flat_map given_coil cs) ≡ true
-          → list_any (bytes_eq n) (name_in_table Coils (given c) ++ given_names Coils cs) ≡ true
-      by x1 rest h = search (rules, own, list_any-append, or_right)
-
-  coil_given : (rows : Rows) (c : Coil) → coil_called rows.machine n ≡ Some c → list_any (bytes_eq n) (given_names Coils (contributions_of rows)) ≡ true
-  coil_given rows c is = search (rules, coil-named, coils_given, as_given-any, found_any)
-
--- ---- all contributions
+all_named : (us more : List Use) → AreNamed us more → All (IsNamed us) more
+all_named us [] named = All-nil (IsNamed us)
+all_named us (u ∷ more) named = All-cons (IsNamed us) u more named.0 (all_named us more named.1)
 
 module _ (rows : Rows) (sound : IsSound rows) where
-  abbrev cs : List Contribution
-  cs = contributions_of rows
+  abbrev ps : List Part
+  ps = parts_of rows
 
-  never : (n : List ℕ) → IsGiven cs (Some (Events, n))
-  never n needed = absurd (true≢false (sym needed))
+  abbrev given : Names
+  given table = in_table table (flat_map part_gives (parts_of rows))
 
-  never_variable : (n : List ℕ) → IsGiven cs (Some (Variables, n))
-  never_variable n needed = absurd (true≢false (sym needed))
+  -- a use that is not lacking
+  abbrev IsGiven : Use → Type 0
+  IsGiven u = is_lacking given u ≡ false
 
-  effect-given : (e : Effect) → IsFine rows e → IsGiven cs (used (does e))
-  effect-given x1 h = search (rules, never, coil_given, never_variable)
+  abbrev Doing : Part → Type 0
+  Doing p = Does (IsFine rows) (IsUnreserved rows) (IsThere rows) p
 
-  -- what a setting names
-  mention-given : (t : Table) (n : List ℕ) → IsMention (IsFine rows) (IsUnreserved rows) (IsThere rows) t n → IsGiven cs (Some (t, n))
-  mention-given x1 n h = search (rules, never, switches_given)
+  -- what a part gives is given
+  own_given : All (λ p. All (IsNamed (flat_map part_gives ps)) (part_gives p)) ps
+  own_given =
+      let us = flat_map part_gives ps in
+      All-from_flat_map (IsNamed us) part_gives ps (all_named us us (are_named [] us))
 
-  is_known : (c : Contribution) → Does (IsFine rows) (IsUnreserved rows) (IsThere rows) c → is_unknown c ≡ false
-  is_known x1 h = search rules
+  named-given : (t : Table) (n : List ℕ) → list_any (bytes_eq n) (given t) ≡ true → IsGiven (t, n)
+  named-given t n there = by (is_to_be_given t) (list_any (bytes_eq n) (given t)) there
+    where
+      by : (b c : Bool) → c ≡ true → (b && not c) ≡ false
+      by x1 x2 is = search rules
 
-  is_given : (i : ℕ) (d c : Contribution) → i < length cs → get_or cs i d ≡ c → Does (IsFine rows) (IsUnreserved rows) (IsThere rows) c → IsGiven cs (used c)
-  is_given i d (gives t n) within at h = λ needed. given_there cs i d (gives t n) t n within at refl
-  is_given i d (coil n limits) within at h = λ needed. given_there cs i d (coil n limits) Coils n within at refl
-  is_given i d (listens k n) within at h = λ needed. switches_given rows n h
-  is_given i d (does e) within at h = effect-given e h
-  is_given i d (does_in k e) within at h = effect-given e h
-  is_given i d (active n) within at h = never n
-  is_given i d (inactive n) within at h = never n
-  is_given i d (mode n priority game holds) within at h = never (mode_event_name WillStart n)
-  is_given i d (mode_event which n) within at h = never (mode_event_name which n)
-  is_given i d (binds n place aim) within at h = never n
-  is_given i d (mentions t n) within at h = mention-given t n h
-  is_given i d unknown within at h = absurd h
-  is_given i d (under c) within at h = never_variable c.variable
-  is_given i d _ within at h = tt
+  events-given : (ns : List (List ℕ)) → All IsGiven (uses_of Events ns)
+  events-given ns = All-map IsGiven (λ n. (Events, n)) ns (λ i d within. refl)
 
-  are_given : AreGiven cs
-  are_given =
+  switches-given : (ns : List (List ℕ)) → All (IsThere rows) ns → All IsGiven (uses_of Switches ns)
+  switches-given ns there = All-map IsGiven (λ n. (Switches, n)) ns (λ i d within. named-given Switches (get_or ns i d) (switch_is_given rows (get_or ns i d) ∙ there i d within))
+
+  coil-given : (n : List ℕ) → is_some (coil_called rows.machine n) ≡ true → IsGiven (Coils, n)
+  coil-given n there = named-given Coils n (coil_is_given rows n ∙ there)
+
+  handled-given : (e : Event) → All IsGiven (event_uses e)
+  handled-given e = All-cons IsGiven (Events, e.name) (condition_uses e.condition) refl (by e.condition)
+    where
+      by : (o : Option Condition) → All IsGiven (condition_uses o)
+      by None = All-nil IsGiven
+      by (Some c) = All-cons IsGiven (Variables, c.variable) [] refl (All-nil IsGiven)
+
+  -- ---- effects
+
+  effect-given : (e : Effect) → IsFine rows e → All IsGiven (effect_uses e)
+  effect-given (posts n) h = All-cons IsGiven (Events, n) [] refl (All-nil IsGiven)
+  effect-given (works n deed) h = All-cons IsGiven (Coils, n) [] (coil-given n (ap is_some h.called)) (All-nil IsGiven)
+  effect-given (changes v action n) h = All-cons IsGiven (Events, player_event v) ((Variables, v) ∷ []) refl (All-cons IsGiven (Variables, v) [] refl (All-nil IsGiven))
+  effect-given (enters n drain) h = All-cons IsGiven (Events, n) [] refl (All-nil IsGiven)
+  effect-given _ h = All-nil IsGiven
+
+  -- ---- parts
+
+  mention-given : (t : Table) (n : List ℕ) → IsMention (IsFine rows) (IsUnreserved rows) (IsThere rows) t n
+      → IsGiven (t, n)
+  mention-given Events n h = refl
+  mention-given Switches n h = named-given Switches n (switch_is_given rows n ∙ h)
+  mention-given _ n h = absurd h
+
+  settings-given : (p : Part) → Doing p → All (IsNamed (flat_map part_gives ps)) (part_gives p)
+      → All IsGiven (settings_uses p)
+  settings-given (switch n kind confirms on off) h own = All-cons IsGiven (Switches, n) (uses_of Events (on ++ off)) (named-given Switches n (own 0 (Switches, n) (omega arith))) (events-given (on ++ off))
+  settings-given (coil n limits) h own = All-cons IsGiven (Coils, n) [] (named-given Coils n (own 0 (Coils, n) (omega arith))) (All-nil IsGiven)
+  settings-given (game a b c) h own = events-given game_event_names
+  settings-given (mode n s) h own = events-given (mode_event_names n)
+  settings-given (handler whose e r) h own = handled-given e
+  settings-given (device whose d) h own =
+      let heard = uses_of Switches d.listens in
+      let handled = flat_map (λ (x : Event × Act). event_uses x.0) d.handled in
+      All-append IsGiven (heard ++ handled) (uses_of Events d.mentioned)
+      (All-append IsGiven heard handled (switches-given d.listens h.0.listens) (All-flat_map IsGiven (λ (x : Event × Act). event_uses x.0) d.handled (λ i x within. handled-given (get_or d.handled i x).0)))
+      (events-given d.mentioned)
+  settings-given (mention t n) h own = All-cons IsGiven (t, n) [] (mention-given t n h) (All-nil IsGiven)
+  settings-given unknown h own = absurd h
+
+  part-given : (p : Part) → Doing p → All (IsNamed (flat_map part_gives ps)) (part_gives p) → All IsGiven (part_uses p)
+  part-given p h own =
+      let lists = does_lists (IsFine rows) (IsUnreserved rows) (IsThere rows) p h in
+      All-append IsGiven (settings_uses p) (flat_map (flat_map effect_uses) (lists_in p)) (settings-given p h own)
+      (All-flat_map IsGiven (flat_map effect_uses) (lists_in p)
+      (λ i es within. All-flat_map IsGiven effect_uses (get_or (lists_in p) i es) (λ j e inside. effect-given (get_or (get_or (lists_in p) i es) j e) (lists i es within j e inside))))
+
+  known : (p : Part) → Doing p → is_unknown p ≡ false
+  known unknown h = absurd h
+  known _ h = refl
+
+  pub lacks_nothing : lacks_name (parts_of rows) ≡ false
+  unfolding lacks_name
+  lacks_nothing =
       let doing = all_do (IsFine rows) (IsUnreserved rows) (IsThere rows) rows (rows_doing rows sound) in
-      λ i d within. (is_known (get_or cs i d) (doing i d within), is_given i d (get_or cs i d) within refl (doing i d within))
-
-  pub lacks_nothing : lacks_name (contributions_of rows) ≡ false
-  lacks_nothing = nothing_lacks cs are_given
+      ap₂ (λ a b. a || b) (list_any_none is_unknown ps (All-weaker Doing (λ p. is_unknown p ≡ false) known ps doing))
+      (list_any_none (λ u. is_lacking given u) (flat_map part_uses ps) (All-flat_map IsGiven part_uses ps (λ i p within. part-given (get_or ps i p) (doing i p within) (own_given i p within))))

@@ -7,8 +7,8 @@ use Rattle.std.proofs.lemmas.List.{get_or-map, Folds.list_any-append}
 use Rattle.std.proofs.lemmas.{Slice.Eq.bytes_eq-Decides, Bool.{or_left, or_right, or_parts}}
 use Rattle.std.proofs.lemmas.List.Elements.{All-nil, All-cons, All-weaker, Contains-append_right}
 use Rattle.yaml_subset.specs.Keys.{is_among}
-use Rattle.mpf_sections.specs.{Rows.{Written, Coil}, Typed.listed_modes, TypedCoils.coils_in}
-use Rattle.mpf_config.specs.{Rows.{ModeRows, Rows}, Short.AreListsShort, FewModes.AreFewModes}
+use Rattle.mpf_sections.specs.{Rows.{Written, Coil}, Typed.listed_modes}
+use Rattle.mpf_config.specs.{Rows.{ModeRows, Rows}, Short.AreListsShort, FewModes.AreFewModes, States.HaveStates}
 use Rattle.plan_tables.specs.declared.entries.{EventId.EventId, Action.Action, CoilId.CoilId, Owner.Owner}
 use Rattle.plan_tables.specs.declared.entries.{ModeEvent.ModeEvent, CoilLimits.CoilLimits}
 use Rattle.plan_tables.specs.declared.entries.Target.{Target, TheVariants.Act}
@@ -17,12 +17,12 @@ use Rattle.plan_tables.specs.PlanView.{PlanCoil, no_coil, PlanView, name_of_even
 use Rattle.plan_tables.specs.{Valid.IsActionWithin, BallRows.BookingsAreRight}
 use Rattle.cascade_rank.specs.Verified.{IsVerified}
 use Rattle.coil_guard.specs.{Asked.limits_of, Limits.{no_limits, limits_at}}
-use Rattle.machine_definitions.specs.{Definitions.{latest_coil, coil_called}, GameEvents.reserved_game_events}
-use Rattle.row_contributions.specs.{CoilEntries.limits_of_coil, Contributions.contributions_of}
-use Rattle.plan_contributions.specs.Contributions.{mode_event_name}
-use Rattle.row_contributions.proofs.{BallRows.doing_heard_once, CoilsGiven.coils_given, RowEffects.all_do}
-use Rattle.mpf_plan.specs.{PlanOf.plan_at, ByName.{IsByVariable, IsDone, effect_of, latest_limits, limits_called}}
+use Rattle.machine_definitions.specs.{Definitions.coil_called, GameEvents.reserved_game_events}
+use Rattle.plan_parts.specs.{Effects.mode_event_name, CoilEntries.limits_of_coil, Parts.parts_of}
+use Rattle.plan_parts.proofs.DoingFacts.{all_do, doing_heard_once}
+use Rattle.mpf_plan.specs.{PlanOf.plan_at, ByName.{IsByVariable, IsDone, effect_of, limits_called}}
 use Rattle.mpf_plan.proofs.{DoneNames.{by_variable, done-named}, ModeEventNames.free-by_name}
+use Rattle.mpf_plan.proofs.{DoneGiven.limits_are_given, Called.left_false}
 use Rattle.mpf_plan.proofs.ValidPlan.{HasEntries-plan_at, own-plan_at, listeners-plan_at, limits-plan_at, IsValid-plan_at}
 use Rattle.mpf_plan.proofs.WithBalls.{ball_devices_own-plan_at, right_with_balls-plan_at}
 use Rattle.written_machine.specs.CoilActions.{KeepsLimits, ActionsKeepLimits}
@@ -48,9 +48,6 @@ modes-among : (names : List (List ℕ)) (name : List ℕ) (which : ModeEvent) �
 modes-among [] name which (k, l, is) = absurd (omega arith)
 modes-among (n ∷ names) name which (zero, l, is) = search (rules, list_any-append, or_left, one-passes, is_word)
 modes-among (n ∷ names) name which (suc k, l, is) = search (rules, list_any-append, or_right, modes-among names name which (k, omega arith, is))
-
-first-false : (a b : Bool) → (a || b) ≡ false → a ≡ false
-first-false x1 b h = search rules
 
 -- ---- the plan
 
@@ -78,7 +75,7 @@ module _ (rows : Rows) (none : faults_of_rows rows ≡ []) (plan : PlanView) (is
       let more = map (λ (m : ModeRows). m.name) rows.modes in
       let among = modes-among (mode_names rows) name which (Contains-append_right names more name there) in
       true≢false (sym (or_right (is_among reserved_game_events (mode_event_name which name)) (is_among (events_of_modes (mode_names rows)) (mode_event_name which name)) among) ∙ ap (is_reserved rows) (sym same) ∙ h))
-      (apart-all reserved_game_events (name_of_event plan e) (first-false (is_among reserved_game_events (name_of_event plan e)) (is_among (events_of_modes (mode_names rows)) (name_of_event plan e)) h))
+      (apart-all reserved_game_events (name_of_event plan e) (left_false (is_among reserved_game_events (name_of_event plan e)) (is_among (events_of_modes (mode_names rows)) (name_of_event plan e)) h))
       IsFreeWork tt refl
 
   action-free : (a : Action) → IsByVariable plan a → IsFine rows (effect_of plan a) → IsFreeAction plan a
@@ -99,11 +96,6 @@ module _ (rows : Rows) (none : faults_of_rows rows ≡ []) (plan : PlanView) (is
 
   -- ---- coils
 
-  -- the latest limits that are given for a name are those of the coil that is called so
-  called_limits : (name : List ℕ) (cs : List Coil) (o : Option Coil) → fold (latest_limits name) (option_map limits_of_coil o) (map (λ c. (c.name.text, limits_of_coil c)) cs) ≡ option_map limits_of_coil (fold (latest_coil name) o cs)
-  called_limits name [] o = refl
-  called_limits name (c ∷ cs) o = search (rules, called_limits name cs (latest_coil name o c))
-
   same_Some : (a b : CoilLimits) → Some a ≡ Some b → a ≡ b
   same_Some a b e = cc
 
@@ -111,26 +103,25 @@ module _ (rows : Rows) (none : faults_of_rows rows ≡ []) (plan : PlanView) (is
   limits_are : (c : CoilId) → c.0 < length plan.coils → (x : Coil) → coil_called rows.machine (coil_at plan c).name ≡ Some x → limits_at (limits_of plan) c ≡ limits_of_coil x
   limits_are c within x called =
       let name = (coil_at plan c).name in
-      let given : limits_called (contributions_of rows) name ≡ Some (coil_at plan c).limits = limits-plan_at rows plan is c within in
-      let own : limits_called (contributions_of rows) name ≡ Some (limits_of_coil x) =
-      ap (fold (latest_limits name) None) (coils_given rows) ∙ called_limits name (flat_map coils_in rows.machine) None ∙ ap (option_map limits_of_coil) called in
+      let given : limits_called (parts_of rows) name ≡ Some (coil_at plan c).limits = limits-plan_at rows plan is c within in
+      let own : limits_called (parts_of rows) name ≡ Some (limits_of_coil x) = limits_are_given rows name ∙ ap (option_map limits_of_coil) called in
       get_or-map (λ (p : PlanCoil). p.limits) plan.coils c.0 no_coil no_limits within ∙ same_Some (coil_at plan c).limits (limits_of_coil x) (sym given ∙ own)
 
   action-keeps_limits : (a : Action) → IsActionWithin plan a → IsFine rows (effect_of plan a) → KeepsLimits plan a
   action-keeps_limits x1 within h = search (rules, limits_are)
 
-  plan_keeps_limits : ActionsKeepLimits plan
-  plan_keeps_limits =
-      let entries = HasEntries-plan_at rows plan is in
+  plan_keeps_limits : HaveStates rows → ActionsKeepLimits plan
+  plan_keeps_limits states =
+      let entries = HasEntries-plan_at rows states plan is in
       let fine = done.lists in
       λ i d inside j a within. action-keeps_limits (get_or (get_or plan.lists i d) j a) (entries.lists i d inside j a within) (fine i d inside j a within)
 
 -- a binding acts on a device of its own owner, and a device that listens is the machine's, and so is a ball device
-plan_own : (rows : Rows) → AreListsShort rows → (plan : PlanView) → plan_at rows ≡ Ok plan → ActsAreOwn plan
-plan_own rows short plan is = record {
+plan_own : (rows : Rows) (plan : PlanView) → plan_at rows ≡ Ok plan → ActsAreOwn plan
+plan_own rows plan is = record {
   bindings = search (rules, All-weaker, own, own-plan_at);
   listeners = listeners-plan_at rows plan is;
-  balls = ball_devices_own-plan_at rows short plan is;
+  balls = ball_devices_own-plan_at rows plan is;
 }
   where
     own : (owner : Owner) (t : Target) → ((r : RowId) (act : ActOfDevice) → t ≡ Act r act → (row_at plan r).owner ≡ owner) → IsOwnAct plan owner t
@@ -138,18 +129,20 @@ plan_own rows short plan is = record {
 
 -- ---- balls
 
-plan_bookings : (rows : Rows) → AreListsShort rows → faults_of_rows rows ≡ [] → (plan : PlanView) → plan_at rows ≡ Ok plan → BookingsAreRight plan
-plan_bookings rows short none plan is = search (rules, doing_heard_once, rows_doing, rows_sound, right_with_balls-plan_at)
+plan_bookings : (rows : Rows) → HaveStates rows → faults_of_rows rows ≡ [] → (plan : PlanView) → plan_at rows ≡ Ok plan → BookingsAreRight plan
+plan_bookings rows states none plan is =
+    right_with_balls-plan_at rows states (doing_heard_once (IsFine rows) (IsUnreserved rows) (IsThere rows) rows (rows_doing rows (rows_sound rows none))) plan is
 
 -- ---- what is accepted
 
--- if no list in the rows is too long, and there are not too many modes, their plan is accepted with weights that serve
-pub plan_accepted : (rows : Rows) → AreListsShort rows → AreFewModes rows.modes → faults_of_rows rows ≡ [] → (c : CheckedView) → plan_at rows ≡ Ok c.plan → IsVerified c.plan c.weights c.bound → IsAccepted c
-plan_accepted rows short few none c is verified = record {
-  valid = IsValid-plan_at rows short few c.plan is;
+-- if no list in the rows is too long, each profile of shots has a state, and there are not too many modes, their plan is
+-- accepted with weights that serve
+pub plan_accepted : (rows : Rows) → AreListsShort rows → HaveStates rows → AreFewModes rows.modes → faults_of_rows rows ≡ [] → (c : CheckedView) → plan_at rows ≡ Ok c.plan → IsVerified c.plan c.weights c.bound → IsAccepted c
+plan_accepted rows short states few none c is verified = record {
+  valid = IsValid-plan_at rows short few states c.plan is;
   free = plan_free rows none c.plan is;
-  own = plan_own rows short c.plan is;
-  limits = plan_keeps_limits rows none c.plan is;
-  bookings = plan_bookings rows short none c.plan is;
+  own = plan_own rows c.plan is;
+  limits = plan_keeps_limits rows none c.plan is states;
+  bookings = plan_bookings rows states none c.plan is;
   verified = verified;
 }

@@ -4,9 +4,9 @@ use Rattle.std.proofs.Common.{rules, ◌≡◌, ℕ, ◌<◌, ◌≤◌, ◌^◌
 use Rattle.std.{specs.List.{All, zip}, proofs.lemmas.{Bool.not-false, Slice.Zip.{firsts-zip, seconds-zip}}}
 use Rattle.std.proofs.{Math.Logic.∥∥₁_elim, lemmas.List.{get_or-map, Elements.All-weaker}}
 use Rattle.mpf_sections.specs.Named.{IsNamed}
-use Rattle.mpf_config.specs.{declared.config.Config.Config, Rows.Rows, View.rows_view}
-use Rattle.mpf_config.specs.{Named.IsNamedMode, FewModes.AreFewModes, Short.AreListsShort, Reading.rows_at}
-use Rattle.mpf_config.proofs.RowNames.{rows_are_named, modes_are_named}
+use Rattle.mpf_config.specs.{declared.config.Config.Config, Named.IsNamedMode, Reading.rows_at}
+use Rattle.mpf_config.specs.{Rows.Rows, View.rows_view, FewModes.AreFewModes, Short.AreListsShort, States.HaveStates}
+use Rattle.mpf_config.proofs.{RowNames.{rows_are_named, modes_are_named}, StateRows.rows_have_states}
 use Rattle.plan_tables.specs.{PlanView.PlanView, Limits.entry_names, Valid.HasEntries}
 use Rattle.plan_tables.specs.declared.{entries.EventId.EventId, table.Table.TheVariants.Switches}
 use Rattle.mpf_plan.specs.PlanOf.{plan_at, plan_of, PlanRefusal}
@@ -99,15 +99,15 @@ module _ (rows : Rows) where
   checked-plan judge x2 c is = search (rules, ok_same, err_not_ok)
 
   -- what was accepted has the plan of the rows, and weights that serve
-  weighed-verified : (plan : PlanView) (found : Result (List ℕ) RankView) (c : CheckedView) → plan_at rows ≡ Ok plan → found_at plan ≡ found → weighed plan found ≡ Ok c
+  weighed-verified : HaveStates rows → (plan : PlanView) (found : Result (List ℕ) RankView) (c : CheckedView) → plan_at rows ≡ Ok plan → found_at plan ≡ found → weighed plan found ≡ Ok c
       → (plan_at rows ≡ Ok c.plan) × IsVerified c.plan c.weights c.bound
-  weighed-verified plan x2 c made found is = search (rules, ok_same, found-verified, HasEntries-plan_at, err_not_ok)
+  weighed-verified states plan x3 c made found is = search (rules, states, ok_same, found-verified, HasEntries-plan_at, err_not_ok)
 
-  found_is_verified : (c : CheckedView) → checked_at rows ≡ Ok c → (plan_at rows ≡ Ok c.plan) × IsVerified c.plan c.weights c.bound
+  found_is_verified : HaveStates rows → (c : CheckedView) → checked_at rows ≡ Ok c → (plan_at rows ≡ Ok c.plan) × IsVerified c.plan c.weights c.bound
   unfolding checked_at weighed_plan
-  found_is_verified c is =
+  found_is_verified states c is =
       let from = checked-plan weighed_plan (plan_at rows) c (first-ok (faults_of_rows rows) (checked weighed_plan (plan_at rows)) c is).1 in
-      weighed-verified from.0 (found_at from.0) c from.1 refl from.2
+      weighed-verified states from.0 (found_at from.0) c from.1 refl from.2
 
   -- so it is with a certificate, and the text is that of the certificate
   given_is_verified : (text : List ℕ) (c : CheckedView) → checked_with_at rows text ≡ Ok c → (plan_at rows ≡ Ok c.plan) × IsVerified c.plan c.weights c.bound × IsCertificateText c text
@@ -117,20 +117,20 @@ module _ (rows : Rows) where
       let certified = accepted_is_certified from.0 text c from.2 in
       (from.1 ∙ ap Ok (sym certified.1), certified.0, certified.2)
 
-  pub found-plan : (c : CheckedView) → checked_at rows ≡ Ok c → c.plan ≡ plan_of rows
-  found-plan c is = (plan_at-Ok rows c.plan (found_is_verified c is).0).0
+  pub found-plan : HaveStates rows → (c : CheckedView) → checked_at rows ≡ Ok c → c.plan ≡ plan_of rows
+  found-plan states c is = (plan_at-Ok rows c.plan (found_is_verified states c is).0).0
 
-  -- if no list in the rows is too long, and there are not too many modes, it is accepted
-  pub found_is_accepted : AreListsShort rows → AreFewModes rows.modes → (c : CheckedView) → checked_at rows ≡ Ok c → IsAccepted c
-  found_is_accepted short few c is =
-      let from = found_is_verified c is in
-      plan_accepted rows short few (found-none c is) c from.0 from.1
+  -- if no list in the rows is too long, each profile of shots has a state, and there are not too many modes, it is accepted
+  pub found_is_accepted : AreListsShort rows → HaveStates rows → AreFewModes rows.modes → (c : CheckedView) → checked_at rows ≡ Ok c → IsAccepted c
+  found_is_accepted short states few c is =
+      let from = found_is_verified states c is in
+      plan_accepted rows short states few (found-none c is) c from.0 from.1
 
   -- if those of their plan's events and switches are words, it is accepted again
   module _ (words : (plan : PlanView) → plan_at rows ≡ Ok plan → IsWorded plan) where
-    again : (c : CheckedView) → IsAcceptedOf rows c → IsReadAgain rows c
-    again c (inl is) = let from = found_is_verified c is in verified-again c (found-none c is) from.0 from.1 (words c.plan from.0)
-    again c (inr (text, is)) = let from = given_is_verified text c is in verified-again c (given-none text c is) from.0 from.1 (words c.plan from.0)
+    again : HaveStates rows → (c : CheckedView) → IsAcceptedOf rows c → IsReadAgain rows c
+    again states c (inl is) = let from = found_is_verified states c is in verified-again c (found-none c is) from.0 from.1 (words c.plan from.0)
+    again states c (inr (text, is)) = let from = given_is_verified text c is in verified-again c (given-none text c is) from.0 from.1 (words c.plan from.0)
 
   -- they are, if every name in the rows is a name
   named-words : All IsNamed rows.machine → All IsNamedMode rows.modes → (plan : PlanView) → plan_at rows ≡ Ok plan → IsWorded plan
@@ -138,7 +138,7 @@ module _ (rows : Rows) where
 
   -- it is so in the rows of a bundle
   pub read-again : (bundle : List ℕ) (c : CheckedView) → rows_at bundle ≡ Ok rows → IsAcceptedOf rows c → IsReadAgain rows c
-  read-again bundle c read is = again (named-words (rows_are_named bundle rows read) (modes_are_named bundle rows read)) c is
+  read-again bundle c read is = again (named-words (rows_are_named bundle rows read) (modes_are_named bundle rows read)) (rows_have_states bundle rows read) c is
 
 words_prop : (plan : PlanView) → IsProp (IsWorded plan)
 words_prop plan = hlevel (Bool-set)
@@ -148,4 +148,4 @@ config-words : (config : Config) (plan : PlanView) → plan_at (rows_view config
 config-words config plan made = ∥∥₁_elim config.all_named (words_prop plan) (λ named. named-words (rows_view config) named.0 named.1 plan made)
 
 pub config-again : (config : Config) (c : CheckedView) → IsAcceptedOf (rows_view config) c → IsReadAgain (rows_view config) c
-config-again config c is = again (rows_view config) (config-words config) c is
+config-again config c is = again (rows_view config) (config-words config) config.have_states c is

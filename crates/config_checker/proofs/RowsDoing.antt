@@ -17,15 +17,15 @@ use Rattle.machine_settings.specs.declared.settings.StepSettings.{StepSettings}
 use Rattle.plan_tables.specs.declared.devices.Settings.{Settings}
 use Rattle.plan_tables.specs.declared.devices.Settings.TheVariants as kinds
 use Rattle.machine_definitions.specs.Definitions.{has_switch, ball_devices_of, latest_ball_device}
-use Rattle.plan_contributions.specs.Effects.{Effect, posts, works, changes, enters, leaves, loses, arrives}
-use Rattle.row_contributions.specs.DeviceEntries.{Device, counter_device, step_device, step_settings, timer_device, device_of, block_event, or_own, block_lists, timer_lists}
-use Rattle.row_contributions.specs.{CoilEntries.{item_effect, rule_device_of}, Contributions.{texts, tag_event}}
-use Rattle.row_contributions.specs.BallEntries.{drains, ball_event, eject_pulse, ball_lists}
-use Rattle.row_contributions.specs.SaveEntries.{save_device, multiball_device, save_device_of}
-use Rattle.row_contributions.specs.ShotEntries.{shot_events, group_events, shot_lists, state_lists, group_lists}
+use Rattle.plan_parts.specs.Effects.{Effect, posts, works, changes, enters, leaves, loses, arrives}
+use Rattle.plan_parts.specs.DeviceEntries.{texts, Device, counter_device, step_device, step_settings, timer_device, device_of, block_event, or_own, block_lists, timer_lists}
+use Rattle.plan_parts.specs.{CoilEntries.{item_effect, rule_device_of}, Parts.tag_event}
+use Rattle.plan_parts.specs.BallEntries.{drains, ball_event, eject_pulse, ball_lists}
+use Rattle.plan_parts.specs.SaveEntries.{save_device, multiball_device, save_device_of}
+use Rattle.plan_parts.specs.ShotEntries.{shot_events, group_events, shot_lists, state_lists, group_lists}
 use Rattle.plan_rows.specs.Members.{members_of}
-use Rattle.row_contributions.specs.Doing.{IsSwitchDoing, IsPlayerDoing, IsEntryDoing, IsCoilPlayerDoing, IsVariablePlayerDoing, IsShotDoing, IsShotGroupDoing, has_target, IsBallDeviceDoing, IsDoing, IsMachineDoing, AreDoing}
-use Rattle.row_contributions.proofs.SaveFacts.{all_save, all_multiball}
+use Rattle.plan_parts.specs.Doing.{IsSwitchDoing, IsPlayerDoing, IsEntryDoing, IsCoilPlayerDoing, IsVariablePlayerDoing, IsShotDoing, IsShotGroupDoing, has_target, IsBallDeviceDoing, IsDoing, IsMachineDoing, AreDoing}
+use Rattle.plan_parts.proofs.SaveFacts.{all_save, all_multiball}
 use Rattle.row_faults.specs.Reserved.{is_reserved, switch_posts, player_posts, counter_posts, step_posts, posts_in, posts_of}
 use Rattle.row_faults.specs.Sound.{ChangesNothingBarred, IsChangeFree, IsItemSound, IsCoilSound, IsCoilSuch, IsCoilPlayerSound, IsRuleSound, IsShotSound, IsShotGroupSound, IsBallDeviceSound, IsSectionSound, IsSound}
 use Rattle.row_faults.specs.{Routes.switch_names, BallFaults.is_place}

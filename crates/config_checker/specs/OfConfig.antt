@@ -1,4 +1,4 @@
--- What checking gives of a configuration as the program has it.
+-- What checking gives for a configuration as the code has it.
 use Rattle.std.specs.Prelude.{◌≡◌, ℕ, List, [], Result, Ok}
 use Rattle.mpf_config.specs.{declared.config.Config.Config, View.rows_view}
 use Rattle.plan_tables.specs.PlanView.{PlanView}

@@ -1,7 +1,7 @@
 //! Faults in the texts of a configuration: what is wrong, and where.
 //!
-//! A [`Fault`] has its kind, its text, its line and its key. A [`Spot`] is a place at which there may be one: a reader
-//! gets it, and makes the fault of a kind there.
+//! A [`Fault`] has its kind, its text, its line and its key. A [`Spot`] is a place at which there may be a fault. A
+//! reader is given the spot, and makes a fault of some kind there if it finds one.
 #![tactic(auto)]
 
 mod fault;

@@ -1,4 +1,4 @@
--- What a kind of device is, for devices of some settings.
+-- What a kind of device is, at given settings.
 use Rattle.std.specs.Prelude.{ℕ, zero, suc, Option, None, Some, IsSomeAnd, List, []}
 use Rattle.plan_tables.specs.declared.devices.Act.{Act}
 use Rattle.device_objects.specs.declared.{device.Call.Call, state.{DeviceState.DeviceState, World.World}}

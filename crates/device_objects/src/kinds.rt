@@ -1,4 +1,4 @@
-//! The kinds of devices: each function has a line for each.
+//! The kinds of devices. Each function here matches on the kind.
 
 ghost use Rattle.std.specs.Prelude.{◌≡◌, ◌↔◌, IsTrue, length, map};
 ghost use Rattle.plan_tables.specs.Devices.{IsWithinLimits};

@@ -1,4 +1,4 @@
-//! What takes part in the handling of each event, by priority.
+//! The bindings that handle each event, in the order of their priorities.
 
 ghost use Rattle.std.specs.Prelude.{◌≡◌, ◌+◌, ◌<◌, ◌≤◌, ◌++◌, true, false, Bool, List, [], ◌∷◌, length, slice_index_or, vec_capacity, IfOk};
 ghost use Rattle.std.specs.{List.{All, AllPairs, AllWithin}, Ordering.is_lt};

@@ -1,4 +1,4 @@
--- What a board with a wire sends, and the list that it tells.
+-- What a board with a wire sends, and which commands it reports as taken.
 use Rattle.std.specs.{Prelude.{ℕ, Option, option_map, List, [], ◌∷◌, ◌++◌, codes}, Fmt.decimal}
 use Rattle.arrayvec.specs.ArrayVec.{ArrayVec}
 use Rattle.coil_guard.specs.declared.command.Command.{Command, TheVariants.{Pulse, Enable, Disable}}

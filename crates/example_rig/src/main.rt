@@ -1,5 +1,5 @@
-//! A controller of its own. It runs the machine in a folder on a board of its own, and gives it a device
-//! of its own while it runs. docs/embedding.md walks through it.
+//! An example of a program of your own. It runs the machine in a folder, on a board that is defined here. While the
+//! machine runs, it exchanges a device for one that is defined here. docs/embedding.md walks through it.
 #![tactic(auto)]
 
 mod counted_autofire;

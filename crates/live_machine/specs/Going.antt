@@ -1,4 +1,4 @@
--- What answering lines does, one after another.
+-- What happens while lines are answered, one after another.
 use Rattle.std.specs.Prelude.{◌≡◌, ◌⊎◌, ℕ, ◌+◌, Bool, false, Option, None, Result, Ok, Err, List, [], ◌++◌, length}
 use Rattle.std.specs.Io.KnownBytes.{Appends}
 use Rattle.plan_tables.specs.{PlanView.PlanView, declared.entries.CoilId.CoilId}

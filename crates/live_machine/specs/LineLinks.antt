@@ -11,8 +11,8 @@ held buffer = slice_range buffer.room.items buffer.start buffer.end
 abbrev pub HasLine : List ℕ → Type 0
 HasLine text = IsSome (cut_line text).1
 
--- What the link reports, where it is known what was written and what the reader has. All that was written was told. What
--- is left is what was read and not heard, and then what the reader has.
+-- What the link reports, where it is known what was written and what the reader has. All that was written was told.
+-- What is left is what was read and not heard, and then what the reader has.
 abbrev pub reported : (written remaining : Option (List ℕ)) → (unheard : List ℕ) → Option LinkView
 reported None remaining unheard = None
 reported (Some written) None unheard = None

@@ -31,8 +31,8 @@ printed_after plan bound earlier line =
     let s = after_log_lines plan bound earlier (initial plan) in
     printed_for_line plan bound (length earlier + 1) s (given_by_line plan s.moment (said line))
 
--- The board has not taken a command of the last line that was heard. What comes before the line of this command is told,
--- and that the line of the log is refused.
+-- The board has not taken a command of the last line that was heard. What comes before the line of this command is
+-- told, and that the line of the log is refused.
 pub record AreCutOff (plan : PlanView) (bound : ℕ) (heard : List (List ℕ)) (old : RigView) (talk : List Talk) (printed : List Printed) (new : RigView) : Type 0 where
   pub earlier : List (List ℕ)
   pub last : List ℕ
@@ -89,7 +89,8 @@ pub record IsLive (c : CheckedView) (shows : Bool) (first last : BoardView) (old
   pub end : HaveEnded c.plan c.bound heard (at_rest c first) talk printed rig
   pub off : List CoilId
   pub faults : ℕ
-  -- each coil that is on by the commands that the board has taken is sent a disable, and so is the one whose command it has not
+  -- each coil that is on by the commands that the board has taken is sent a disable, and so is the one whose command it
+  -- has not
   pub ended : ArePutOff (coils_to_put_off rig) rig.board off faults last
   pub board : TellsMore (commands_of (traced printed) ++ map Disable off) first.told last.told
   pub talked : IfReported old new (HasTalked shows heard (talk_of c.plan talk rig.machine.moment off))
@@ -121,8 +122,8 @@ pub record HasBroken (c : CheckedView) (shows : Bool) (board last : BoardView) (
 abbrev pub IsSilent : Option LinkView → Option LinkView → Type 0
 IsSilent old new = IfReported old new (λ v w. w ≡ v)
 
--- What each answer of the call says. After a failed write nothing is said. Want of memory and a wrong device come before
--- anything is heard or told.
+-- What each answer of the call says. After a failed write nothing is said. Want of memory and a wrong device come
+-- before anything is heard or told.
 abbrev pub RunsLive : CheckedView → Bool → BoardView → (old new : Option LinkView) → Result Verdict ShellFault → Type 0
 RunsLive c shows board old new (Ok verdict) = (last : BoardView) × HasRun c shows board last old new verdict
 RunsLive c shows board old new (Err NoMemory) = IsSilent old new
@@ -131,7 +132,8 @@ RunsLive c shows board old new (Err Read) = (last : BoardView) × HasBroken c sh
 RunsLive c shows board old new (Err TooLong) = (last : BoardView) × HasBroken c shows board last old new TooLong
 RunsLive c shows board old new (Err Write) = Unit {0}
 
--- Where lines were heard to an end, or to a fault of hearing, all that was told has been sent: nothing is left on its way.
+-- Where lines were heard to an end, or to a fault of hearing, all that was told has been sent: nothing is left on its
+-- way.
 abbrev pub IsSent : Result Verdict ShellFault → List ℕ → Type 0
 IsSent (Ok verdict) left = left ≡ []
 IsSent (Err NoMemory) left = Unit {0}

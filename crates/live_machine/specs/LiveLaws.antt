@@ -41,8 +41,8 @@ LiveIsPlay =
     → lines log ≡ live.heard
     → IsPlayOn c log board last (Some []) (Some (printed_texts c.plan live.printed ++ off_texts c.plan live.rig.machine.moment live.off)) (log_verdict live.printed)
 
--- If the configuration is accepted, and all lines of a log were heard and answered, the trace that was told is a run of the
--- plan that the log gives.
+-- If the configuration is accepted, and all lines of a log were heard and answered, the trace that was told is a run of
+-- the plan that the log gives.
 abbrev pub LiveIsRun : Type 0
 LiveIsRun =
     (c : CheckedView) (shows : Bool) (board last : BoardView) (old new : Option LinkView) (log : List ℕ) (live : IsLive c shows board last old new)

@@ -19,8 +19,8 @@ abbrev pub talk_text : Bool → Talk → List ℕ
 talk_text shows (Heard line) = heard_text shows line
 talk_text shows (Told text) = text
 
--- The transcript of a talk. No byte is above 255, so it says where each line was heard. Of a link that shows no lines it
--- is all that was told.
+-- The transcript of a talk. No byte is above 255, so it says where each line was heard. Of a link that shows no lines
+-- it is all that was told.
 abbrev pub transcript : Bool → List Talk → List ℕ
 transcript shows talk = flat_map (talk_text shows) talk
 

@@ -1,4 +1,4 @@
--- What is known of a link with what is on its way to it.
+-- What is known of a link, and of the bytes that are on their way to it.
 use Rattle.std.specs.Prelude.{ℕ, Option, None, Some, option_map, List, ◌∷◌, ◌++◌, length}
 use Rattle.std.specs.{Global.Global, declared.io.buffered.BufWriter.BufWriter}
 use Rattle.std.specs.Io.Buffered.{writer_buffer, writer_inner, writer_contents}

@@ -1,4 +1,4 @@
--- The state of a machine with its room, and what is done with it.
+-- The state of a core, which is a machine with room for events and lines, and what is done with it.
 use Rattle.std.specs.Prelude.{◌≡◌, ◌≢◌, ℕ, ◌<◌, ◌≤◌, ◌^◌, Bool, true, false, Option, Some, None, List, [], ◌∷◌, length}
 use Rattle.plan_tables.specs.{PlanView.PlanView, declared.entries.{GameEvent.GameEvent, EventId.EventId}, Valid.HasGame}
 use Rattle.plan_tables.specs.declared.entries.Work.{Work, TheVariants.{Nothing, Mode, Game}}

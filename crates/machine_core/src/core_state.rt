@@ -55,8 +55,8 @@ use written_machine::{Happening, Line};
 /// and the game, the events that wait and what handles them, and the lines of the latest stimulus.
 /// Moments are milliseconds.
 ///
-/// `begin` does what a stimulus does. `advance` takes the next event step after it, and `settle` all
-/// that are left. Only `new` takes memory. `stop_devices` stops the devices and gives them back; when a core is dropped, they are
+/// `begin` does what a stimulus does. `advance` takes the next event step after it, and `settle` all that are left.
+/// Only `new` takes memory. `stop_devices` stops the devices and gives them back; when a core is dropped, they are
 /// dropped as they are.
 #[derive(Drop)]
 pub struct Core<'p, D: Device> {

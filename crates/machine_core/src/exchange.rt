@@ -1,4 +1,4 @@
-//! One device in the place of another.
+//! A device takes the place of another one.
 
 ghost use Rattle.std.specs.Prelude.{◌≡◌, ◌<◌, Some, length, slice_get, slice_set};
 

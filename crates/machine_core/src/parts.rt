@@ -1,5 +1,5 @@
-//! What a stimulus does, and the event steps after it. Each part asks for room for what it
-//! leaves, and so takes no memory.
+//! What a stimulus does, and the event steps after it. Each function here requires that there is room for what it
+//! leaves, so none takes memory.
 
 ghost use Rattle.std.specs.Prelude.{◌≡◌, ◌^◌, ◌<◌, Some, length, option_map};
 ghost use Rattle.plan_tables.specs.Valid.{HasGame, IsBindingWithin, IsListenerWithin, IsTargetWithin};

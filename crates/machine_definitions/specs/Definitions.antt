@@ -1,4 +1,4 @@
--- What the entries of the machine text say of others, by name. Here `machine` is the sections of that text.
+-- The coils, switches and ball devices of the machine text, by name. Here `machine` is the sections of that text.
 use Rattle.std.specs.Prelude.{ℕ, Bool, false, if◌then◌else◌, List, [], Option, None, Some, fold, unwrap_or}
 use Rattle.std.specs.{List.{flat_map, list_any}, Str.bytes_eq}
 use Rattle.mpf_sections.specs.{Rows.{Coil, BallDevice, SectionRows}, TypedCoils.{coils_in, quick_switches}}

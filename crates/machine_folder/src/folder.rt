@@ -1,4 +1,4 @@
-//! Texts are read by their paths, and joined to a bundle.
+//! Texts are read by their paths, and joined into a bundle.
 
 ghost use Rattle.std.specs.Prelude.{◌≡◌, ◌≤◌, ◌^◌, None, map, IfOk, IfErr, IfSome, OnOk, string_bytes, vec_len};
 ghost use Rattle.mpf_config.specs.Inside.{names_only_view};

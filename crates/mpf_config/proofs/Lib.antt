@@ -29,4 +29,6 @@ pub mod NoteLoops
 pub mod SameModes
 pub mod RowNames
 pub mod ShortRows
+pub mod FirstSettings
+pub mod StateRows
 pub mod OwnKeys

@@ -1,4 +1,4 @@
--- How many modes the rows of a bundle have, and by what names.
+-- The rows of a bundle have at most 64 modes, no two with the same name.
 use Rattle.std.specs.{Prelude.{◌≤◌, ◌≢◌, List, length, map}, List.AllPairs}
 use Rattle.mpf_config.specs.Rows.{ModeRows}
 

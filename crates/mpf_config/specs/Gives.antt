@@ -1,5 +1,5 @@
--- What is read, as the program has it, and what its lists and sets gain. An answer gives what reading gives, unless
--- memory ran out: this, or the first fault.
+-- What is read, as the code has it, and what its lists and sets gain. Unless memory ran out, an answer is what reading
+-- gives: a value, or the first fault.
 use Rattle.std.specs.Prelude.{◌≡◌, ◌||◌, ℕ, Bool, not, List, [], ◌++◌, map, Option, Result}
 use Rattle.std.specs.{List.flat_map, declared.borrow.CowSlice.CowSlice, Borrow.Bor}
 use Rattle.std.specs.{HashSet.HashSet, Global.{Vec, Global}}

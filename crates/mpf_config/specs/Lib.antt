@@ -6,6 +6,7 @@ pub mod Apart
 pub mod RowsOf
 pub mod Named
 pub mod Short
+pub mod States
 pub mod FewModes
 pub mod Reading
 pub mod ModeView

@@ -1,4 +1,4 @@
--- What it means that every name in the rows of a mode is one.
+-- What it means that every name in the rows of a mode is well formed.
 use Rattle.std.specs.List.{All}
 use Rattle.mpf_values.specs.Names.{IsName}
 use Rattle.mpf_sections.specs.Named.{IsNamed}

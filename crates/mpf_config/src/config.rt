@@ -8,6 +8,7 @@ ghost use Rattle.mpf_sections.specs.Short.{IsShortSection};
 ghost use Rattle.mpf_sections.specs.SectionView.{section_view};
 ghost use Rattle.mpf_config.specs.Named.{IsNamedMode};
 ghost use Rattle.mpf_config.specs.Short.{IsShortMode};
+ghost use Rattle.mpf_config.specs.States.{HasStatesSection, HasStatesMode};
 ghost use Rattle.mpf_config.specs.ModeView.{mode_view};
 
 pub use mpf_sections::{CoilAction, Content, ControlAction, Debounce, Section};
@@ -52,7 +53,7 @@ pub struct Note {
 
 /// The rows of a bundle. No list in them has more than 1,024 items. There are at most 64 modes, and
 /// no two have the same name. Every name of a mode, of an entry or in an entry has 1 to 64 letters,
-/// digits, `_`, `-` and `.`.
+/// digits, `_`, `-` and `.`. Each profile of shots has a state.
 #[derive(Drop)]
 pub struct Config {
     /// The machine text.
@@ -65,6 +66,7 @@ pub struct Config {
     /// bundle.
     pub hashing: KeyHashing,
     ghost lists_short: { All IsShortSection (map section_view machine.sections.items) × All IsShortMode (map mode_view modes.items) },
+    ghost have_states: { All HasStatesSection (map section_view machine.sections.items) × All HasStatesMode (map mode_view modes.items) },
     ghost few_modes: { AreFewModes (map mode_view modes.items) },
     ghost all_named: { ∥ All IsNamed (map section_view machine.sections.items) × All IsNamedMode (map mode_view modes.items) ∥₁ },
 }

@@ -1,4 +1,4 @@
-//! The entries of texts, of which no two may be of one section and name.
+//! The entries of texts. No two of them may have the same section and the same name.
 
 ghost use Rattle.std.specs.Prelude.{◌≡◌, ◌++◌, [], false, map, IfOk, IfErr};
 ghost use Rattle.std.specs.Str.{bytes_eq};

@@ -1,5 +1,5 @@
-//! What is not read of a bundle, and the notes on it: sections that are carried out nowhere, listed
-//! modes that have no text, and texts that are neither the machine text nor that of a listed mode.
+//! What is not read of a bundle, and the notes on it: sections that are not carried out, listed modes that have no
+//! text, and texts that are neither the machine text nor that of a listed mode.
 
 ghost use Rattle.std.specs.Prelude.{◌≡◌, IfOk, IfErr};
 ghost use Rattle.mpf_config.specs.Unread.{is_skipped, has_text};

@@ -1,38 +1,68 @@
--- Each name that contributions use is among the first uses.
-use Rattle.std.proofs.Common.{rules, ◌≡◌, ℕ, zero, suc, ◌+◌, ◌<◌, Bool, true, cond, not, ◌||◌, List, [], ◌∷◌, length, get_or, Option, None, Some, refl, sym, true≢false, arith}
-use Rattle.std.specs.{Str.bytes_eq, List.{All, list_any, position_or_len}}
-use Rattle.std.proofs.lemmas.{List.{Elements.All-from_get_or, Folds.list_any-append}, Bool.or_right}
-use Rattle.plan_tables.specs.declared.table.Table.{Table}
-use Rattle.plan_contributions.specs.{Effects.posts, Contributions.{Contribution, does}, UsedNames.{used, uses}}
-use Rattle.mpf_plan.{specs.Uses.{Names, names_from, number_among}, proofs.Lacking.any_first}
+-- Each name that parts use is among their names, and stands there at its number.
+use Rattle.std.proofs.Common.{rules, ◌≡◌, ℕ, suc, ◌+◌, ◌<◌, ◌≤◌, ◌⊎◌, inl, inr, Bool, true, false, cond, not, List}
+use Rattle.std.proofs.Common.{[], ◌∷◌, ◌++◌, length, get_or, refl, sym, arith}
+use Rattle.std.specs.{Str.bytes_eq, List.{All, flat_map, list_any, position_or_len}}
+use Rattle.std.proofs.lemmas.{Bool.cases_lt, Slice.Eq.bytes_eq-Decides}
+use Rattle.std.proofs.lemmas.List.{Folds.list_any_at, Elements.{All-nil, All-cons, All-head, All-tail}}
+use Rattle.plan_parts.specs.Parts.{Part}
+use Rattle.mpf_plan.specs.{Uses.{Names, number_among}, Drafting.names_by, Named.AreNamed}
+use Rattle.mpf_plan.specs.PlanOf.{Use, part_uses, names_of}
+use Rattle.mpf_plan.proofs.{Named.{position_within, named_within, are_named}, Apart.{AreApart, all_apart}}
+use Rattle.yaml_bytes.proofs.Each.{All-from_flat_map}
 
-pub place_within : {X : Type 0} (p : X → Bool) (xs : List X) → list_any p xs ≡ true → position_or_len p xs < length xs
-place_within p [] e = absurd (true≢false (sym e))
-place_within p (x ∷ xs) e = by (p x) (place_within p xs) e
+-- ---- numbers
+
+-- a name stands at its number
+pub at_number : (names : List (List ℕ)) (n : List ℕ) → number_among names n < length names
+    → get_or names (number_among names n) [] ≡ n
+at_number [] n within = absurd (omega arith)
+at_number (x ∷ xs) n within = by (at_number xs n) (bytes_eq n x) refl within
   where
-    by : (b : Bool) → (list_any p xs ≡ true → position_or_len p xs < length xs) → (b || list_any p xs) ≡ true → cond (not b) (1 + position_or_len p xs) 0 < suc (length xs)
-    by x1 rest there = search rules
+    by : (position_or_len (bytes_eq n) xs < length xs → get_or xs (position_or_len (bytes_eq n) xs) [] ≡ n)
+        → (b : Bool) → bytes_eq n x ≡ b
+        → cond (not b) (1 + position_or_len (bytes_eq n) xs) 0 < suc (length xs)
+        → get_or (x ∷ xs) (cond (not b) (1 + position_or_len (bytes_eq n) xs) 0) [] ≡ n
+    by rest true same inside = sym ((bytes_eq-Decides n x).0 same)
+    by rest false other inside = search rules
 
--- ---- a use is among the uses
+-- the name at a number is among the names
+pub name_at : (names : List (List ℕ)) (k : ℕ) → k < length names
+    → list_any (bytes_eq (get_or names k [])) names ≡ true
+name_at names k inside =
+    let n = get_or names k [] in
+    list_any_at (bytes_eq n) names k [] inside ((bytes_eq-Decides n n).1 refl)
 
-used_there : (t : Table) (n : List ℕ) (cs : List Contribution) (i : ℕ) (d : Contribution) → i < length cs → used (get_or cs i d) ≡ Some (t, n) → list_any (bytes_eq n) (uses t cs) ≡ true
-used_there t n [] i d within is = absurd (omega arith)
-used_there t n (c ∷ cs) zero d within is = search rules
-used_there t n (c ∷ cs) (suc i) d within is = search (rules, list_any-append, or_right, used_there t n cs i d (omega arith) is)
+-- and this is its number, if no two names are the same
+pub number_at : (names : List (List ℕ)) → AreApart names → (k : ℕ) → k < length names
+    → number_among names (get_or names k []) ≡ k
+number_at names apart k inside = by (cases_lt at k) (cases_lt k at)
+  where
+    at : ℕ
+    at = number_among names (get_or names k [])
 
--- ---- the name of a contribution
+    known : at < length names
+    known = position_within (bytes_eq (get_or names k [])) names (name_at names k inside)
 
--- a name that is used is among those of its table
-abbrev pub IsAmong : Names → Option (Table × List ℕ) → Type 0
-IsAmong names None = Unit {0}
-IsAmong names (Some (t, n)) = number_among (names t) n < length (names t)
+    same : get_or names at [] ≡ get_or names k []
+    same = at_number names (get_or names k []) known
 
-abbrev pub IsKnown : Names → Contribution → Type 0
-IsKnown names c = IsAmong names (used c)
+    by : (at < k) ⊎ (k ≤ at) → (k < at) ⊎ (at ≤ k) → at ≡ k
+    by (inl before) _ = absurd (all_apart names apart at k [] before inside same)
+    by (inr from) (inl after) = absurd (all_apart names apart k at [] after known (sym same))
+    by (inr from) (inr to) = omega (arith, from, to)
 
-among_first : (cs : List Contribution) (i : ℕ) (d : Contribution) → i < length cs → (o : Option (Table × List ℕ)) → used (get_or cs i d) ≡ o → IsAmong (names_from cs) o
-among_first cs i d within None is = tt
-among_first cs i d within (Some (t, n)) is = search (rules, place_within, any_first, used_there)
+-- ---- the names that parts use
 
-pub all_known : (cs : List Contribution) → All (IsKnown (names_from cs)) cs
-all_known cs = All-from_get_or (IsKnown (names_from cs)) cs (does (posts [])) (λ i within. among_first cs i (does (posts [])) within (used (get_or cs i (does (posts [])))) refl)
+abbrev pub IsAmong : Names → Use → Type 0
+IsAmong names u = number_among (names u.0) u.1 < length (names u.0)
+
+among_by : (us more : List Use) → AreNamed us more → All (IsAmong (names_by us)) more
+among_by us [] named = All-nil (IsAmong (names_by us))
+among_by us (u ∷ more) named =
+    All-cons (IsAmong (names_by us)) u more (named_within us u named.0) (among_by us more named.1)
+
+pub uses_among : (ps : List Part) → All (λ p. All (IsAmong (names_of ps)) (part_uses p)) ps
+unfolding names_of
+uses_among ps =
+    let us = flat_map part_uses ps in
+    All-from_flat_map (IsAmong (names_by us)) part_uses ps (among_by us us (are_named [] us))

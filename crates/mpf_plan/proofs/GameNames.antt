@@ -2,7 +2,7 @@
 use Rattle.std.proofs.Common.{rules, ◌≡◌, ◌≢◌, ℕ, ◌<◌, ◌==◌, List, [], length, get_or, ◌∙◌, ap, false, true≢false}
 use Rattle.machine_definitions.specs.GameEvents.{game_event_names}
 use Rattle.plan_tables.specs.{declared.entries.{GameEvent.GameEvent, ModeEvent.ModeEvent}, GameEvents.order_of}
-use Rattle.plan_contributions.specs.Contributions.{mode_event_name}
+use Rattle.plan_parts.specs.Effects.{mode_event_name}
 
 -- the name of an event of the game
 abbrev pub game_name : GameEvent → List ℕ
@@ -19,5 +19,6 @@ same_game which other same = search rules
 starts_otherwise : (which : GameEvent) → (get_or (game_name which) 0 0 == 109) ≡ false
 starts_otherwise x1 = search rules
 
-pub not_of_mode : (which : GameEvent) (event : ModeEvent) (name : List ℕ) → mode_event_name event name ≢ game_name which
+pub not_of_mode : (which : GameEvent) (event : ModeEvent) (name : List ℕ)
+    → mode_event_name event name ≢ game_name which
 not_of_mode which event name same = true≢false (ap (λ n. get_or n 0 0 == 109) same ∙ starts_otherwise which)

@@ -1,218 +1,164 @@
--- Only devices of the machine listen to switches, and of what is given by name alone there are only switches.
-use Rattle.std.proofs.Common.{rules, ◌≡◌, ℕ, suc, Bool, true, false, if◌then◌else◌, List, [], ◌∷◌, ◌++◌, map, refl}
-use Rattle.std.specs.{Prelude.{Option, None, Some}, Str.bytes_eq, List.{All, flat_map}}
-use Rattle.std.proofs.lemmas.List.Elements.{All-nil, All-cons, All-append, All-head, All-tail}
-use Rattle.mpf_sections.specs.Rows.{Written, Entry, Player, Switch, VariablePlayer, Shot, ShotGroup, BallDevice, GameSettings, ModeSettings, SectionRows}
-use Rattle.mpf_config.specs.Rows.{Rows}
-use Rattle.mpf_sections.specs.Typed.{switches_name, event_player_name, switch_of, event_player_of}
-use Rattle.mpf_sections.specs.TypedSaves.{ball_saves_name, multiballs_name}
-use Rattle.mpf_sections.specs.TypedCoils.{coils_name, coil_player_name, coil_of, coil_player_of}
-use Rattle.mpf_sections.specs.TypedGame.{variable_player_name, game_name, variable_player_of, game_of}
-use Rattle.plan_rows.specs.declared.{place.Place.{Place, TheVariants.Machine}, destination.Destination.Destination}
-use Rattle.plan_tables.specs.declared.{table.Table.TheVariants.{Events, Switches}, devices.Act.Act}
-use Rattle.mpf_values.specs.Events.{Event}
-use Rattle.machine_definitions.specs.Shots.{Profile}
-use Rattle.row_contributions.specs.{DeviceEntries.{Device, device_of}, SaveEntries.save_device_of, Facts.row_after}
-use Rattle.plan_rows.specs.{Seats.Seat, Members.Members}
-use Rattle.plan_contributions.specs.Contributions.{Contribution, gives, reads, active, inactive, mode, mode_event, binds, does, device, does_in, listens, mentions, unknown, coil, under, plays}
-use Rattle.row_contributions.specs.Contributions.{switch_contributions, player_contributions, coil_contributions, coil_player_contributions, variable_player_contributions, game_contributions, controls, mode_contributions, act_binding, effects_from, listens_from, device_contributions, where_device, unknown_unless, shot_switch, act_at, seated, shot_contributions, group_contributions, ball_device_contributions, machine_device, machine_entry_contributions, entry_contributions, alone_contributions, player_entry_contributions, row_contributions, given_by, contributions_of}
-use Rattle.plan_rows.specs.Rows.{Row, entry, alone, shot, group, ball_device, player, of_mode, rows_of}
-use Rattle.row_contributions.proofs.RowFacts.{All-each}
-use Rattle.mpf_plan.proofs.Usual.{IsUsual, of_switch, of_bound, of_player, of_coil_player, of_device, of_unknown, of_shot_switch, of_acts_at, of_controls}
+-- A device listens to switches, one after the other: each slot gains those that listen under its name.
+use Rattle.std.proofs.Common.{rules, ◌≡◌, ℕ, ◌+◌, ◌<◌, ◌≤◌, Bool, true, false, if◌then◌else◌, List, [], ◌∷◌, ◌++◌, length, map, set, get_or, Vec, Global, refl, sym, ap, ap₂, ◌∙◌, subst, append-nil, append_assoc, arith}
+use Rattle.std.specs.{Str.bytes_eq, List.{All, list_any, zip}}
+use Rattle.std.proofs.lemmas.List.{length_push, map-append, map-id, length-map}
+use Rattle.std.proofs.{lemmas.List.{Folds.list_any-append, Elements.All-weaker}, Math.Seq.drop-length}
+use Rattle.plan_tables.specs.declared.{table.Table.{Table, TheVariants.Switches}, devices.RowId.RowId}
+use Rattle.plan_tables.specs.declared.entries.{Listener.Listener, SwitchEntry.SwitchEntry}
+use Rattle.plan_tables.specs.{PlanView.{PlanSwitch, no_switch}, Inside.{switch_entry_view, switches_view}}
+use Rattle.mpf_plan.specs.{declared.draft.Draft.Draft, Uses.number_among}
+use Rattle.mpf_plan.specs.declared.names.Names as held_names
+use Rattle.mpf_plan.specs.PlanOf.{Use, uses_of, in_table, listeners_among}
+use Rattle.mpf_plan.specs.Drafting.{kept_names, names_by, AreNamesOf, AreWithin, HasOneEach, Notes, NotesSwitch, IsNumbered, KeepsTables, named_switch, new_names, heard, with_listener, ListensTo, AddsListeners}
+use Rattle.mpf_plan.proofs.{Named.{added_names, in_table-append}, Slots.{switch_names, slot_changed}}
+use Rattle.mpf_plan.proofs.Noted.{kept_all, notes_none, notes_more, within_after, within_before}
+use Rattle.mpf_plan.proofs.{Entries.{kept_more, news_more}, Apart.where_named}
+use Rattle.mpf_plan.proofs.Called.{own_uses, right_false, none_heard, listeners_more}
+use Rattle.mpf_plan.proofs.Grown.{switches_in, map_map, map_same, all_new, new-added}
 
--- a switch that is given by its name alone, or a switch to which a row of the machine listens that came last
-abbrev pub IsHeard : Option Place → Contribution → Type 0
-IsHeard o (gives t n) = t ≡ Switches
-IsHeard o (listens k n) = o ≡ Some Machine
-IsHeard o _ = Unit {0}
+-- ---- before any
 
-abbrev pub AreHeard : Option Place → List Contribution → Type 0
-AreHeard o [] = Unit {0}
-AreHeard o (c ∷ cs) = IsHeard o c × AreHeard (row_after o c) cs
+pub heard_none : (row : RowId) (s : PlanSwitch) → heard row [] s ≡ s
+heard_none row s = ap (λ ls. record s { listeners = ls }) (append-nil s.listeners)
 
--- ---- contributions by which no mode comes, and no listener
+pub listeners_none : (d : Draft) (row : RowId) → AddsListeners d d row []
+listeners_none d row = record {
+  keeps = record { names = notes_none d.names; modes = refl; game = refl };
+  coils = refl;
+  lists = refl;
+  bindings = refl;
+  rows = refl;
+  row_lists = refl;
+  count = λ us are within has. has;
+  heard = λ us are within has.
+      sym (map_same (heard row []) (λ s. s) (switches_in d ++ map named_switch (new_names (kept_names d.names Switches) (kept_names d.names Switches)))
+      (λ i x inside. heard_none row _)
+      ∙ map-id (switches_in d ++ map named_switch (new_names (kept_names d.names Switches) (kept_names d.names Switches)))
+      ∙ ap (λ ns. switches_in d ++ map named_switch ns) (drop-length (kept_names d.names Switches))
+      ∙ append-nil (switches_in d));
+}
 
-abbrev pub IsQuiet : Contribution → Type 0
-IsQuiet (gives t n) = t ≡ Switches
-IsQuiet (mode n priority game holds) = ⊥
-IsQuiet (mode_event which n) = ⊥
-IsQuiet (device place settings) = ⊥
-IsQuiet (listens k n) = ⊥
-IsQuiet _ = Unit {0}
+-- ---- one more
 
-abbrev pub AreQuiet : List Contribution → Type 0
-AreQuiet cs = All IsQuiet cs
-
--- so are the usual ones
-usual_quiet : IsUsual IsQuiet (λ e. Unit {0})
-usual_quiet = search rules
-
-pub quiet_switch : (machine : List SectionRows) (s : Switch) → AreQuiet (switch_contributions machine s)
-quiet_switch machine s = of_switch IsQuiet (λ e. Unit {0}) usual_quiet machine s
-
-quiet_variable_player : (place : Place) (p : VariablePlayer) → AreQuiet (variable_player_contributions place p)
-unfolding variable_player_contributions
-quiet_variable_player place p = search (rules, All-append, of_bound, usual_quiet, All-each, All-cons, All-nil)
-
-pub quiet_player_entry : (machine : List SectionRows) (place : Place) (section : List ℕ) (p : Player) → AreQuiet (player_entry_contributions machine place section p)
-unfolding player_entry_contributions
-quiet_player_entry machine place section p = by (bytes_eq section event_player_name) (bytes_eq section coil_player_name) (bytes_eq section variable_player_name)
+-- a switch of this name has one more that listens, after those of the row
+one_heard : (row : RowId) (ms : List (List ℕ)) (m : List ℕ) (s : PlanSwitch)
+    → heard row (ms ++ m ∷ []) s ≡ where_named (λ s. s.name) no_switch (with_listener (record { row = row; switch = length ms })) m (heard row ms s)
+one_heard row ms m s = ap (λ ls. record s { listeners = s.listeners ++ ls }) (listeners_more s.name row ms m) ∙ by (bytes_eq s.name m)
   where
-    by : (b c v : Bool) → AreQuiet (if b then player_contributions place (event_player_of p) else (if c then coil_player_contributions machine place (coil_player_of p) else (if v then variable_player_contributions place (variable_player_of p) else [])))
-    by true c v = of_player IsQuiet (λ e. Unit {0}) usual_quiet place (event_player_of p)
-    by false true v = of_coil_player IsQuiet (λ e. Unit {0}) usual_quiet machine place (coil_player_of p)
-    by false false true = quiet_variable_player place (variable_player_of p)
-    by false false false = All-nil IsQuiet
+    l : Listener
+    l = record { row = row; switch = length ms }
 
--- what comes of a device after the switches to which it listens
-pub quiet_device : (place : Place) (d : Device) → AreQuiet (flat_map (act_binding place) d.handled ++ (map (mentions Events) d.mentioned ++ effects_from 0 d.lists))
-quiet_device place d = of_device IsQuiet (λ e. Unit {0}) usual_quiet place d (λ i l within j e inside. tt)
+    of : List Listener
+    of = listeners_among s.name row ms
 
-quiet_game : (machine : List SectionRows) (g : GameSettings) → AreQuiet (game_contributions machine g)
-unfolding game_contributions
-quiet_game machine g = search rules
+    by : (b : Bool) → record s { listeners = s.listeners ++ (of ++ (if b then l ∷ [] else [])) } ≡ (if b then with_listener l (heard row ms s) else heard row ms s)
+    by true = ap (λ ls. record s { listeners = ls }) (sym (append_assoc s.listeners of (l ∷ [])))
+    by false = ap (λ ls. record s { listeners = s.listeners ++ ls }) (append-nil of)
 
-pub quiet_alone : (machine : List SectionRows) (place : Place) (section : List ℕ) (e : Entry) → AreQuiet (alone_contributions machine place section e)
-unfolding alone_contributions
-quiet_alone machine Machine section e = by (bytes_eq section game_name)
-  where
-    by : (b : Bool) → AreQuiet (if b then game_contributions machine (game_of e) else [])
-    by x1 = search (rules, quiet_game, All-nil)
-quiet_alone machine _ section e = All-nil IsQuiet
+module _ (a b c : Draft) (row : RowId) (ms : List (List ℕ)) (m : List ℕ) (mid : Vec SwitchEntry Global) (number : ℕ)
+    (first : AddsListeners a b row ms) (noted : NotesSwitch b.names c.names b.switches mid m)
+    (numbered : IsNumbered b.names ((Switches, m) ∷ []) (λ ns. number_among (ns Switches) m) number)
+    (listens : ListensTo mid c.switches number (record { row = row; switch = length ms })) where
+  abbrev U : List Use
+  U = uses_of Switches ms
 
-pub quiet_controls : (s : ModeSettings) → AreQuiet (controls s)
-quiet_controls s = of_controls IsQuiet (λ e. Unit {0}) usual_quiet s
+  abbrev V : List Use
+  V = (Switches, m) ∷ []
 
--- ---- contributions, one after the other
+  abbrev l : Listener
+  l = record { row = row; switch = length ms }
 
--- what is heard if nothing came before is heard, whatever came before
-heard_any : (o : Option Place) (cs : List Contribution) → AreHeard None cs → AreHeard o cs
-heard_any o [] h = tt
-heard_any o (gives t n ∷ cs) h = (h.0, heard_any o cs h.1)
-heard_any o (reads kind confirms ∷ cs) h = (tt, heard_any o cs h.1)
-heard_any o (active n ∷ cs) h = (tt, heard_any o cs h.1)
-heard_any o (inactive n ∷ cs) h = (tt, heard_any o cs h.1)
-heard_any o (mode_event which n ∷ cs) h = (tt, heard_any o cs h.1)
-heard_any o (binds n place aim ∷ cs) h = (tt, heard_any o cs h.1)
-heard_any o (does e ∷ cs) h = (tt, heard_any o cs h.1)
-heard_any o (does_in k e ∷ cs) h = (tt, heard_any o cs h.1)
-heard_any o (listens k n ∷ cs) h = absurd (none_some h.0)
-  where
-    none_some : None ≡ Some Machine → ⊥
-    none_some e = cc
-heard_any o (mentions t n ∷ cs) h = (tt, heard_any o cs h.1)
-heard_any o (unknown ∷ cs) h = (tt, heard_any o cs h.1)
-heard_any o (coil n limits ∷ cs) h = (tt, heard_any o cs h.1)
-heard_any o (under c ∷ cs) h = (tt, heard_any o cs h.1)
-heard_any o (plays min_balls balls_per_game max_players ∷ cs) h = (tt, heard_any o cs h.1)
-heard_any o _ h = (tt, h.1)
+  uses : uses_of Switches (ms ++ m ∷ []) ≡ U ++ V
+  uses = map-append (λ n. (Switches, n)) ms (m ∷ [])
 
-heard_append : (cs ds : List Contribution) (o : Option Place) → AreHeard o cs → AreHeard None ds → AreHeard o (cs ++ ds)
-heard_append [] ds o a b = heard_any o ds b
-heard_append (c ∷ cs) ds o a b = (a.0, heard_append cs ds (row_after o c) a.1 b)
+  module _ (us : List Use) (are : AreNamesOf us a.names) (within : AreWithin (us ++ uses_of Switches (ms ++ m ∷ []))) (has : HasOneEach Switches a.names a.switches) where
+    fits : AreWithin (us ++ (U ++ V))
+    fits = subst (λ vs. AreWithin (us ++ vs)) uses within
 
-quiet_heard : (cs : List Contribution) (o : Option Place) → AreQuiet cs → AreHeard o cs
-quiet_heard [] o quiet = tt
-quiet_heard (c ∷ cs) o quiet = search (rules, All-head, All-tail, quiet_heard cs (row_after o c) (All-tail IsQuiet c cs quiet))
+    front : AreWithin (us ++ U)
+    front = within_before us U V fits
 
-heard_listens : (k : ℕ) (ns : List (List ℕ)) (rest : List Contribution) → AreHeard (Some Machine) rest → AreHeard (Some Machine) (listens_from k ns ++ rest)
-heard_listens k [] rest h = h
-heard_listens k (n ∷ ns) rest h = (refl, heard_listens (suc k) ns rest h)
+    whole : AreWithin ((us ++ U) ++ V)
+    whole = within_after us U V fits
 
-heard_device : (d : Device) → AreHeard None (device_contributions Machine d)
-unfolding device_contributions
-heard_device d = search (rules, heard_listens, quiet_heard, quiet_device)
+    are_mid : AreNamesOf (us ++ U) b.names
+    are_mid = first.keeps.names us are
 
--- a device that listens to no switch may stand anywhere
-silent_device : (place : Place) (d : Device) → d.listens ≡ [] → AreHeard None (device_contributions place d)
-unfolding device_contributions
-silent_device place d none = search (rules, quiet_heard, quiet_device)
+    are_all : AreNamesOf ((us ++ U) ++ V) c.names
+    are_all = noted.names (us ++ U) are_mid
 
-abbrev ListensToNone : Option Device → Type 0
-ListensToNone None = Unit {0}
-ListensToNone (Some d) = d.listens ≡ []
+    has_mid : HasOneEach Switches b.names b.switches
+    has_mid = first.count us are front has
 
-listens_if : (b : Bool) (o p : Option Device) → ListensToNone o → ListensToNone p → ListensToNone (if b then o else p)
-listens_if x1 o p h k = search rules
+    each : length mid.items ≡ length (kept_names c.names Switches)
+    each = noted.count (us ++ U) are_mid whole has_mid
 
-save_listens_to_none : (section : List ℕ) (e : Entry) → ListensToNone (save_device_of section e)
-unfolding save_device_of
-save_listens_to_none section e = listens_if (bytes_eq section ball_saves_name) _ _ refl (listens_if (bytes_eq section multiballs_name) _ None refl tt)
+    pub count_more : HasOneEach Switches c.names c.switches
+    count_more = listens.0 ∙ each
 
--- such are all but flippers, autofire coils and ball devices
-listens_to_none : (section : List ℕ) (e : Entry) → ListensToNone (device_of section e)
-unfolding device_of
-listens_to_none section e = search (rules, listens_if, save_listens_to_none)
+    abbrev ka : List (List ℕ)
+    ka = kept_names a.names Switches
 
-silent_where : (place : Place) (o : Option Device) → ListensToNone o → AreHeard None (where_device place o)
-silent_where place x2 none = search (rules, silent_device)
+    abbrev kb : List (List ℕ)
+    kb = kept_names b.names Switches
 
-heard_where : (o : Option Device) → AreHeard None (where_device Machine o)
-heard_where x1 = search (rules, heard_device)
+    abbrev kc : List (List ℕ)
+    kc = kept_names c.names Switches
 
--- ---- rows
+    abbrev blanks : List (List ℕ) → List PlanSwitch
+    blanks ns = map named_switch ns
 
-heard_machine_entry : (machine : List SectionRows) (section : List ℕ) (e : Entry) → AreHeard None (machine_entry_contributions machine section e)
-unfolding machine_entry_contributions coil_contributions
-heard_machine_entry machine section e = by (bytes_eq section switches_name) (bytes_eq section coils_name)
-  where
-    by : (b c : Bool) → AreHeard None (if c then coil_contributions (coil_of e) else (if b then switch_contributions machine (switch_of e) else where_device Machine (machine_device machine section e)))
-    by x1 x2 = search (rules, quiet_heard, quiet_switch, heard_where)
+    added : new_names kb kc ≡ added_names (us ++ U) V Switches
+    added = ap₂ new_names (kept_all (us ++ U) b.names Switches are_mid (front Switches tt)) (kept_all ((us ++ U) ++ V) c.names Switches are_all (whole Switches tt)) ∙ new-added (us ++ U) V Switches
 
-heard_entry : (machine : List SectionRows) (place : Place) (section : List ℕ) (e : Entry) → AreHeard None (entry_contributions machine place section e)
-unfolding entry_contributions
-heard_entry machine x2 section e = search (rules, heard_machine_entry, silent_where, listens_to_none)
+    -- the row does not listen to a switch whose name is new
+    unheard : (n : List ℕ) → list_any (bytes_eq n) (in_table Switches (us ++ U)) ≡ false → heard row ms (named_switch n) ≡ named_switch n
+    unheard n none =
+        let own : in_table Switches (us ++ U) ≡ in_table Switches us ++ ms = in_table-append Switches us U ∙ ap (λ ns. in_table Switches us ++ ns) (own_uses Switches ms) in
+        let split = sym (list_any-append (bytes_eq n) (in_table Switches us) ms) ∙ ap (list_any (bytes_eq n)) (sym own) ∙ none in
+        ap (λ ls. record (named_switch n) { listeners = ls }) (none_heard n row ms (right_false (list_any (bytes_eq n) (in_table Switches us)) (list_any (bytes_eq n) ms) split))
 
--- what a shot gives beside its row, and a group before it
-pub quiet_unknown : (known : Bool) → AreQuiet (unknown_unless known)
-quiet_unknown known = of_unknown IsQuiet (λ e. Unit {0}) usual_quiet known
+    blank_stays : map (heard row ms) (blanks (new_names kb kc)) ≡ blanks (new_names kb kc)
+    blank_stays =
+        sym (map_map (heard row ms) named_switch (λ n. heard row ms (named_switch n)) (λ n. refl) (new_names kb kc))
+        ∙ ap (map (λ n. heard row ms (named_switch n))) added
+        ∙ map_same (λ n. heard row ms (named_switch n)) named_switch (added_names (us ++ U) V Switches)
+        (All-weaker (λ n. list_any (bytes_eq n) (in_table Switches (us ++ U)) ≡ false) (λ n. heard row ms (named_switch n) ≡ named_switch n) unheard (added_names (us ++ U) V Switches) (all_new (us ++ U) V Switches))
+        ∙ ap blanks (sym added)
 
-pub quiet_shot_switch : (o : Option Written) → AreQuiet (shot_switch o)
-quiet_shot_switch o = of_shot_switch IsQuiet (λ e. Unit {0}) usual_quiet o
+    -- before the listener
+    before : switches_view kc mid.items ≡ map (heard row ms) (switches_in a ++ blanks (new_names ka kc))
+    before =
+        noted.entries (us ++ U) are_mid whole has_mid
+        ∙ ap₂ (λ xs ys. xs ++ ys) (first.heard us are front has) (sym blank_stays)
+        ∙ sym (map-append (heard row ms) (switches_in a ++ blanks (new_names ka kb)) (blanks (new_names kb kc)))
+        ∙ ap (map (heard row ms)) (append_assoc (switches_in a) (blanks (new_names ka kb)) (blanks (new_names kb kc))
+        ∙ ap (λ more. switches_in a ++ more) (news_more named_switch ka kb kc (added_names us U Switches) (added_names (us ++ U) V Switches)
+        (kept_more a.names b.names us U Switches tt are are_mid front) (kept_more b.names c.names (us ++ U) V Switches tt are_mid are_all whole)))
 
-pub quiet_acts_at : (place : Place) (row : Option ℕ) (hs : List (Event × Act)) → AreQuiet (flat_map (act_at place row) hs)
-quiet_acts_at place row hs = of_acts_at IsQuiet (λ e. Unit {0}) usual_quiet place row hs
+    pub heard_more : switches_in c ≡ map (heard row (ms ++ m ∷ [])) (switches_in a ++ blanks (new_names ka kc))
+    heard_more =
+        listens.1 kc
+        ∙ slot_changed (λ s. s.name) no_switch Switches (us ++ U) m (switches_view kc mid.items) number
+        (switch_names kc mid.items each ∙ kept_all ((us ++ U) ++ V) c.names Switches are_all (whole Switches tt))
+        (numbered (us ++ U) are_mid whole) (with_listener l)
+        ∙ ap (map (where_named (λ s. s.name) no_switch (with_listener l) m)) before
+        ∙ sym (map_map (where_named (λ s. s.name) no_switch (with_listener l) m) (heard row ms) (heard row (ms ++ m ∷ [])) (one_heard row ms m) (switches_in a ++ blanks (new_names ka kc)))
 
-heard_shot : (place : Place) (s : Shot) (seat : Option Seat) (known : Bool) (p : Profile) → AreHeard None (shot_contributions place s seat known p)
-unfolding shot_contributions
-heard_shot place s seat known p =
-    heard_append (unknown_unless known) (shot_switch s.switch ++ seated place p s seat) None (quiet_heard (unknown_unless known) None (quiet_unknown known))
-    (heard_append (shot_switch s.switch) (seated place p s seat) None (quiet_heard (shot_switch s.switch) None (quiet_shot_switch s.switch)) (by seat))
-  where
-    by : (seat : Option Seat) → AreHeard None (seated place p s seat)
-    by x1 = search (rules, silent_device, quiet_heard, quiet_acts_at)
-
-heard_group : (place : Place) (g : ShotGroup) (m : Members) → AreHeard None (group_contributions place g m)
-unfolding group_contributions
-heard_group place g m = search (rules, heard_append, quiet_heard, quiet_unknown, silent_device)
-
-heard_ball_device : (machine : List SectionRows) (d : BallDevice) (to : Destination) → AreHeard None (ball_device_contributions machine d to)
-unfolding ball_device_contributions
-heard_ball_device machine d to = search (rules, heard_append, quiet_heard, quiet_unknown, heard_device)
-
-heard_row : (machine : List SectionRows) (r : Row) → AreHeard None (row_contributions machine r)
-unfolding mode_contributions
-heard_row machine (entry place section e) = heard_entry machine place section e
-heard_row machine (shot place s seat known p) = heard_shot place s seat known p
-heard_row machine (group place g m) = heard_group place g m
-heard_row machine (ball_device d to) = heard_ball_device machine d to
-heard_row machine (alone place section e) = quiet_heard (alone_contributions machine place section e) None (quiet_alone machine place section e)
-heard_row machine (player place section p) = quiet_heard (player_entry_contributions machine place section p) None (quiet_player_entry machine place section p)
-heard_row machine (of_mode name s) = (tt, (tt, (tt, (tt, (tt, quiet_heard (controls s) None (quiet_controls s))))))
-
-pub rows_heard : (machine : List SectionRows) (rs : List Row) → AreHeard None (given_by machine rs)
-rows_heard machine [] = tt
-rows_heard machine (r ∷ rs) = heard_append (row_contributions machine r) (given_by machine rs) None (heard_row machine r) (rows_heard machine rs)
-
-pub rows_are_heard : (rows : Rows) → AreHeard None (contributions_of rows)
-rows_are_heard rows = rows_heard rows.machine (rows_of rows)
-
--- ---- what is given by its name alone
-
-abbrev pub IsPlain : Contribution → Type 0
-IsPlain (gives t n) = t ≡ Switches
-IsPlain _ = Unit {0}
-
-pub plain_of_heard : (o : Option Place) (cs : List Contribution) → AreHeard o cs → All IsPlain cs
-plain_of_heard o [] h = All-nil IsPlain
-plain_of_heard o (c ∷ cs) h = search (rules, All-cons, plain_of_heard (row_after o c) cs h.1)
+  -- nothing else is changed
+  module _ (modes : c.modes ≡ b.modes) (game : c.game ≡ b.game) (coils : c.coils ≡ b.coils) (lists : c.lists ≡ b.lists) (bindings : c.bindings ≡ b.bindings) (rows : c.rows ≡ b.rows) (row_lists : c.row_lists ≡ b.row_lists) where
+    pub listeners_next : AddsListeners a c row (ms ++ m ∷ [])
+    listeners_next = record {
+      keeps = record {
+        names = subst (Notes a.names c.names) (sym uses) (notes_more a.names b.names c.names U V first.keeps.names noted.names);
+        modes = modes ∙ first.keeps.modes;
+        game = game ∙ first.keeps.game;
+      };
+      coils = coils ∙ first.coils;
+      lists = lists ∙ first.lists;
+      bindings = bindings ∙ first.bindings;
+      rows = rows ∙ first.rows;
+      row_lists = row_lists ∙ first.row_lists;
+      count = count_more;
+      heard = heard_more;
+    }

@@ -1,6 +1,6 @@
 -- The names of the modes of a plan that planning gives, and of their events.
-use Rattle.std.proofs.Common.{rules, List, [], ℕ, ◌-◌, ◌≢◌, refl, ap, ◌∙◌, ◌≡◌, ◌<◌, length, map, get_or, Ok, Contains, sym, subst, arith}
-use Rattle.std.specs.List.{All}
+use Rattle.std.proofs.Common.{rules, List, [], ℕ, ◌-◌, ◌≢◌, refl, ap, ◌∙◌, ◌≡◌, ◌<◌, length, map, get_or, Ok}
+use Rattle.std.{proofs.Common.{Contains, sym, subst, arith}, specs.List.All}
 use Rattle.mpf_config.specs.Rows.{ModeRows, Rows}
 use Rattle.plan_tables.specs.declared.entries.{EventId.EventId, ModeId.ModeId, ModeEvent.ModeEvent, Work.Work}
 use Rattle.plan_tables.specs.declared.entries.GameEvent.{GameEvent, TheVariants.SwStart}
@@ -8,30 +8,35 @@ use Rattle.plan_tables.specs.declared.entries.Work.TheVariants as works
 use Rattle.plan_tables.specs.PlanView.{PlanView, name_of_event, mode_at, mode_event, game_event, work_of}
 use Rattle.plan_tables.{specs.{GameEvents.order_of, Valid.{HasGame, IsWorkAt}}, proofs.Worked.work_found}
 use Rattle.machine_definitions.specs.GameEvents.{reserved_game_events}
-use Rattle.plan_contributions.specs.Contributions.{mode_event_name}
-use Rattle.row_contributions.specs.Contributions.{contributions_of}
-use Rattle.mpf_plan.specs.PlanOf.{plan_of, plan_at}
-use Rattle.mpf_plan.proofs.{Tables.computed-plan, GameNames.game_name, Judged.plan_at-Ok, Ready.rows_are_ready}
+use Rattle.plan_parts.specs.{Effects.mode_event_name, Parts.parts_of}
+use Rattle.mpf_plan.{specs.PlanOf.{plan_of, plan_at}, proofs.{GameNames.game_name, Judged.plan_at-Ok}}
 use Rattle.mpf_plan.proofs.{GameMade.game_event_is, ModeWorks.{event_name_is, name_there}}
 
 abbrev HasEventNames : PlanView → Type 0
-HasEventNames plan = (m : ModeId) → m.0 < length plan.modes → (which : ModeEvent) → name_of_event plan (mode_event plan m which) ≡ mode_event_name which (mode_at plan m).name
+HasEventNames plan =
+    (m : ModeId) → m.0 < length plan.modes → (which : ModeEvent) → name_of_event plan
+    (mode_event plan m which) ≡ mode_event_name which (mode_at plan m).name
 
 abbrev HasModesOf : Rows → PlanView → Type 0
-HasModesOf rows plan = (m : ModeId) → m.0 < length plan.modes → Contains (map (λ (x : ModeRows). x.name) rows.modes) (mode_at plan m).name
+HasModesOf rows plan =
+    (m : ModeId) → m.0 < length plan.modes → Contains (map (λ (x : ModeRows). x.name) rows.modes)
+    (mode_at plan m).name
 
 abbrev pub HasGameNames : PlanView → Type 0
 HasGameNames plan = HasGame plan → (which : GameEvent) → name_of_event plan (game_event plan which) ≡ game_name which
 
 events_of_plan : (rows : Rows) → HasEventNames (plan_of rows)
-events_of_plan rows = subst HasEventNames (computed-plan rows) (event_name_is rows)
+unfolding plan_of
+events_of_plan rows = event_name_is rows
 
 modes_of_plan : (rows : Rows) → HasModesOf rows (plan_of rows)
-modes_of_plan rows = subst (HasModesOf rows) (computed-plan rows) (name_there rows)
+unfolding plan_of
+modes_of_plan rows = name_there rows
 
 module _ (rows : Rows) (plan : PlanView) (is : plan_at rows ≡ Ok plan) (m : ModeId) (within : m.0 < length plan.modes) where
   -- an event of a mode has the name that the mode gives it
-  pub mode_event-named : (which : ModeEvent) → name_of_event plan (mode_event plan m which) ≡ mode_event_name which (mode_at plan m).name
+  pub mode_event-named : (which : ModeEvent)
+      → name_of_event plan (mode_event plan m which) ≡ mode_event_name which (mode_at plan m).name
   mode_event-named which = subst HasEventNames (sym (plan_at-Ok rows plan is).0) (events_of_plan rows) m within which
 
   -- the name of a mode is that of a mode in the rows
@@ -39,7 +44,8 @@ module _ (rows : Rows) (plan : PlanView) (is : plan_at rows ≡ Ok plan) (m : Mo
   mode-named = subst (HasModesOf rows) (sym (plan_at-Ok rows plan is).0) (modes_of_plan rows) m within
 
 events_of_game : (rows : Rows) → HasGameNames (plan_of rows)
-events_of_game rows = subst HasGameNames (computed-plan rows) (game_event_is (contributions_of rows) (rows_are_ready rows))
+unfolding plan_of
+events_of_game rows = game_event_is (parts_of rows)
 
 -- an event of the game has its name
 pub game_event-named : (rows : Rows) (plan : PlanView) → plan_at rows ≡ Ok plan → HasGameNames plan
@@ -54,8 +60,12 @@ pub free-by_name : (rows : Rows) (plan : PlanView) → plan_at rows ≡ Ok plan 
 free-by_name rows plan is e other unreserved P nothing start = by (work_of plan e) (work_found plan e)
   where
     -- an event of the game that stands at this place among those that no row may post
-    reserved : (which : GameEvent) (place : ℕ) → place < length reserved_game_events → game_name which ≡ get_or reserved_game_events place [] → IsWorkAt plan e (works.Game which) → P (works.Game which)
-    reserved which place within same at = absurd (unreserved place [] within (ap (name_of_event plan) at.1 ∙ game_event-named rows plan is at.0 which ∙ same))
+    reserved : (which : GameEvent) (place : ℕ) → place < length reserved_game_events
+        → game_name which ≡ get_or reserved_game_events place [] → IsWorkAt plan e (works.Game which)
+        → P (works.Game which)
+    reserved which place within same at =
+        absurd
+        (unreserved place [] within (ap (name_of_event plan) at.1 ∙ game_event-named rows plan is at.0 which ∙ same))
 
     by_event : (which : GameEvent) → IsWorkAt plan e (works.Game which) → P (works.Game which)
     by_event SwStart at = start

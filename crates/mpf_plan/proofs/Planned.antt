@@ -1,96 +1,153 @@
--- What was numbered and made of rows is their plan, or why there is none.
-use Rattle.std.proofs.Common.{rules, ◌≡◌, ◌≤◌, false, List, length, sym, ◌∙◌, ap, subst, arith}
-use Rattle.std.specs.{Prelude.{Result, Ok, Err}, List.All}
-use Rattle.mpf_sections.specs.Rows.{SectionRows}
-use Rattle.mpf_config.specs.{Rows.Rows, Short.AreListsShort, FewModes.AreFewModes}
-use Rattle.plan_rows.specs.declared.rows.Row as found
-use Rattle.plan_tables.specs.declared.{names.NameSets.NameSets, table.Table.{Table, TheVariants.Coils}}
-use Rattle.mpf_plan.specs.declared.{draft.Draft.Draft, fault.PlanFault.PlanFault}
-use Rattle.mpf_plan.specs.declared.first_uses.NumberedNames.{NumberedNames}
-use Rattle.mpf_plan.specs.declared.fault.PlanFault.TheVariants as faults
-use Rattle.plan_tables.specs.{PlanView.PlanView, Valid.IsValid, Inside.{name_sets_view, tables_view}}
-use Rattle.plan_contributions.specs.Contributions.{Contribution}
-use Rattle.row_contributions.specs.Contributions.{given_by, contributions_of}
+-- The draft of rows is their plan, or there is none.
+use Rattle.std.proofs.Common.{◌≡◌, ℕ, ◌≤◌, false, not, List, [], ◌∷◌, ◌++◌, length, Option, None, Some, Result, Ok}
+use Rattle.std.proofs.{Common.{Err, refl, sym, ap, ◌∙◌, subst, true≢false, arith}, lemmas.Bool.or_parts}
+use Rattle.std.specs.{Str.bytes_eq, List.{flat_map, list_any}}
+use Rattle.mpf_config.specs.{Rows.Rows, Short.AreListsShort, FewModes.AreFewModes, States.HaveStates}
+use Rattle.plan_tables.specs.declared.table.Table.{Table, TheVariants.{Bindings, Switches, Coils}}
+use Rattle.plan_tables.specs.declared.table.Table.TheVariants as tables
+use Rattle.plan_tables.specs.{PlanView.PlanView, Valid.IsValid, Limits.{entry_count, first_above, limit_of}}
+use Rattle.plan_rows.specs.declared.rows.Row as written
 use Rattle.plan_rows.specs.{Rows.rows_of, View.row_list_view}
-use Rattle.mpf_plan.specs.{Uses.lacks_name, Filling.{drafted, plan_from}}
-use Rattle.plan_tables.specs.Limits.{entry_count, limit_of, first_above}
-use Rattle.mpf_plan.specs.PlanOf.{plan_of, plan_at, GivesPlan, IsExceeded, mode_count, row_count}
-use Rattle.row_contributions.proofs.{Aimed.rows_are_aimed, RowFacts.rows_are_limited}
-use Rattle.mpf_plan.specs.{Inside.{IsActNumbered, draft_view}, Numbering.{lists_count, Numbered}}
-use Rattle.mpf_plan.proofs.{Tables.computed-plan, ValidPlan.IsValid-plan_of, Steps.coils_seen}
-use Rattle.mpf_plan.proofs.Judged.{all_within, is_first, plan_at-lacking, plan_at-within, plan_at-exceeded, plan_at-Err}
-use Rattle.mpf_plan.proofs.Drafted.{modes-from, coils_count, lists_few}
-use Rattle.mpf_plan.proofs.{ModeWorks.modes-count, RowOwners.acts_numbered}
+use Rattle.plan_parts.specs.{Parts.{Part, switch, coil, parts_of}, RowViews.{machine_text, parts_from}}
+use Rattle.mpf_plan.specs.declared.{draft.Draft.Draft, fault.PlanFault.PlanFault}
+use Rattle.mpf_plan.specs.declared.fault.PlanFault.TheVariants as faults
+use Rattle.mpf_plan.specs.{Uses.{Names, first_uses, is_lacking}, Lacking.parts_of_rows}
+use Rattle.mpf_plan.specs.PlanOf.{Use, in_table, part_uses, part_gives, is_unknown, lacks_name, names_of, plan_by}
+use Rattle.mpf_plan.specs.PlanOf.{plan_of, plan_at, above_limit, GivesPlan, IsExceeded}
+use Rattle.mpf_plan.specs.Drafting.{kept_names, names_by, HasNames, HasOneEach, IsDraftOf, GivesDraft, draft_view}
+use Rattle.mpf_plan.proofs.{Noted.kept_all, Grown.{InLimits, within_names}, Walk.walked}
+use Rattle.mpf_plan.proofs.{KeptParts.parts_kept, ValidPlan.IsValid-plan_of}
+use Rattle.mpf_plan.proofs.Judged.{all_within, is_first, plan_at-within, plan_at-exceeded, plan_at-Err}
 
-module _ (rows : Rows) (machine : List SectionRows) (text : machine ≡ rows.machine) (rs numbered_of : List found.Row) (are : row_list_view rs ≡ rows_of rows) (first : numbered_of ≡ rs) where
-  abbrev cs : List Contribution
-  cs = given_by machine (row_list_view numbered_of)
+-- ---- bindings and rows have no names
 
-  same : cs ≡ contributions_of rows
-  same = λ i. given_by (text i) ((ap row_list_view first ∙ are) i)
+-- no part gives one
+none_given : (t : Table) → (HasNames t → ⊥) → (ps : List Part) → in_table t (flat_map part_gives ps) ≡ []
+none_given t nameless [] = refl
+none_given t nameless (p ∷ ps) = by t p nameless (none_given t nameless ps)
+  where
+    by : (t : Table) (p : Part) → (HasNames t → ⊥) → in_table t (flat_map part_gives ps) ≡ []
+        → in_table t (part_gives p ++ flat_map part_gives ps) ≡ []
+    by Bindings (switch n kind confirms active inactive) nameless rest = rest
+    by Bindings (coil n limits) nameless rest = rest
+    by Bindings x2 nameless rest = rest
+    by tables.Rows (switch n kind confirms active inactive) nameless rest = rest
+    by tables.Rows (coil n limits) nameless rest = rest
+    by tables.Rows x2 nameless rest = rest
+    by x1 x2 nameless rest = absurd (nameless tt)
 
-  from_rows : plan_from cs ≡ plan_of rows
-  from_rows = ap plan_from same ∙ computed-plan rows
+-- where none is given, each that is used is lacking
+none_used : (there : Names) (t : Table) → (HasNames t → ⊥) → there t ≡ [] → (us : List Use)
+    → list_any (is_lacking there) us ≡ false → in_table t us ≡ []
+none_used there t nameless empty [] none = refl
+none_used there t nameless empty (u ∷ us) none =
+    let both = or_parts (is_lacking there u) (list_any (is_lacking there) us) none in
+    by t u.0 u.1 nameless empty both.0 (none_used there t nameless empty us both.1)
+  where
+    by : (t u : Table) (n : List ℕ) → (HasNames t → ⊥) → there t ≡ [] → is_lacking there (u, n) ≡ false
+        → in_table t us ≡ [] → in_table t ((u, n) ∷ us) ≡ []
+    by Bindings Bindings n nameless empty has rest =
+        absurd (true≢false (sym (ap (λ ns. not (list_any (bytes_eq n) ns)) empty) ∙ has))
+    by Bindings x2 n nameless empty has rest = rest
+    by tables.Rows tables.Rows n nameless empty has rest =
+        absurd (true≢false (sym (ap (λ ns. not (list_any (bytes_eq n) ns)) empty) ∙ has))
+    by tables.Rows x2 n nameless empty has rest = rest
+    by x1 x2 n nameless empty has rest = absurd (nameless tt)
 
-  -- ---- no plan
+no_names : (ps : List Part) → lacks_name ps ≡ false → (t : Table) → (HasNames t → ⊥)
+    → in_table t (flat_map part_uses ps) ≡ []
+unfolding lacks_name
+no_names ps complete t nameless =
+    let there : Names = λ u. in_table u (flat_map part_gives ps) in
+    none_used there t nameless (none_given t nameless ps) (flat_map part_uses ps)
+    (or_parts (list_any is_unknown ps) (list_any (is_lacking there) (flat_map part_uses ps)) complete).1
 
-  refused : (d : PlanFault) → Numbered cs (Err d) → GivesPlan (Err d) (plan_at rows)
+-- so no table has more names than its limit
+names_fit : (ps : List Part) → lacks_name ps ≡ false → InLimits ps → (t : Table)
+    → length (names_by (flat_map part_uses ps) t) ≤ limit_of t
+names_fit ps complete limits Bindings =
+    let none : length (names_by (flat_map part_uses ps) Bindings) ≡ 0 =
+    ap (λ ns. length (first_uses ns)) (no_names ps complete Bindings (λ h. h)) in
+    omega (arith, none)
+names_fit ps complete limits tables.Rows =
+    let none : length (names_by (flat_map part_uses ps) tables.Rows) ≡ 0 =
+    ap (λ ns. length (first_uses ns)) (no_names ps complete tables.Rows (λ h. h)) in
+    omega (arith, none)
+names_fit ps complete limits t = within_names ps limits t tt
+
+-- ---- the plan of rows
+
+plan_is : (rows : Rows) → plan_of rows ≡ plan_by (names_of (parts_of rows)) (parts_of rows)
+unfolding plan_of
+plan_is rows = refl
+
+-- the rows of a configuration have its parts
+pub rows_parts : (rows : Rows) (rs : List written.Row) → row_list_view rs ≡ rows_of rows
+    → parts_of_rows rows rs ≡ parts_of rows
+rows_parts rows rs are = ap (parts_from rows.machine machine_text) are ∙ walked rows
+
+-- the answer says which table is above its limit
+pub limit_said : (rows : Rows) (r : Result PlanView PlanFault) → GivesPlan r (plan_at rows) → (t : Table)
+    → r ≡ Err (faults.Limit t) → IsExceeded rows t
+limit_said rows r exact t is = plan_at-Err rows t (subst (λ a. GivesPlan a (plan_at rows)) is exact)
+
+-- it is the plan
+pub is_planned : (rows : Rows) (p : PlanView) → lacks_name (parts_of rows) ≡ false
+    → ((t : Table) → entry_count (plan_of rows) t ≤ limit_of t) → p ≡ plan_of rows → plan_at rows ≡ Ok p
+is_planned rows p complete within is = plan_at-within rows complete within ∙ ap Ok (sym is)
+
+module _ (rows : Rows) (rs : List written.Row) (are : row_list_view rs ≡ rows_of rows)
+    (complete : lacks_name (parts_of rows) ≡ false) where
+  abbrev ps : List Part
+  ps = parts_of rows
+
+  -- a table is above its limit
+  exceeded : (t : Table) → first_above (plan_by (names_of ps) ps) ≡ Some t → plan_at rows ≡ Err (above_limit t)
+  exceeded t found =
+      plan_at-exceeded rows complete t (is_first (plan_of rows) t (ap first_above (plan_is rows) ∙ found))
+
+  -- there is no draft
+  refused : (e : PlanFault) → GivesDraft rows rs (Err e) → GivesPlan (Err e) (plan_at rows)
   refused faults.NoMemory why = tt
-  refused faults.NoSuchName why = plan_at-lacking rows (ap lacks_name (sym same) ∙ why)
-  refused (faults.Limit t) why = plan_at-exceeded rows (ap lacks_name (sym same) ∙ why.0) t (is_first (plan_of rows) t (ap first_above (sym from_rows) ∙ why.1))
+  refused faults.NoSuchName why = absurd why
+  refused (faults.Limit t) why =
+      exceeded t (subst (λ qs. first_above (plan_by (names_of qs) qs) ≡ Some t) (rows_parts rows rs are) why)
 
-  module _ (r : Result PlanView PlanFault) (d : PlanFault) (is : r ≡ Err d) (why : Numbered cs (Err d)) where
-    pub refused_exact : GivesPlan r (plan_at rows)
-    refused_exact = subst (λ a. GivesPlan a (plan_at rows)) (sym is) (refused d why)
+  pub refused_exact : (r : Result PlanView PlanFault) (e : PlanFault) → r ≡ Err e → GivesDraft rows rs (Err e)
+      → GivesPlan r (plan_at rows)
+  refused_exact r e is why = subst (λ a. GivesPlan a (plan_at rows)) (sym is) (refused e why)
 
-    pub refused_limit : (t : Table) → r ≡ Err (faults.Limit t) → IsExceeded rows t
-    refused_limit t given = plan_at-Err rows t (subst (λ a. GivesPlan a (plan_at rows)) given refused_exact)
+  -- there is a draft, and this is the first table above its limit
+  module _ (d : Draft) (made : GivesDraft rows rs (Ok d)) (o : Option Table)
+      (judged : (qs : List Part) → IsDraftOf qs d → o ≡ first_above (plan_by (names_of qs) qs)) where
+    is_made : IsDraftOf ps d
+    is_made = subst (λ qs. IsDraftOf qs d) (rows_parts rows rs are) made
 
-  -- ---- a plan
+    pub too_many : (t : Table) → o ≡ Some t → plan_at rows ≡ Err (above_limit t)
+    too_many t is = exceeded t (sym (judged ps is_made) ∙ is)
 
-  module _ (n : NumberedNames) (numbered : Numbered cs (Ok n)) where
-    abbrev names : NameSets
-    names = n.names
+    -- or there is none
+    module _ (none : o ≡ None) where
+      pub within : (t : Table) → entry_count (plan_of rows) t ≤ limit_of t
+      within = all_within (plan_of rows) (ap first_above (plan_is rows) ∙ sym (judged ps is_made) ∙ none)
 
-    complete : lacks_name (contributions_of rows) ≡ false
-    complete = ap lacks_name (sym same) ∙ numbered.0
+      limits : InLimits ps
+      limits = subst (λ (p : PlanView). (t : Table) → entry_count p t ≤ limit_of t) (plan_is rows) within
 
-    pub rows_within : (t : Table) → entry_count (plan_of rows) t ≤ limit_of t
-    rows_within = all_within (plan_of rows) (ap first_above (sym from_rows) ∙ numbered.2)
+      pub fit : (t : Table) → length (kept_names d.names t) ≤ limit_of t
+      fit t =
+          let few = names_fit ps complete limits t in
+          omega (arith, few, ap length (kept_all (flat_map part_uses ps) d.names t is_made.names few))
 
-    -- made of the same rows
-    module _ (d : Draft) (made_of : List found.Row) (again : made_of ≡ rs) (made : draft_view names d ≡ drafted (name_sets_view names) (given_by machine (row_list_view made_of))) where
-      abbrev tables : PlanView
-      tables = tables_view (record { names = names; modes = d.modes; switches = d.switches; coils = d.coils; lists = d.lists; bindings = d.bindings; rows = d.rows; row_lists = d.row_lists; game = d.game })
+      pub one_each_switch : HasOneEach Switches d.names d.switches
+      one_each_switch = is_made.switches (within_names ps limits)
 
-      count : length d.coils.items ≡ length (name_sets_view names Coils)
-      count = coils_count names d (given_by machine (row_list_view made_of)) made
+      pub one_each_coil : HasOneEach Coils d.names d.coils
+      one_each_coil = is_made.coils (within_names ps limits)
 
-      -- each coil has a name
-      seen : tables ≡ (draft_view names d).plan
-      seen = ap (λ coils. record tables { coils = coils }) (sym (coils_seen (name_sets_view names Coils) d.coils.items (omega (arith, count))))
+      module _ (states : HaveStates rows) (short : AreListsShort rows) where
+        pub is_plan : draft_view d ≡ plan_of rows
+        is_plan = is_made.plan (parts_kept rows states short limits) limits ∙ sym (plan_is rows)
 
-      pub is_plan : tables ≡ plan_of rows
-      is_plan = seen ∙ ap (λ x. x.plan) (made ∙ (λ i. drafted (numbered.1 i) (given_by machine (row_list_view ((again ∙ sym first) i))))) ∙ from_rows
-
-      pub is_planned : plan_at rows ≡ Ok tables
-      is_planned = plan_at-within rows complete rows_within ∙ ap Ok (sym is_plan)
-
-      pub is_valid : AreListsShort rows → AreFewModes rows.modes → IsValid tables
-      is_valid short few = subst IsValid (sym is_plan) (IsValid-plan_of rows short few complete rows_within)
-
--- rows give as many modes as there are in the texts
-pub modes_few : (rows : Rows) (machine : List SectionRows) (rs made_of : List found.Row) → machine ≡ rows.machine → row_list_view rs ≡ rows_of rows → made_of ≡ rs → AreFewModes rows.modes → mode_count (given_by machine (row_list_view made_of)) ≤ 64
-modes_few rows machine rs made_of text are again few = search (rules, same, modes-count, modes-from)
-
--- the numbers of rows on which something acts are those of rows
-pub acts_few : (rows : Rows) (machine : List SectionRows) (rs made_of : List found.Row) → machine ≡ rows.machine → row_list_view rs ≡ rows_of rows → made_of ≡ rs
-    → row_count (given_by machine (row_list_view made_of)) ≤ 1024 → All IsActNumbered (given_by machine (row_list_view made_of))
-acts_few rows machine rs made_of text are again few = search (rules, same, acts_numbered, rows_are_aimed)
-
--- nor more effect lists of rows than 288 each
-pub lists_within : (rows : Rows) (machine : List SectionRows) (rs made_of : List found.Row) → machine ≡ rows.machine → row_list_view rs ≡ rows_of rows → made_of ≡ rs → AreListsShort rows
-    → row_count (given_by machine (row_list_view made_of)) ≤ 1024 → lists_count (given_by machine (row_list_view made_of)) ≤ 294912
-lists_within rows machine rs made_of text are again short few =
-    let same : given_by machine (row_list_view made_of) ≡ contributions_of rows = λ i. given_by (text i) ((ap row_list_view again ∙ are) i) in
-    omega (arith, few, lists_few (contributions_of rows) (rows_are_limited rows short), ap lists_count same, ap row_count same)
+        pub is_valid : AreFewModes rows.modes → IsValid (draft_view d)
+        is_valid few = subst IsValid (sym is_plan) (IsValid-plan_of rows short few states complete within)

@@ -1,16 +1,13 @@
--- What a plan says, with names in place of numbers: what its effect lists do, what its coils may be sent, and which
--- names are used.
-use Rattle.std.specs.Prelude.{ℕ, ◌≡◌, ◌<◌, if◌then◌else◌, List, length, fold, Option, None, Some, true, false}
-use Rattle.std.specs.{List.{All, flat_map, list_any}, Str.bytes_eq}
-use Rattle.plan_tables.specs.declared.{entries.{CoilId.CoilId, CoilLimits.CoilLimits, Action.Action}, table.Table.Table}
+-- What a plan says, with names in place of numbers: what its effect lists do, and what its coils may be sent.
+use Rattle.std.specs.{Prelude.{ℕ, ◌≡◌, ◌<◌, List, length, Option, None, Some}, List.{All, flat_map, last_or}}
+use Rattle.plan_tables.specs.declared.entries.{CoilId.CoilId, CoilLimits.CoilLimits, Action.Action}
 use Rattle.plan_tables.specs.declared.entries.Action.TheVariants.{Post, Pulse, Enable, Disable, Change, Enter, Leave, Lose, Arrive, Request, AddBalls}
 use Rattle.machine_definitions.specs.Players.{player_event}
 use Rattle.plan_tables.specs.declared.entries.Owner.TheVariants as owners
 use Rattle.plan_tables.specs.PlanView.{PlanView, name_of_event, name_of_variable, coil_at, row_at}
-use Rattle.plan_contributions.specs.Effects.{pulse, enable, disable, Effect, posts, works, changes, enters, leaves, loses, arrives, requests, adds_balls}
-use Rattle.plan_contributions.specs.{Contributions.Contribution, UsedNames.{used, given_names}}
-use Rattle.row_contributions.specs.Facts.{given_coil}
-use Rattle.mpf_plan.specs.Uses.{is_to_be_given, is_unknown}
+use Rattle.plan_parts.specs.Effects.{pulse, enable, disable, Effect, posts, works, changes, enters, leaves, loses, arrives, requests, adds_balls}
+use Rattle.plan_parts.specs.Parts.{Part}
+use Rattle.mpf_plan.specs.PlanOf.{limits_for}
 
 -- ---- what is done
 
@@ -43,32 +40,17 @@ AreByVariable plan = All (All (IsByVariable plan)) plan.lists
 
 -- ---- what coils may be sent
 
--- what is given of this name last
-abbrev pub latest_limits : List ℕ → Option CoilLimits → List ℕ × CoilLimits → Option CoilLimits
-latest_limits name found given = if bytes_eq name given.0 then Some given.1 else found
-
--- what contributions say that the coil of this name may be sent, if they give one
-abbrev pub limits_called : List Contribution → List ℕ → Option CoilLimits
-limits_called cs name = fold (latest_limits name) None (flat_map given_coil cs)
+-- what the coil of this name may be sent, if one of the parts is the coil
+abbrev pub limits_called : List Part → List ℕ → Option CoilLimits
+limits_called parts name = last_or None (flat_map (limits_for name) parts)
 
 -- each coil of the plan may be sent what is said of its name
-abbrev pub AreLimitsByName : List Contribution → PlanView → Type 0
-AreLimitsByName cs plan =
-    (c : CoilId) → c.0 < length plan.coils → limits_called cs (coil_at plan c).name ≡ Some (coil_at plan c).limits
-
--- ---- the names that are used
-
--- a name that has to be given is among those that are
-abbrev pub IsGiven : List Contribution → Option (Table × List ℕ) → Type 0
-IsGiven cs None = Unit {0}
-IsGiven cs (Some (t, n)) = is_to_be_given t ≡ true → list_any (bytes_eq n) (given_names t cs) ≡ true
-
--- so is each that contributions use, and none of them names what is unknown
-abbrev pub AreGiven : List Contribution → Type 0
-AreGiven cs = All (λ c. (is_unknown c ≡ false) × IsGiven cs (used c)) cs
+abbrev pub AreLimitsByName : List Part → PlanView → Type 0
+AreLimitsByName parts plan =
+    (c : CoilId) → c.0 < length plan.coils → limits_called parts (coil_at plan c).name ≡ Some (coil_at plan c).limits
 
 -- ---- listeners
 
--- a device that listens to a switch is the machine's
+-- all devices that listen to switches are the machine's
 abbrev pub ListenersAreOwn : PlanView → Type 0
 ListenersAreOwn plan = All (λ s. All (λ l. (row_at plan l.row).owner ≡ owners.Machine) s.listeners) plan.switches

@@ -1,16 +1,13 @@
--- What a contribution says, with numbers in place of names; and what its place in the rows says.
-use Rattle.std.specs.Prelude.{ℕ, ◌-◌, List, map, length, slice_index_or}
-use Rattle.plan_tables.specs.declared.{entries.{EventId.EventId, ModeId.ModeId}, devices.RowId.RowId}
-use Rattle.plan_tables.specs.declared.entries.{CoilId.CoilId, Owner.Owner, Action.Action, ListId.ListId}
-use Rattle.plan_tables.specs.declared.entries.Owner.TheVariants as owners
+-- What a part says, with numbers in place of names.
+use Rattle.std.specs.Prelude.{ℕ, List, map}
+use Rattle.plan_tables.specs.declared.{entries.{EventId.EventId, GameRules.GameRules}, devices.RowId.RowId}
+use Rattle.plan_tables.specs.declared.entries.{CoilId.CoilId, Action.Action, VariableId.VariableId}
 use Rattle.plan_tables.specs.declared.entries.Action.TheVariants.{Post, Pulse, Enable, Disable, Change, Enter, Leave, Lose, Arrive, Request, AddBalls}
 use Rattle.mpf_values.specs.Events.{Condition}
 use Rattle.plan_tables.specs.declared.entries.Condition as numbered
-use Rattle.plan_tables.specs.declared.entries.{VariableId.VariableId, GameRules.GameRules}
 use Rattle.machine_definitions.specs.{GameEvents.game_event_names, Players.player_event}
-use Rattle.plan_rows.specs.declared.place.Place.{Place, TheVariants.{Machine, Control, Mode}}
 use Rattle.plan_tables.specs.declared.table.Table.TheVariants.{Events, Coils, Variables}
-use Rattle.plan_contributions.specs.Effects.{Deed, pulse, enable, disable, Effect, posts, works, changes, enters, leaves, loses, arrives, requests, adds_balls}
+use Rattle.plan_parts.specs.Effects.{Deed, pulse, enable, disable, Effect, posts, works, changes, enters, leaves, loses, arrives, requests, adds_balls}
 use Rattle.mpf_plan.specs.Uses.{Names, number_among}
 
 -- an event is its name's place among the names
@@ -31,7 +28,7 @@ action_with c (pulse ms power) = Pulse c ms power
 action_with c (enable power) = Enable c power
 action_with c disable = Disable c
 
--- what an effect list does, by number; what happens with the balls of a device is of this row
+-- an effect, by number; what happens with balls happens in the ball device in this row
 abbrev pub action_of : Names → RowId → Effect → Action
 action_of names r (posts n) = Post (event_of (names Events) n)
 action_of names r (works n deed) = action_with (coil_of (names Coils) n) deed
@@ -47,22 +44,7 @@ action_of names r (adds_balls n) = AddBalls n
 abbrev pub condition_of : Names → Condition → numbered.Condition
 condition_of names c = record { variable = variable_of (names Variables) c.variable; comparison = c.comparison; number = c.number }
 
--- who owns a binding that has this place, if this mode came last; and its priority, if this is that of the mode
-abbrev pub owner_at : ModeId → Place → Owner
-owner_at last Machine = owners.Machine
-owner_at last Control = owners.Machine
-owner_at last Mode = owners.Mode last
-
-abbrev pub priority_at : ℕ → Place → ℕ
-priority_at of_last Machine = 0
-priority_at of_last Control = of_last
-priority_at of_last Mode = of_last
-
--- the first effect list of the row that came last
-abbrev pub first_of_last : List ListId → ListId
-first_of_last firsts = slice_index_or firsts (length firsts - 1) (record { 0 = 0 })
-
--- its rules, with its events by number
+-- the rules of the game, with its events by number
 abbrev pub rules_of : List (List ℕ) → ℕ → ℕ → ℕ → GameRules
 rules_of names min_balls balls_per_game max_players = record {
   min_balls = min_balls;

@@ -3,13 +3,8 @@ pub mod ByNumber
 pub mod PlanOf
 pub mod ByName
 pub mod OfConfig
--- the plan by parts, and that it is the same
-pub mod Parts
-pub mod PlanByParts
-pub mod PartsAgree
--- the plan as it is computed: proofs/Tables.antt says that it is the same
-pub mod Filling
--- scaffolding: what contracts of the functions inside this crate see
-pub mod Inside
-pub mod Numbering
+-- only contracts of private functions cite these
+pub mod Lacking
 pub mod Drafting
+-- for proofs only: names among uses
+pub mod Named

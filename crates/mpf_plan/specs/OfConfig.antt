@@ -1,4 +1,4 @@
--- What planning gives of a configuration as the program has it.
+-- What planning gives for a configuration as the code has it.
 use Rattle.std.specs.Prelude.{Result}
 use Rattle.mpf_config.specs.{declared.config.Config.Config, View.rows_view}
 use Rattle.plan_tables.specs.{declared.table.Table.Table, PlanView.PlanView}

@@ -1,264 +1,240 @@
 -- The plan of the rows of a configuration, in three steps.
 --
--- 1. Owners, sections and entries give contributions, one after the other: `contributions_of`, in
---    `row_contributions/specs/Contributions.antt`. A setting that is not written has the default of its table, in
---    `mpf_tables/specs/SectionTables.antt`.
--- 2. Names are numbered in the order of their first uses: `names_from`.
--- 3. Each table has what the contributions give to it, in their order: `tables_of`. What one gives may depend on the
---    mode, row, list or switch that came last, and so on those before it. What a list does, and the condition of a
---    binding, come after it.
---
--- For example, the entry `a: b, c` of `event_player` gives a binding of `a`, with which a list begins, and then that
--- this list posts `b`, and that it posts `c`. So `bindings` has one more, whose event is `a` and whose target is to run
--- that list; and `lists` has one more, of two actions.
-use Rattle.std.specs.Prelude.{◌≡◌, ℕ, ◌+◌, ◌-◌, ◌==◌, if◌then◌else◌, cond, Bool, false, List, [], ◌∷◌, ◌++◌, Option, None, Some, Result, Ok, Err, map, length, unwrap_or}
-use Rattle.std.specs.{List.{flat_map, sum_by, last_or, range_with_len}, Str.bytes_eq}
-use Rattle.mpf_config.specs.Rows.{ModeRows, Rows}
-use Rattle.mpf_sections.specs.{Rows.ModeSettings, Typed.mode_settings}
-use Rattle.plan_tables.specs.declared.entries.{EventId.EventId, Listener.Listener, GameRules.GameRules, Binding.Binding}
-use Rattle.plan_tables.specs.declared.entries.{SwitchKind.SwitchKind, ModeEvent.ModeEvent}
-use Rattle.plan_tables.specs.declared.entries.{ModeId.ModeId, Action.Action, Target.Target, ListId.ListId}
+-- 1. The entries of the configuration give parts, in order: `parts_of`, in `plan_parts/specs/Parts.antt`. A setting
+--    that is not written has the default of its table, in `mpf_tables/specs/SectionTables.antt`.
+-- 2. A name's number is its place in the list of first uses: `names_of`.
+-- 3. The parts give the tables: `plan_by`. Modes, bindings, rows and effect lists are each one concatenation of what
+--    the parts give. Events and variables are names alone. What a switch or a coil is, the part of its name says; what
+--    the game is, the part that is the game. The number of a row, and of an effect list, is how many of them come
+--    before it: `placed`.
+use Rattle.std.specs.Prelude.{◌≡◌, ℕ, ◌+◌, ◌==◌, ◌||◌, Bool, true, false, if◌then◌else◌, cond, List, [], ◌∷◌, ◌++◌, Option, None, Some, Result, Ok, Err, map, filter, length, option_map, slice_index_or, unwrap_or}
+use Rattle.std.specs.{List.{flat_map, list_any, last_or, range_with_len}, Str.bytes_eq}
+use Rattle.mpf_values.specs.Events.{Condition, Event}
+use Rattle.mpf_config.specs.Rows.{Rows}
+use Rattle.machine_definitions.specs.{GameEvents.game_event_names, Players.player_event}
+use Rattle.plan_tables.specs.declared.entries.{EventId.EventId, Listener.Listener, Binding.Binding, Target.Target}
+use Rattle.plan_tables.specs.declared.entries.{ListId.ListId, CoilLimits.CoilLimits, Action.Action}
+use Rattle.plan_tables.specs.declared.entries.{GameRules.GameRules, ModeEvent.ModeEvent}
 use Rattle.plan_tables.specs.declared.entries.ModeEvent.TheVariants.{WillStart, Starting, Started, Stopping, Stopped}
-use Rattle.plan_tables.specs.declared.entries.Condition as numbered
 use Rattle.plan_tables.specs.declared.entries.Target.TheVariants as targets
-use Rattle.plan_tables.specs.declared.devices.{DeviceRow.DeviceRow, RowId.RowId}
-use Rattle.plan_tables.specs.{Devices.list_count, Limits.{first_above, IsFirstAbove}}
-use Rattle.plan_contributions.specs.declared.contribution.Aim.{Aim, TheVariants.{Run, Start, Stop, Do, On}}
+use Rattle.plan_tables.specs.declared.devices.{RowId.RowId, DeviceRow.DeviceRow}
 use Rattle.plan_tables.specs.declared.table.Table.{Table, TheVariants.{Events, Switches, Coils, Variables}}
-use Rattle.mpf_plan.specs.{declared.fault.PlanFault.PlanFault, ByName.limits_called}
-use Rattle.mpf_plan.specs.declared.fault.PlanFault.TheVariants as faults
 use Rattle.plan_tables.specs.PlanView.{PlanSwitch, no_switch, PlanCoil, no_coil, PlanMode, PlanView}
-use Rattle.plan_contributions.specs.Contributions.{Contribution, reads, active, inactive, mode, mode_event_name, binds, does, device, does_in, listens, under, plays}
-use Rattle.row_contributions.specs.Contributions.{contributions_of}
-use Rattle.plan_contributions.specs.UsedNames.{given_names}
-use Rattle.mpf_plan.specs.Uses.{Names, names_from, number_among, lacks_name}
-use Rattle.mpf_plan.specs.ByNumber.{event_of, action_of, condition_of, owner_at, priority_at, rules_of, first_of_last}
+use Rattle.plan_tables.specs.Limits.{order_of, first_above, IsFirstAbove}
+use Rattle.plan_parts.specs.Effects.{mode_event_name, Effect, posts, works, changes, enters}
+use Rattle.plan_parts.specs.Parts.{Part, switch, coil, game, mode, handler, device, mention, unknown, Reaction, run, start, stop, act_on, Whose, parts_of}
+use Rattle.mpf_plan.specs.{declared.fault.PlanFault.PlanFault, Uses.{Names, first_uses, is_lacking}}
+use Rattle.mpf_plan.specs.declared.fault.PlanFault.TheVariants as faults
+use Rattle.mpf_plan.specs.ByNumber.{event_of, action_of, condition_of, rules_of}
 
--- ---- how many there are
+-- ---- names, in the order of their first uses
 
--- how many modes a contribution gives, and how many all do
-abbrev pub modes_given : Contribution → ℕ
-modes_given (mode n priority game holds) = 1
-modes_given _ = 0
+-- a name that is used, with its table
+abbrev pub Use : Type 0
+Use = Table × List ℕ
 
-abbrev pub mode_count : List Contribution → ℕ
-mode_count cs = sum_by modes_given cs
+abbrev pub uses_of : Table → List (List ℕ) → List Use
+uses_of table names = map (λ n. (table, n)) names
 
--- how many rows of devices
-abbrev pub rows_given : Contribution → ℕ
-rows_given (device place settings) = 1
-rows_given _ = 0
+abbrev pub condition_uses : Option Condition → List Use
+condition_uses None = []
+condition_uses (Some c) = (Variables, c.variable) ∷ []
 
-abbrev pub row_count : List Contribution → ℕ
-row_count cs = sum_by rows_given cs
+abbrev pub event_uses : Event → List Use
+event_uses e = (Events, e.name) ∷ condition_uses e.condition
 
--- how many effect lists begin: one with a binding that is to run one, and with a row all that it has
-abbrev pub lists_begun : Contribution → ℕ
-lists_begun (binds n place Run) = 1
-lists_begun (device place settings) = list_count settings
-lists_begun _ = 0
+abbrev pub effect_uses : Effect → List Use
+effect_uses (posts n) = (Events, n) ∷ []
+effect_uses (works n deed) = (Coils, n) ∷ []
+effect_uses (changes v action number) = (Events, player_event v) ∷ (Variables, v) ∷ []
+effect_uses (enters n drain) = (Events, n) ∷ []
+effect_uses _ = []
 
-abbrev pub list_total : List Contribution → ℕ
-list_total cs = sum_by lists_begun cs
+-- the effect lists that a part has
+abbrev pub lists_in : Part → List (List Effect)
+lists_in (handler whose e (run effects)) = effects ∷ []
+lists_in (device whose d) = d.lists
+lists_in _ = []
 
--- ---- in turn
+abbrev pub mode_event_names : List ℕ → List (List ℕ)
+mode_event_names name = map (λ which. mode_event_name which name) (WillStart ∷ Starting ∷ Started ∷ Stopping ∷ Stopped ∷ [])
 
--- what each contribution gives, one after the other, by what stands before it and after it
-abbrev pub in_turn : {X : Type 0} → (List Contribution → Contribution → List Contribution → List X)
-    → (before after : List Contribution) → List X
-in_turn give before [] = []
-in_turn give before (c ∷ after) = give before c after ++ in_turn give (before ++ c ∷ []) after
+-- what a part names before its effect lists do: of a device, the switches to which it listens, the events that it
+-- handles, with the variables of their conditions, and those that it mentions
+abbrev pub settings_uses : Part → List Use
+settings_uses (switch name kind confirms active inactive) = (Switches, name) ∷ uses_of Events (active ++ inactive)
+settings_uses (coil name limits) = (Coils, name) ∷ []
+settings_uses (game min_balls balls_per_game max_players) = uses_of Events game_event_names
+settings_uses (mode name s) = uses_of Events (mode_event_names name)
+settings_uses (handler whose e reaction) = event_uses e
+settings_uses (device whose d) = uses_of Switches d.listens ++ flat_map (λ h. event_uses h.0) d.handled ++ uses_of Events d.mentioned
+settings_uses (mention table name) = (table, name) ∷ []
+settings_uses unknown = []
 
--- ---- modes
+abbrev pub part_uses : Part → List Use
+part_uses part = settings_uses part ++ flat_map (flat_map effect_uses) (lists_in part)
 
--- an event of the mode of this name
-abbrev pub event_for : Names → ModeEvent → List ℕ → EventId
-event_for names which name = event_of (names Events) (mode_event_name which name)
+-- the names of one table
+abbrev pub in_table : Table → List Use → List (List ℕ)
+in_table table us = map (λ u. u.1) (filter (λ u. order_of u.0 == order_of table) us)
 
--- the mode of this name, with these settings
-abbrev pub mode_called : Names → List ℕ → ModeSettings → PlanMode
-mode_called names name s = record {
-  name = name;
-  mode = record {
-    priority = s.priority;
-    game = s.game;
-    holds_ball_end = s.holds_ball_end;
-    events = record {
-      will_start = event_for names WillStart name;
-      starting = event_for names Starting name;
-      started = event_for names Started name;
-      stopping = event_for names Stopping name;
-      stopped = event_for names Stopped name;
+unfoldable pub names_of : List Part → Names
+names_of parts table = first_uses (in_table table (flat_map part_uses parts))
+
+-- ---- names that nothing has
+
+abbrev pub part_gives : Part → List Use
+part_gives (switch name kind confirms active inactive) = (Switches, name) ∷ []
+part_gives (coil name limits) = (Coils, name) ∷ []
+part_gives _ = []
+
+abbrev pub is_unknown : Part → Bool
+is_unknown unknown = true
+is_unknown _ = false
+
+-- whether parts name what nothing has: a profile, a shot or a ball device that is unknown, or a switch or a coil that
+-- none of the parts is
+unfoldable pub lacks_name : List Part → Bool
+lacks_name parts =
+    list_any is_unknown parts
+    || list_any (λ u. is_lacking (λ table. in_table table (flat_map part_gives parts)) u) (flat_map part_uses parts)
+
+-- ---- numbers of rows and of effect lists: how many come before
+
+-- A part, with the numbers of its row and of the first of its effect lists. If it has no row, or no list, it has the
+-- number of the next.
+pub record Placed : Type 0 where
+  pub row : RowId
+  pub list : ListId
+  pub part : Part
+
+abbrev pub row_count : Part → ℕ
+row_count (device whose d) = 1
+row_count _ = 0
+
+abbrev pub placed_from : (rows lists : ℕ) → List Part → List Placed
+placed_from rows lists [] = []
+placed_from rows lists (p ∷ ps) =
+    record { row = record { 0 = rows }; list = record { 0 = lists }; part = p }
+    ∷ placed_from (rows + row_count p) (lists + length (lists_in p)) ps
+
+unfoldable pub placed : List Part → List Placed
+placed parts = placed_from 0 0 parts
+
+-- ---- what a part gives to the tables
+
+abbrev pub device_row : RowId → Part → List DeviceRow
+device_row row (device whose d) = record { number = row; owner = whose.owner; settings = d.settings } ∷ []
+device_row row _ = []
+
+abbrev pub first_list : ListId → Part → List ListId
+first_list list (device whose d) = list ∷ []
+first_list list _ = []
+
+-- who listens to the switch of this name, if the device in this row listens to these switches: the number of a switch
+-- in a row is its place among them
+abbrev pub listeners_among : List ℕ → RowId → (listens : List (List ℕ)) → List Listener
+listeners_among name row listens =
+    map (λ k. record { row = row; switch = k }) (filter (λ k. bytes_eq name (slice_index_or listens k [])) (range_with_len 0 (length listens)))
+
+abbrev pub listeners : List ℕ → RowId → Part → List Listener
+listeners name row (device whose d) = listeners_among name row d.listens
+listeners name row _ = []
+
+abbrev pub limits_for : List ℕ → Part → List CoilLimits
+limits_for name (coil n limits) = if bytes_eq name n then limits ∷ [] else []
+limits_for name _ = []
+
+-- what a handler does; the list is its own, if it has one
+abbrev pub target_of : ListId → Reaction → Target
+target_of list (run effects) = targets.Run list
+target_of list (start m) = targets.Start m
+target_of list (stop m) = targets.Stop m
+target_of list (act_on row act) = targets.Act row act
+
+module _ (names : Names) where
+  abbrev pub binding_of : Whose → Event → Target → Binding
+  binding_of whose e target = record {
+    event = event_of (names Events) e.name;
+    owner = whose.owner;
+    priority = whose.priority;
+    condition = option_map (condition_of names) e.condition;
+    target = target;
+  }
+
+  abbrev pub bindings_in : RowId → ListId → Part → List Binding
+  bindings_in row list (handler whose e reaction) = binding_of whose e (target_of list reaction) ∷ []
+  bindings_in row list (device whose d) = map (λ h. binding_of whose h.0 (targets.Act row h.1)) d.handled
+  bindings_in row list _ = []
+
+  abbrev pub actions_in : RowId → Part → List (List Action)
+  actions_in row part = map (map (action_of names row)) (lists_in part)
+
+  abbrev pub event_for : ModeEvent → List ℕ → EventId
+  event_for which name = event_of (names Events) (mode_event_name which name)
+
+  abbrev pub plan_mode : Part → List PlanMode
+  plan_mode (mode name s) = record {
+    name = name;
+    mode = record {
+      priority = s.priority;
+      game = s.game;
+      holds_ball_end = s.holds_ball_end;
+      events = record {
+        will_start = event_for WillStart name;
+        starting = event_for Starting name;
+        started = event_for Started name;
+        stopping = event_for Stopping name;
+        stopped = event_for Stopped name;
+      };
     };
-  };
-}
+  } ∷ []
+  plan_mode _ = []
 
--- the mode of which these are the rows
-abbrev pub mode_of : Names → ModeRows → PlanMode
-mode_of names m = mode_called names m.name (mode_settings m.sections)
+  abbrev pub rules_in : Part → List GameRules
+  rules_in (game min_balls balls_per_game max_players) = rules_of (names Events) min_balls balls_per_game max_players ∷ []
+  rules_in _ = []
 
--- the mode that came last, and its priority
-abbrev pub mode_before : List Contribution → ModeId
-mode_before before = record { 0 = mode_count before - 1 }
+  -- the switch of this name, without its listeners
+  abbrev pub switch_for : List ℕ → Part → List PlanSwitch
+  switch_for name (switch n kind confirms active inactive) =
+      if bytes_eq name n
+      then record {
+        name = name;
+        kind = kind;
+        listeners = [];
+        confirms_playfield = confirms;
+        active = map (event_of (names Events)) active;
+        inactive = map (event_of (names Events)) inactive;
+      } ∷ []
+      else []
+  switch_for name _ = []
 
-abbrev pub priority_given : Contribution → List ℕ
-priority_given (mode n priority game holds) = priority ∷ []
-priority_given _ = []
+  -- The switch of this name, and the coil. Entries have distinct names, so there is at most one; of two, the last would
+  -- count. If there is none, the parts use a name that nothing has, and there is no plan.
+  abbrev pub switch_called : List Part → List ℕ → PlanSwitch
+  switch_called parts name = record (unwrap_or (last_or None (flat_map (switch_for name) parts)) (record no_switch { name = name })) {
+    listeners = flat_map (λ p. listeners name p.row p.part) (placed parts);
+  }
 
-abbrev pub priority_before : List Contribution → ℕ
-priority_before before = unwrap_or (last_or None (flat_map priority_given before)) 0
+  abbrev pub coil_called : List Part → List ℕ → PlanCoil
+  coil_called parts name = record { name = name; limits = unwrap_or (last_or None (flat_map (limits_for name) parts)) no_coil.limits }
 
--- ---- rows of devices
+  -- ---- the plan
 
--- a row of a device: its number is how many rows stand before it
-abbrev pub row_here : List Contribution → Contribution → List DeviceRow
-row_here before (device place settings) =
-    record {
-      number = record { 0 = row_count before };
-      owner = owner_at (mode_before before) place;
-      settings = settings;
-    } ∷ []
-row_here before _ = []
-
--- the first effect list of a row: its number is how many lists stand before it
-abbrev pub first_list_here : List Contribution → Contribution → List ListId
-first_list_here before (device place settings) = record { 0 = list_total before } ∷ []
-first_list_here before _ = []
-
-abbrev pub first_lists : List Contribution → List ListId
-first_lists cs = in_turn (λ before c after. first_list_here before c) [] cs
-
--- the row that came last
-abbrev pub row_before : List Contribution → RowId
-row_before before = record { 0 = row_count before - 1 }
-
--- ---- effect lists
-
--- what the effect list of this number is told here: one effect is of the list that began last, and another of a list of
--- the row that came last, by its number in the row
-abbrev pub done_here : Names → ℕ → List Contribution → Contribution → List Action
-done_here names l before (does e) =
-    if l == list_total before - 1 then action_of names (row_before before) e ∷ [] else []
-done_here names l before (does_in k e) =
-    if l == (first_of_last (first_lists before)).0 + k then action_of names (row_before before) e ∷ [] else []
-done_here names l before _ = []
-
--- the effect list of this number: what it is told after it has begun
-abbrev pub list_after : Names → (before after : List Contribution) → ℕ → List Action
-list_after names before after l = in_turn (λ before c after. done_here names l before c) before after
-
--- the effect lists that begin here
-abbrev pub lists_here : Names → List Contribution → Contribution → List Contribution → List (List Action)
-lists_here names before c after =
-    map (list_after names (before ++ c ∷ []) after) (range_with_len (list_total before) (lists_begun c))
-
--- ---- bindings
-
--- what a binding does: it runs the list that begins with it, starts or stops the mode that came last, or acts on the
--- row that came last, or on the row of this number, which may come later
-abbrev pub target_of : List Contribution → Aim → Target
-target_of before Run = targets.Run (record { 0 = list_total before })
-target_of before Start = targets.Start (mode_before before)
-target_of before Stop = targets.Stop (mode_before before)
-target_of before (Do act) = targets.Act (row_before before) act
-target_of before (On r act) = targets.Act (record { 0 = r }) act
-
--- the condition that comes last before the next binding, if there is one
-abbrev pub condition_after : Names → List Contribution → Option numbered.Condition
-condition_after names [] = None
-condition_after names (under c ∷ after) = Some (unwrap_or (condition_after names after) (condition_of names c))
-condition_after names (binds n place aim ∷ after) = None
-condition_after names (c ∷ after) = condition_after names after
-
--- a binding
-abbrev pub binding_here : Names → List Contribution → Contribution → List Contribution → List Binding
-binding_here names before (binds n place aim) after = record {
-  event = event_of (names Events) n;
-  owner = owner_at (mode_before before) place;
-  priority = priority_at (priority_before before) place;
-  condition = condition_after names after;
-  target = target_of before aim;
-} ∷ []
-binding_here names before _ after = []
-
--- ---- switches
-
--- whether the switch entry that came last is that of this name: of two entries of one name the first counts
-abbrev pub is_entry_of : List ℕ → List Contribution → Bool
-is_entry_of name before = number_among (given_names Switches before) name + 1 == length (given_names Switches before)
-
--- how the switch of this name is read, and whether a ball that presses it is on the playfield, if its entry says it
-abbrev pub reading_here : List ℕ → List Contribution → Contribution → List (SwitchKind × Bool)
-reading_here name before (reads kind confirms) = if is_entry_of name before then (kind, confirms) ∷ [] else []
-reading_here name before _ = []
-
--- the row that listens to it, and by which number of its own
-abbrev pub listener_here : List ℕ → List Contribution → Contribution → List Listener
-listener_here name before (listens k n) =
-    if bytes_eq name n then record { row = row_before before; switch = k } ∷ [] else []
-listener_here name before _ = []
-
--- the event that it posts when it becomes active, or inactive
-abbrev pub active_here : Names → List ℕ → List Contribution → Contribution → List EventId
-active_here names name before (active e) = if is_entry_of name before then event_of (names Events) e ∷ [] else []
-active_here names name before _ = []
-
-abbrev pub inactive_here : Names → List ℕ → List Contribution → Contribution → List EventId
-inactive_here names name before (inactive e) = if is_entry_of name before then event_of (names Events) e ∷ [] else []
-inactive_here names name before _ = []
-
--- a switch that is read as the last of these says, has these listeners, and posts these events
-abbrev pub switch_read : List ℕ → List (SwitchKind × Bool) → List Listener → (on off : List EventId) → PlanSwitch
-switch_read name readings listeners on off = record {
-  name = name;
-  kind = (unwrap_or (last_or None readings) (no_switch.kind, false)).0;
-  listeners = listeners;
-  confirms_playfield = (unwrap_or (last_or None readings) (no_switch.kind, false)).1;
-  active = on;
-  inactive = off;
-}
-
--- the switch of this name
-abbrev pub switch_called : Names → List Contribution → List ℕ → PlanSwitch
-switch_called names cs name =
-    switch_read name
-    (in_turn (λ before c after. reading_here name before c) [] cs)
-    (in_turn (λ before c after. listener_here name before c) [] cs)
-    (in_turn (λ before c after. active_here names name before c) [] cs)
-    (in_turn (λ before c after. inactive_here names name before c) [] cs)
-
--- ---- coils and the game
-
--- the coil of this name, with the limits that are given for it last
-abbrev pub coil_called : List Contribution → List ℕ → PlanCoil
-coil_called cs n = record { name = n; limits = unwrap_or (limits_called cs n) no_coil.limits }
-
--- the rules of the game
-abbrev pub rules_here : Names → Contribution → List GameRules
-rules_here names (plays min_balls balls_per_game max_players) =
-    rules_of (names Events) min_balls balls_per_game max_players ∷ []
-rules_here names _ = []
-
--- ---- the plan
-
--- its tables: of names at these numbers, of the modes' rows, and of the contributions
-abbrev pub tables_of : Names → List ModeRows → List Contribution → PlanView
-tables_of names modes cs = record {
-  modes = map (mode_of names) modes;
-  events = names Events;
-  switches = map (switch_called names cs) (names Switches);
-  coils = map (coil_called cs) (names Coils);
-  lists = in_turn (lists_here names) [] cs;
-  bindings = in_turn (binding_here names) [] cs;
-  rows = in_turn (λ before c after. row_here before c) [] cs;
-  row_lists = first_lists cs;
-  variables = names Variables;
-  game = last_or None (flat_map (rules_here names) cs);
-}
-
--- the plan of the rows
-unfoldable pub plan_of : Rows → PlanView
-plan_of rows = tables_of (names_from (contributions_of rows)) rows.modes (contributions_of rows)
+  unfoldable pub plan_by : List Part → PlanView
+  plan_by parts = record {
+    modes = flat_map plan_mode parts;
+    events = names Events;
+    switches = map (switch_called parts) (names Switches);
+    coils = map (coil_called parts) (names Coils);
+    lists = flat_map (λ p. actions_in p.row p.part) (placed parts);
+    bindings = flat_map (λ p. bindings_in p.row p.list p.part) (placed parts);
+    rows = flat_map (λ p. device_row p.row p.part) (placed parts);
+    row_lists = flat_map (λ p. first_list p.list p.part) (placed parts);
+    variables = names Variables;
+    game = last_or None (flat_map rules_in parts);
+  }
 
 -- why rows have no plan: they use a name that nothing has, or a table is above its limit
 pub data PlanRefusal : Type 0 where
@@ -270,10 +246,13 @@ abbrev pub fitting : PlanView → Option Table → Result PlanView PlanRefusal
 fitting plan None = Ok plan
 fitting plan (Some t) = Err (above_limit t)
 
--- the plan of the rows; or that they use a name that nothing has; or the first of the tables that is above its limit
+-- the plan of the rows
+unfoldable pub plan_of : Rows → PlanView
+plan_of rows = plan_by (names_of (parts_of rows)) (parts_of rows)
+
+-- the plan; or that the rows use a name that nothing has; or the first of the tables that is above its limit
 unfoldable pub plan_at : Rows → Result PlanView PlanRefusal
-plan_at rows =
-    cond (lacks_name (contributions_of rows)) (Err no_such_name) (fitting (plan_of rows) (first_above (plan_of rows)))
+plan_at rows = cond (lacks_name (parts_of rows)) (Err no_such_name) (fitting (plan_of rows) (first_above (plan_of rows)))
 
 -- the table is the first of the rows' plan that is above its limit
 abbrev pub IsExceeded : Rows → Table → Type 0

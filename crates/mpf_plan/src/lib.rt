@@ -1,14 +1,14 @@
 //! The plan of a configuration: its names by number, and what its entries bind to events.
 #![tactic(auto)]
 
+mod actions;
 pub mod build;
 mod draft;
 pub mod fault;
 mod fill;
-mod first_uses;
-mod law;
+mod lacking;
+mod names;
 mod numbering;
 
 pub use build::{plan, plan_complete};
 pub use fault::PlanFault;
-pub use law::plans_agree;

@@ -1,115 +1,26 @@
-//! Names by number, in the order of their first uses.
+//! Names by number, in the order of their first uses. A name has its number from its first use on.
 
-ghost use Rattle.std.specs.Prelude.{◌≡◌, ◌≤◌, ◌<◌, ℕ, List, [], false, true, length, nat_lt, IfOk, OnOk};
-ghost use Rattle.plan_contributions.specs.Contributions.{Contribution as ContributionValue};
-ghost use Rattle.plan_tables.specs.Limits.{entry_count, limit_of, tables_in_order, first_above};
-ghost use Rattle.mpf_plan.specs.Uses.{number_among, is_to_be_given, lacks_name};
-ghost use Rattle.mpf_plan.specs.Filling.{plan_from};
-ghost use Rattle.plan_tables.specs.NamesKept.{names_of};
-ghost use Rattle.plan_contributions.specs.View.{parts_text};
+ghost use Rattle.std.specs.Prelude.{◌≡◌, ◌≤◌, ◌∷◌, [], length, map, option_map, IfOk, OnOk, ℕ, List};
 ghost use Rattle.first_names.specs.FirstNames.{with_name, IsNameTableOf, IsNumberIn};
-ghost use Rattle.mpf_plan.specs.Drafting.{given_by_rows};
-ghost use Rattle.mpf_plan.specs.Numbering.{AreNameTablesOf, CountsMore, binding_count_of, device_row_count_of, HoldGivenNames, GainGivenNames, TellsUnknownName, TellsAnyUnknownName, names_nothing, HasFound, FindsMore, FindsOneMore, HasNames, Numbered};
+ghost use Rattle.mpf_plan.specs.Drafting.{AreNamesOf, HasNames, IsNumbered, Notes, guard_condition, names_uses};
+ghost use Rattle.mpf_plan.specs.ByNumber.{condition_of, event_of, variable_of};
+ghost use Rattle.mpf_plan.specs.Uses.{number_among};
+ghost use Rattle.mpf_plan.specs.PlanOf.{condition_uses};
+ghost use Rattle.plan_parts.specs.View.{parts_text};
+ghost use Rattle.plan_tables.specs.declared.table.Table.TheVariants.{Events, Variables};
 
-use crate::fault::PlanFault;
-use crate::first_uses::{Found, NumberedNames};
+pub(crate) use crate::names::Names;
 use first_names::note_name;
-use machine_definitions::Definitions;
-use plan_contributions::{Contribution, Parts, given, used, write_name};
-use plan_rows::Row;
-use plan_tables::names::{NameHashing, NameSet, NameSets, NameTable};
+use mpf_config::Guard;
+use plan_parts::{Parts, is_whole, whole, write_name};
+use plan_tables::entries::{Condition, EventId, VariableId};
+use plan_tables::names::{NameHashing, NameSet, NameTable};
 use plan_tables::table::{TABLES, Table};
-use row_contributions::collect_row;
 use std::alloc::{AllocError, Global};
 
-/// The names of the rows, by number, if the plan is within its limits, and the number of each use.
-pub(crate) fn number(
-    alloc: Global,
-    definitions: &Definitions,
-    rows: &[Row],
-) -> Result<NumberedNames, PlanFault>
-    requires { lacks_name (given_by_rows definitions.now rows.now) ≡ false }
-    ensures { Numbered (given_by_rows definitions.now rows.now) result }
-{
-    let found = find_names(alloc, definitions, rows)?;
-    if let Some(table) = first_above(&found) {
-        return Err(PlanFault::Limit(table));
-    }
-    Ok(NumberedNames {
-        names: NameSets {
-            tables: found.tables,
-        },
-        numbers: found.numbers,
-    })
-}
-
-/// The number of a name among these.
-pub(crate) fn number_among(
-    names: &NameSet,
-    text: &mut Vec<u8>,
-    name: Parts,
-) -> Result<usize, AllocError>
-    ensures number { IfOk result (λ n. n ≡ number_among (names_of names.now.keys) (parts_text name.entry)) }
-    ensures within { IfOk result (λ n. n ≤ length names.now.keys) }
-{
-    write_name(text, name)?;
-    let place = names.get_index_of(text.as_slice()).unwrap_or(names.len());
-    Ok(place)
-}
-
-// ---- limits
-
-/// The first table that is above its limit.
-fn first_above(found: &Found) -> Option<Table>
-    ensures { (cs : List ContributionValue) → HasFound cs found.now → result ≡ first_above (plan_from cs) }
-{
-    for table in TABLES {
-        if is_above(found, table) {
-            return Some(table);
-        }
-    }
-    None
-}
-
-fn is_above(found: &Found, table: Table) -> bool
-    ensures { (cs : List ContributionValue) → HasFound cs found.now → result ≡ nat_lt (limit_of table) (entry_count (plan_from cs) table) }
-{
-    match table {
-        Table::Bindings => found.bindings > table.limit(),
-        Table::Rows => found.rows > table.limit(),
-        _ => found.tables[table.index()].above,
-    }
-}
-
-// ---- first uses
-
-/// The names that the rows use, each table up to its limit, the numbers of their uses, and how many
-/// bindings and rows of devices they give. Events are the first table that is judged: if there are
-/// too many, no more rows are looked at.
-fn find_names(alloc: Global, definitions: &Definitions, rows: &[Row]) -> Result<Found, PlanFault>
-    ensures { HasNames (given_by_rows definitions.now rows.now) result }
-{
-    let mut found = Found {
-        tables: no_names(alloc, definitions.config().hashing)?,
-        numbers: Vec::new(alloc),
-        bindings: 0,
-        rows: 0,
-    };
-    let mut text = Vec::new(alloc);
-    let mut contributions = Vec::new(alloc);
-    for row in rows {
-        collect_row(&mut contributions, definitions, *row)?;
-        note_all(alloc, &mut found, &mut text, &contributions)?;
-        if is_above(&found, Table::Events) {
-            return Err(PlanFault::Limit(Table::Events));
-        }
-    }
-    Ok(found)
-}
-
-fn no_names(alloc: Global, hashing: NameHashing) -> Result<Vec<NameTable>, AllocError>
-    ensures count { IfOk result (λ tables. length tables.items ≡ length tables_in_order) }
-    ensures names { IfOk result (λ tables. AreNameTablesOf [] tables.items) }
+/// No names.
+pub(crate) fn no_names(alloc: Global, hashing: NameHashing) -> Result<Names, AllocError>
+    ensures { IfOk result (AreNamesOf []) }
 {
     let mut tables = Vec::new(alloc);
     for table in TABLES {
@@ -119,41 +30,48 @@ fn no_names(alloc: Global, hashing: NameHashing) -> Result<Vec<NameTable>, Alloc
             above: false,
         })?;
     }
-    Ok(tables)
+    Ok(Names {
+        tables,
+        text: Vec::new(alloc),
+    })
 }
 
-fn note_all(
-    alloc: Global,
-    found: &mut Found,
-    text: &mut Vec<u8>,
-    contributions: &[Contribution],
-) -> Result<(), AllocError>
-    ensures { OnOk result (FindsMore found.old found.new contributions.now) }
-{
-    for contribution in contributions {
-        note_one(alloc, found, text, contribution)?;
+impl Names {
+    ghost use Rattle.std.specs.Prelude.{◌≡◌, length};
+    ghost use Rattle.mpf_plan.specs.Drafting.{is_table_above, kept_names};
+
+    /// How many names of the table are kept.
+    pub(crate) fn count(&self, table: Table) -> usize
+        ensures { result ≡ length (kept_names self.now table) }
+    {
+        self.tables[table.index()].set.len()
     }
-    Ok(())
+
+    /// Whether the table has more names than it keeps.
+    pub(crate) fn is_above(&self, table: Table) -> bool
+        ensures { result ≡ is_table_above self.now table }
+    {
+        self.tables[table.index()].above
+    }
 }
 
-/// The name that the contribution uses, the number of it, and its binding or row.
-fn note_one(
+/// One more use of a name, and the name's number.
+pub(crate) fn note(
     alloc: Global,
-    found: &mut Found,
-    text: &mut Vec<u8>,
-    contribution: &Contribution,
-) -> Result<(), AllocError>
-    ensures { OnOk result (FindsOneMore found.old found.new contribution.now) }
+    names: &mut Names,
+    table: Table,
+    name: Parts,
+) -> Result<u16, AllocError>
+    ensures names { OnOk result (Notes names.old names.new ((table, parts_text name.entry) ∷ [])) }
+    ensures number { IfOk result (λ n. HasNames table → IsNumbered names.old ((table, parts_text name.entry) ∷ []) (λ ns. number_among (ns table) (parts_text name.entry)) n) }
 {
-    found.bindings = count_binding(found.bindings, contribution);
-    found.rows = count_row(found.rows, contribution);
-    let Some((table, name)) = used(contribution) else {
-        found.numbers.push(0)?;
-        return Ok(());
-    };
-    let number = note_pieces(alloc, &mut found.tables[table.index()], text, name)?;
-    found.numbers.push(as_kept(number))?;
-    Ok(())
+    let number = note_pieces(
+        alloc,
+        &mut names.tables[table.index()],
+        &mut names.text,
+        name,
+    )?;
+    Ok(as_kept(number))
 }
 
 /// One more use of a name in pieces, and the name's number, as [`note_name`] gives it.
@@ -174,19 +92,8 @@ fn note_pieces(
     note_name(alloc, table, text)
 }
 
-/// Whether the name is in one piece, as most are.
-fn is_whole(name: &Parts) -> bool
-    ensures { result ≡ true → parts_text name.now ≡ name.now.sixth.now }
-{
-    name.first.is_empty()
-        && name.second.is_empty()
-        && name.third.is_empty()
-        && name.fourth.is_empty()
-        && name.fifth.is_empty()
-}
-
-/// A number as it is kept. No table has so many names that one would not fit; such a one would be 0.
-fn as_kept(number: usize) -> u16
+/// A number as it is kept. No table has so many names that a number does not fit; such a number would become 0.
+pub(crate) fn as_kept(number: usize) -> u16
     ensures { number ≤ 65535 → result ≡ number }
 {
     if number > 65_535 {
@@ -195,166 +102,78 @@ fn as_kept(number: usize) -> u16
     number as u16
 }
 
-/// How many bindings there are with that of the contribution, or more than a plan may have.
-fn count_binding(before: usize, contribution: &Contribution) -> usize
-    ensures { CountsMore 16384 (binding_count_of contribution.now) before result }
-{
-    match *contribution {
-        Contribution::Binds(_, _, _) => {
-            if before > Table::Bindings.limit() {
-                before
-            } else {
-                before + 1
-            }
-        }
-        _ => before,
-    }
-}
+// ---- events and variables
 
-/// So it is with rows of devices.
-fn count_row(before: usize, contribution: &Contribution) -> usize
-    ensures { CountsMore 1024 (device_row_count_of contribution.now) before result }
-{
-    match *contribution {
-        Contribution::Device(_, _) => {
-            if before > Table::Rows.limit() {
-                before
-            } else {
-                before + 1
-            }
-        }
-        _ => before,
-    }
-}
-
-// ---- names that nothing has
-
-/// Whether the rows use a name that nothing has.
-pub(crate) fn lacks_name(
+/// The event of this name.
+pub(crate) fn note_event(
     alloc: Global,
-    definitions: &Definitions,
-    rows: &[Row],
-) -> Result<bool, AllocError>
-    ensures { IfOk result (λ b. b ≡ lacks_name (given_by_rows definitions.now rows.now)) }
+    names: &mut Names,
+    name: Parts,
+) -> Result<EventId, AllocError>
+    ensures names { OnOk result (Notes names.old names.new ((Events, parts_text name.entry) ∷ [])) }
+    ensures number { IfOk result (IsNumbered names.old ((Events, parts_text name.entry) ∷ []) (λ ns. event_of (ns Events) (parts_text name.entry))) }
 {
-    let hashing = definitions.config().hashing;
-    let sets = given_names(alloc, definitions, hashing, rows)?;
-    let mut text = Vec::new(alloc);
-    let mut contributions = Vec::new(alloc);
-    for row in rows {
-        collect_row(&mut contributions, definitions, *row)?;
-        let lacking = use_other(&sets, &mut text, &contributions)?;
-        if lacking {
-            return Ok(true);
-        }
-    }
-    Ok(false)
+    Ok(EventId(note(alloc, names, Table::Events, name)?))
 }
 
-/// The names under which the rows give something, those of each table at its index.
-fn given_names(
+/// The events of these names, in order.
+pub(crate) fn note_events(
     alloc: Global,
-    definitions: &Definitions,
-    hashing: NameHashing,
-    rows: &[Row],
-) -> Result<Vec<NameSet>, AllocError>
-    ensures { IfOk result (λ sets. HoldGivenNames (given_by_rows definitions.now rows.now) sets.items) }
+    names: &mut Names,
+    events: &[Parts],
+) -> Result<Vec<EventId>, AllocError>
+    ensures names { OnOk result (Notes names.old names.new (names_uses Events events.now)) }
+    ensures numbers { IfOk result (λ v. IsNumbered names.old (names_uses Events events.now) (λ ns. map (λ e. event_of (ns Events) (parts_text e)) events.now) v.items) }
 {
-    let mut sets = no_sets(alloc, hashing)?;
-    let mut contributions = Vec::new(alloc);
-    for row in rows {
-        collect_row(&mut contributions, definitions, *row)?;
-        note_given(alloc, &mut sets, &contributions)?;
+    let mut numbers = Vec::with_capacity(alloc, events.len())?;
+    for event in events {
+        numbers.push(note_event(alloc, names, *event)?)?;
     }
-    Ok(sets)
+    Ok(numbers)
 }
 
-fn no_sets(alloc: Global, hashing: NameHashing) -> Result<Vec<NameSet>, AllocError>
-    ensures { IfOk result (λ sets. HoldGivenNames [] sets.items) }
-{
-    let mut sets = Vec::new(alloc);
-    for _table in TABLES {
-        sets.push(NameSet::with_hasher(alloc, hashing))?;
-    }
-    Ok(sets)
-}
-
-fn note_given(
+/// Numbers the events of these names.
+pub(crate) fn note_mentioned(
     alloc: Global,
-    sets: &mut Vec<NameSet>,
-    contributions: &[Contribution],
+    names: &mut Names,
+    events: &[Parts],
 ) -> Result<(), AllocError>
-    requires { length sets.old.items ≡ length tables_in_order }
-    ensures count { length sets.new.items ≡ length tables_in_order }
-    ensures names { OnOk result (GainGivenNames sets.old sets.new contributions.now) }
+    ensures { OnOk result (Notes names.old names.new (names_uses Events events.now)) }
 {
-    for contribution in contributions {
-        if let Some((table, name)) = given(contribution) {
-            let mut text = Vec::new(alloc);
-            write_name(&mut text, name)?;
-            sets[table.index()].insert(text)?;
-        }
+    for event in events {
+        note(alloc, names, Table::Events, *event)?;
     }
     Ok(())
 }
 
-/// Whether the contributions name what nothing has, or use a name that is not among these.
-fn use_other(
-    sets: &[NameSet],
-    text: &mut Vec<u8>,
-    contributions: &[Contribution],
-) -> Result<bool, AllocError>
-    requires { length sets.now ≡ length tables_in_order }
-    ensures { IfOk result (TellsAnyUnknownName sets.now contributions.now) }
+/// The variable of this name.
+pub(crate) fn note_variable(
+    alloc: Global,
+    names: &mut Names,
+    name: &[u8],
+) -> Result<VariableId, AllocError>
+    ensures names { OnOk result (Notes names.old names.new ((Variables, name.now) ∷ [])) }
+    ensures number { IfOk result (IsNumbered names.old ((Variables, name.now) ∷ []) (λ ns. variable_of (ns Variables) name.now)) }
 {
-    for contribution in contributions {
-        let lacking = is_other(sets, text, contribution)?;
-        if lacking {
-            return Ok(true);
-        }
-    }
-    Ok(false)
+    Ok(VariableId(note(alloc, names, Table::Variables, whole(name))?))
 }
 
-/// Whether the contribution names what nothing has, or uses a name that is not among these.
-fn is_other(
-    sets: &[NameSet],
-    text: &mut Vec<u8>,
-    contribution: &Contribution,
-) -> Result<bool, AllocError>
-    requires { length sets.now ≡ length tables_in_order }
-    ensures { IfOk result (TellsUnknownName sets.now contribution.now) }
+/// A condition, by the number of its variable.
+pub(crate) fn note_condition(
+    alloc: Global,
+    names: &mut Names,
+    condition: Option<&Guard>,
+) -> Result<Option<Condition>, AllocError>
+    ensures names { OnOk result (Notes names.old names.new (condition_uses (option_map guard_condition condition.entry))) }
+    ensures number { IfOk result (IsNumbered names.old (condition_uses (option_map guard_condition condition.entry)) (λ ns. option_map (condition_of ns) (option_map guard_condition condition.entry))) }
 {
-    if is_unknown(contribution) {
-        return Ok(true);
-    }
-    let Some((table, name)) = used(contribution) else {
-        return Ok(false);
+    let Some(guard) = condition else {
+        return Ok(None);
     };
-    if !is_to_be_given(table) {
-        return Ok(false);
-    }
-    write_name(text, name)?;
-    let there = sets[table.index()].contains(text.as_slice());
-    Ok(!there)
-}
-
-/// Whether the contribution names what nothing has.
-fn is_unknown(contribution: &Contribution) -> bool
-    ensures { result ≡ names_nothing contribution.now }
-{
-    match *contribution {
-        Contribution::Unknown => true,
-        _ => false,
-    }
-}
-
-/// Whether a name of the table has to be given: events and variables are there by their use alone.
-fn is_to_be_given(table: Table) -> bool
-    ensures { result ≡ is_to_be_given table }
-{
-    match table {
-        Table::Events | Table::Variables => false,
-        _ => true,
-    }
+    let variable = note_variable(alloc, names, &guard.variable)?;
+    Ok(Some(Condition {
+        variable,
+        comparison: guard.comparison,
+        number: guard.number,
+    }))
 }

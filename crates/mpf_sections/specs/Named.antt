@@ -1,4 +1,4 @@
--- What it means that every name in the rows of a section is one: 1 to 64 letters, digits, `_`, `-` and `.`.
+-- What it means that every name in the rows of a section is well formed: 1 to 64 letters, digits, `_`, `-` and `.`.
 use Rattle.std.specs.{Prelude.{List, IfSome}, List.All}
 pub use Rattle.setting_values.specs.NamedValues.{IsNamedHandled}
 pub use Rattle.section_tables.specs.Named.{IsNamedEntry, IsNamedPlayer}

@@ -1,4 +1,4 @@
--- The numbers and the times of a row, with the bounds and the defaults that its table says.
+-- The numbers and the times of a row, with the bounds and the defaults that its table gives.
 use Rattle.std.specs.Prelude.{ℕ, ℤ, pos, ◌^◌, nat_lt, nat_le, ◌&&◌, if◌then◌else◌, List, Option, Some, None, slice_get}
 use Rattle.setting_values.specs.{Values.{number, time, Value, one}, ValueOf.within}
 use Rattle.setting_values.specs.Kinds.{number_within, time_within, Absent, default, Kind, single}

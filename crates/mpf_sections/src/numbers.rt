@@ -1,4 +1,4 @@
-//! Numbers and times of an entry, with the bounds and the defaults that its table says.
+//! Numbers and times of an entry, with the bounds and the defaults that its table gives.
 
 ghost use Rattle.std.specs.Prelude.{◌≡◌, slice_get, None};
 ghost use Rattle.setting_values.specs.KindView.{kind_view};

@@ -1,5 +1,5 @@
--- What a table has to say so that it means what it says: no key twice, each default of the kind of its line, the place
--- of a short form within its table, and the name of a map first in its table.
+-- What has to hold of every table: no key comes twice, each default is of the kind of its line, the place of a short
+-- form is within its table, and the name of a map comes first in its table.
 use Rattle.std.specs.Prelude.{◌≡◌, nat_le, nat_lt, Bool, true, false, ◌&&◌, List, [], ◌∷◌, length, map, Option, Some, None}
 use Rattle.std.specs.{List.{list_any, list_all}, Str.bytes_eq}
 use Rattle.mpf_values.specs.{Reading.is_name, Events.Condition}

@@ -1,5 +1,4 @@
-//! The table of each section: its settings with their kinds, and what holds if a setting is not
-//! written.
+//! The table of each section: its settings with their kinds, and what applies if a setting is left out.
 //!
 //! [`shape_of`] gives the table of a section in a text of the machine or of a mode.
 #![tactic(auto)]

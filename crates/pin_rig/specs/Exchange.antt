@@ -1,4 +1,5 @@
--- Which device may take the place of another one, what comes out, and that exchanges leave the steps as they are.
+-- Which device may take the place of another one, which device comes out, and the law that exchanges do not change the
+-- steps.
 use Rattle.std.specs.Prelude.{◌≡◌, ◌≢◌, ℕ, ◌<◌, ◌≤◌, None, List, [], ◌∷◌, ◌++◌, length, codes}
 use Rattle.plan_tables.specs.{PlanView.row_at, declared.devices.{DeviceRow.DeviceRow, RowId.RowId}}
 use Rattle.device_objects.specs.{declared.state.{DeviceState.DeviceState, Eject.TheVariants.Idle}, DeviceStep.due_of}

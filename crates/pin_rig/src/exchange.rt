@@ -1,4 +1,4 @@
-//! Why a device is not exchanged, and that exchanges leave the steps as they are.
+//! Why an exchange of devices is refused, and the law that exchanges do not change the steps.
 
 ghost use Rattle.std.specs.Prelude.{◌≡◌};
 ghost use Rattle.pin_rig.specs.Exchange.{refusal_number, refusal_name, ExchangesLeaveTheSteps};

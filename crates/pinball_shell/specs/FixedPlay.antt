@@ -1,4 +1,4 @@
--- What the answers of a board fix.
+-- How a log is played if the answers of the board to all commands to come are known.
 use Rattle.std.specs.{Prelude.{◌≡◌, ℕ, Option, IsSome, List}, Io.KnownBytes.Appends}
 use Rattle.coil_guard.specs.Boards.{takes_all}
 use Rattle.written_machine.specs.CheckedView.{CheckedView}

@@ -1,4 +1,4 @@
--- What is printed for a log, whatever its plan was accepted with.
+-- What is printed for a log does not depend on the weights and the bound with which its plan was accepted.
 use Rattle.std.specs.Prelude.{◌≡◌, ℕ, List}
 use Rattle.written_machine.specs.{CheckedView.CheckedView, Accepted.IsAccepted}
 use Rattle.pinball_shell.specs.RunOfLog.{printed_for_log}

@@ -1,4 +1,4 @@
-//! A text is read whole before it is checked, and texts are joined to a bundle.
+//! A text is read whole before it is checked, and texts are joined into a bundle.
 
 ghost use Rattle.std.specs.Prelude.{◌≡◌, ◌≢◌, ◌^◌, ◌<◌, ◌≤◌, IfOk, OnOk, IfErr, IfSome, IsErrOf, IsTrue, false, vec_len, length, ◌⊎◌};
 ghost use Rattle.std.specs.Io.KnownBytes.{IsAtEnd};

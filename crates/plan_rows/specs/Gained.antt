@@ -1,4 +1,4 @@
--- What lists of rows and maps of seats gain, and what the entries and the sections of the program give to them.
+-- What lists of rows and maps of seats gain, and what entries and sections, as the code has them, give to them.
 use Rattle.std.specs.{Prelude.{◌≡◌, ℕ, Bool, List, ◌++◌, fold, map}, HashMap.HashMap, HashSet.HashSet}
 use Rattle.std.specs.{List.list_any, Str.bytes_eq, Borrow.Bor, Global.Vec}
 use Rattle.section_tables.specs.declared.rows.Entry as written_entries

@@ -1,4 +1,5 @@
-//! The numbers of the effect lists of ball saves and multiballs: devices answer them, and a plan is filled by them.
+//! The numbers of the effect lists of ball saves and multiballs. Devices answer these numbers, and a plan has the lists
+//! in this order.
 
 /// The list of a ball save that becomes active.
 pub const SAVE_ENABLED: u16 = 0;

@@ -1,8 +1,8 @@
-//! Tables of cases. A row is `TEXT => ANSWER`. In both `¶` is LF, and `«N PART»` for the part N
-//! times: `№` in it for the numbers from 1 to N, and `␣` for as many blanks as there are parts before.
+//! Tables of cases. A row is `TEXT => ANSWER`. In both, `¶` stands for LF, and `«N PART»` for N times PART. In PART,
+//! `№` stands for the number of the time, from 1 to N, and `␣` for as many blanks as PART has come before.
 //!
-//! With an allocation refused, by `rt try --test --fail-alloc N`, a test fails with `no memory`. If it shows a row,
-//! an answer came in place of the error.
+//! If an allocation is refused, by `rt try --test --fail-alloc N`, a test fails with `no memory`. If it shows a row
+//! instead, an answer came in place of the error.
 
 use crate::bundles::{show_bundle, show_machine_text, show_mode_names, show_texts};
 use crate::pen::Pen;

@@ -1,5 +1,5 @@
-//! Which fault of a text is the first: that of the first line with one, and there the left one; in the same
-//! place a character's.
+//! Which of several faults of a text is reported: on the first line that has a fault, the leftmost one. If two are at
+//! the same place, it is that of a character that no text may have.
 
 /// Characters that no line may have.
 pub(crate) const CHARACTERS: &str = "\

@@ -1,4 +1,4 @@
--- The faults of what the program has, and what lists and sets gain.
+-- The faults of sections and entries as the code has them, and what its lists and sets gain.
 use Rattle.std.specs.Prelude.{◌≡◌, ◌⊎◌, ◌||◌, ℕ, Bool, List, [], ◌++◌, length, map, filter, Option, Some, option_map}
 use Rattle.std.specs.{List.{flat_map, list_any}, Str.bytes_eq, Borrow.Bor, Global.{Vec, Global}, BTreeSet.BTreeSet}
 use Rattle.std.specs.{HashMap.HashMap, HashSet.HashSet, declared.borrow.CowSlice.CowSlice}

@@ -1,4 +1,4 @@
--- The faults of what rows say of variables.
+-- The variables that no row may change, and the faults of rows that change them.
 use Rattle.std.specs.{Prelude.{ℕ, Bool, ◌||◌, List}, List.flat_map}
 use Rattle.mpf_sections.specs.{Rows.{VariableItem, VariablePlayer, SectionRows}, TypedGame.variable_players_in}
 use Rattle.machine_definitions.specs.Players.{player_event, is_set_by_game}

@@ -1,4 +1,4 @@
-//! What is wrong with what rows say of variables.
+//! The variables that no row may change, and where a text changes them.
 
 ghost use Rattle.std.specs.Prelude.{◌≡◌, IfOk, OnOk};
 ghost use Rattle.row_faults.specs.Collected.{Gains};

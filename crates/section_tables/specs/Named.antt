@@ -1,4 +1,4 @@
--- What it means that every name in a row is one, and that no list in it is longer than its limit.
+-- What it means that every name in a row is well formed, and that no list in it is longer than its limit.
 use Rattle.std.specs.{Prelude.{ℕ, List}, List.{All, AllByRecursion}}
 use Rattle.mpf_values.specs.Names.{IsName}
 use Rattle.setting_values.specs.{Values.{Plain, name, event}, Kinds.{Scalar, a_name, an_event}}

@@ -1,4 +1,4 @@
-//! What is read of entries, by the places of settings in the table of their section.
+//! The values of an entry, each by the place of its setting in the table of the section.
 
 ghost use Rattle.std.specs.Prelude.{◌≡◌, slice_get};
 ghost use Rattle.section_tables.specs.View.{entry_view, value_option_view};

@@ -1,5 +1,4 @@
-//! Tables: what settings a section has, of which kind the value of each is, and what holds
-//! without it.
+//! Tables: what settings a section has, of which kind the value of each is, and what applies if it is left out.
 
 use setting_values::kinds::{Absent, Kind, Scalar};
 

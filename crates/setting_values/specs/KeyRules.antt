@@ -1,4 +1,4 @@
--- What a table by keys says: where a key is, and what holds of a text that is not written.
+-- What a table by keys says: where a key is, and what applies if a text is left out.
 use Rattle.std.specs.Prelude.{ℕ, suc, ◌+◌, Bool, true, false, if◌then◌else◌, List, [], ◌∷◌, Option, Some, None}
 use Rattle.std.specs.Str.{bytes_eq}
 use Rattle.setting_values.specs.{Values.{Plain, nothing}, Kinds.{Absent, required, default, Field}}

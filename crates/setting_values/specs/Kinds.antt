@@ -1,4 +1,4 @@
--- Kinds: what the value of a setting is to be, and what holds of a text that is not written.
+-- Kinds: what the value of a setting has to be, and what applies if a text is left out.
 use Rattle.std.specs.Prelude.{ℕ, ℤ, Bool, nat_le, ◌&&◌, List}
 use Rattle.setting_values.specs.Values.{Plain}
 

@@ -1,4 +1,4 @@
--- What it means that every name in a value is one, and that no list in it is longer than its limit.
+-- What it means that every name in a value is well formed, and that no list in it is longer than its limit.
 use Rattle.std.specs.{Prelude.{ℕ, ◌≤◌, List, [], length, IfSome}, List.{All, AllByRecursion}}
 use Rattle.mpf_values.specs.Names.{IsName}
 use Rattle.setting_values.specs.Values.{Written, Handled, Plain, name, event, Keyed, Value, one, names, posts, events, steps, maps, keyed}

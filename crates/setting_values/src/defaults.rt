@@ -1,4 +1,4 @@
-//! What holds of a text that is not written.
+//! What applies if a text is left out.
 
 ghost use Rattle.std.specs.Prelude.{◌≡◌};
 ghost use Rattle.setting_values.specs.KeyRules.{plain_default, plain_lacks};

@@ -1,4 +1,4 @@
-//! Kinds: what the value of a setting is to be, and what holds of a text that is not written.
+//! Kinds: what the value of a setting has to be, and what applies if a text is left out.
 
 /// What a text is to be.
 #[derive(Clone, Copy)]

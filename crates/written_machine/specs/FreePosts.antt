@@ -1,4 +1,5 @@
--- What a plan must not post.
+-- Which events effect lists and switches must not post: those at which the machine itself does something, except that
+-- of the start button.
 use Rattle.std.specs.{Prelude.◌≡◌, List.All}
 use Rattle.plan_tables.specs.PlanView.{PlanSwitch, PlanView, work_of}
 use Rattle.plan_tables.specs.declared.entries.{EventId.EventId, Action.Action, GameEvent.TheVariants.SwStart}

@@ -1,5 +1,5 @@
 -- What each part of the machine costs in the state in which it is done: its lines, its steps and the events that it
--- posts. Where a line or a post may be left out it counts; a step counts only if it is taken.
+-- posts. A line or a post counts even if it may be left out; a step counts only if it is taken.
 use Rattle.std.specs.Prelude.{ℕ, zero, suc, ◌==◌, ◌&&◌, if◌then◌else◌, Bool, true, false, Option, Some, None, List, [], ◌∷◌, length}
 use Rattle.std.specs.List.{range_with_len}
 use Rattle.plan_tables.specs.PlanView.{PlanView, act_of_listener, coil_numbers, listeners_of, switch_at, posts_of, actions_at, binding_at, list_of_row, multiball_rows, row_at, rows_of, act_told}

@@ -1,4 +1,4 @@
--- What a stimulus costs, and what the events weigh that wait.
+-- What a stimulus costs, and what the waiting events weigh.
 use Rattle.std.specs.Prelude.{ℕ, ◌+◌, Option, Some, None, List, [], ◌∷◌}
 use Rattle.plan_tables.specs.{PlanView.PlanView, declared.entries.EventId.EventId}
 use Rattle.device_objects.specs.declared.device.Call.TheVariants as calls

@@ -1,4 +1,4 @@
--- What is done with a result that is no error.
+-- What is done with the value of a result; an error stays as it is.
 use Rattle.std.specs.Prelude.{Result, Ok, Err}
 
 -- what f gives for the value of a result, or its error

@@ -1,16 +1,16 @@
 //! A subset of YAML 1.2.2, read into a tree whose nodes know their lines.
 //!
-//! A text is UTF-8, and its lines end with LF or CR LF. A line has content unless it is blank or
-//! has nothing but a comment. The others are blocks:
+//! A text is UTF-8, and its lines end with LF or CR LF. Blank lines, and lines with nothing but a comment, have no
+//! content. The lines with content form blocks. A block is
 //!
 //! - a sequence: lines `- VALUE`, `-` or `- KEY: ..` at one indentation,
 //! - a mapping: lines `KEY: VALUE` or `KEY:` at one indentation, with keys that differ,
 //! - or one line with a value.
 //!
-//! If no value is on the line, it is the block of the deeper lines below, for an entry also the
-//! items at its own indentation, or else the empty text. `- KEY: ..` begins a mapping at the column
-//! of KEY. A value on a line is a text without quotes or in single or double quotes, a list `[a, b]`
-//! or a mapping `{k: v}`; a key is a text. A comment may follow. Everything else of YAML is refused:
+//! If a line has no VALUE, its value is the block of the deeper lines below it. For an entry `KEY:` these may also be
+//! items at its own indentation. If there are no such lines, the value is the empty text. `- KEY: ..` begins a mapping
+//! at the column of KEY. A value on a line is a text without quotes or in single or double quotes, a list `[a, b]` or a
+//! mapping `{k: v}`; a key is a text. A comment may follow. Everything else of YAML is refused:
 //! anchors, aliases and tags, block scalars, scalars, lists and mappings on several lines, `? ` keys,
 //! empty values in lists and mappings on one line, document markers, control characters and a byte
 //! order mark. All values that are read are texts.

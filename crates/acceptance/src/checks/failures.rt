@@ -1,4 +1,4 @@
-//! Readers that fail or never end, writers that fail, and what is said of it.
+//! Readers that fail or never end, writers that fail, and what is said then.
 
 use crate::asserts::assert_text;
 use crate::checks::row::{assert_rows, assert_walks};

@@ -1,4 +1,4 @@
-//! Texts joined to a bundle.
+//! Texts that are joined into a bundle.
 
 use crate::asserts::assert_text;
 use mpf_config::{MACHINE_NAME, mode_names, mode_text_name};

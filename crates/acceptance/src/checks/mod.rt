@@ -1,5 +1,5 @@
-//! Tests of what checks and verifies: bundles and certificates, readers and writers that fail, texts that are joined,
-//! and the words of the command line.
+//! Tests of the calls that check and verify: bundles and certificates, readers and writers that fail, texts that are
+//! joined, and the words of the command line.
 
 mod balls;
 mod bundles;

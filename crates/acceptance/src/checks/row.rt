@@ -1,4 +1,4 @@
-//! What answers rows: the calls that check and verify.
+//! How the rows of tables are answered: by the calls that check and verify.
 
 use crate::asserts::assert_text;
 use pinball_shell::{check_text, verify_text};

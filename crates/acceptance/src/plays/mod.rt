@@ -1,5 +1,5 @@
-//! Tests of what plays: bundles and logs, on boards that take each command and on boards that fault, and whole games
-//! beside a plain model.
+//! Tests of the calls that play: bundles and logs, on boards that take each command and on boards that fault, and whole
+//! games beside a plain model.
 
 mod ball_games;
 mod failures;

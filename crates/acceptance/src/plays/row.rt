@@ -1,4 +1,4 @@
-//! What answers rows: the calls that load a bundle and play a log.
+//! How the rows of tables are answered: by the calls that load a bundle and play a log.
 
 use crate::asserts::assert_text;
 use crate::plays::machine::play_log;

@@ -1,4 +1,4 @@
-//! Logs that are played: each row of the tables, from its text and live.
+//! The tables of logs: each row is played from the text of its log, and live.
 
 use crate::plays::row::{LIVE, OF_TEXTS, Player, assert_rows_by};
 use std::process::Abort;

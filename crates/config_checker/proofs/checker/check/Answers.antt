@@ -34,7 +34,7 @@ returns-clause-exact c =
     found-accepted (rows_view c.args.config.now) c.in_ok-plan.ensures.none c.in_ok-plan.plan c.in_ok-plan.ensures.plan c.in-Ok.weights c.in-Ok-verify.bound.0 c.in-Ok.ensures.exact c.in-Ok-verify.ensures.verified.bound_is ∙ ap Ok (sym c.new.ensures)
 
 pub returns-clause-good : goal.returns-clause-good
-returns-clause-good c = subst IsGood (sym c.new.ensures) (every_run_is_good _ (plan_accepted (rows_view c.args.config.now) c.args.config.now.lists_short c.args.config.now.few_modes c.in_ok-plan.ensures.none _ c.in_ok-plan.ensures.plan c.in-Ok-verify.ensures.verified))
+returns-clause-good c = subst IsGood (sym c.new.ensures) (every_run_is_good _ (plan_accepted (rows_view c.args.config.now) c.args.config.now.lists_short c.args.config.now.have_states c.args.config.now.few_modes c.in_ok-plan.ensures.none _ c.in_ok-plan.ensures.plan c.in-Ok-verify.ensures.verified))
 
 pub new-requires : goal.new-requires
-new-requires c = plan_accepted (rows_view c.args.config.now) c.args.config.now.lists_short c.args.config.now.few_modes c.in_ok-plan.ensures.none _ c.in_ok-plan.ensures.plan c.in-Ok-verify.ensures.verified
+new-requires c = plan_accepted (rows_view c.args.config.now) c.args.config.now.lists_short c.args.config.now.have_states c.args.config.now.few_modes c.in_ok-plan.ensures.none _ c.in_ok-plan.ensures.plan c.in-Ok-verify.ensures.verified

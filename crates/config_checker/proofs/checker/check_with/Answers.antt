@@ -25,7 +25,7 @@ returns-in_err-weights-clause-refused c = search (rules, err_from_is_err_and, gi
 pub new-requires : goal.new-requires
 new-requires c =
     let certified = accepted_is_certified c.in_ok-plan.plan c.args.certificate.now _ (alone_ok _ _ c.in_ok-weights.ensures) in
-    plan_accepted (rows_view c.args.config.now) c.args.config.now.lists_short c.args.config.now.few_modes c.in_ok-plan.ensures.none _ c.in_ok-plan.ensures.plan certified.0
+    plan_accepted (rows_view c.args.config.now) c.args.config.now.lists_short c.args.config.now.have_states c.args.config.now.few_modes c.in_ok-plan.ensures.none _ c.in_ok-plan.ensures.plan certified.0
 
 pub returns-clause-exact : goal.returns-clause-exact
 returns-clause-exact c = search (rules, certified-checked)
@@ -38,4 +38,4 @@ returns-clause-text c =
 pub returns-clause-good : goal.returns-clause-good
 returns-clause-good c =
     let certified = accepted_is_certified c.in_ok-plan.plan c.args.certificate.now _ (alone_ok _ _ c.in_ok-weights.ensures) in
-    subst IsGood (sym c.new.ensures) (every_run_is_good _ (plan_accepted (rows_view c.args.config.now) c.args.config.now.lists_short c.args.config.now.few_modes c.in_ok-plan.ensures.none _ c.in_ok-plan.ensures.plan certified.0))
+    subst IsGood (sym c.new.ensures) (every_run_is_good _ (plan_accepted (rows_view c.args.config.now) c.args.config.now.lists_short c.args.config.now.have_states c.args.config.now.few_modes c.in_ok-plan.ensures.none _ c.in_ok-plan.ensures.plan certified.0))

@@ -1,10 +1,11 @@
 use Rattle.std.{proofs.Common.{◌≡◌, List, map, Ok, ap, sym, subst, ◌∙◌}, specs.List.All}
 use Rattle.mpf_sections.specs.{declared.section.Section.Section, View.section_view, Typed.listed_modes}
-use Rattle.mpf_config.specs.{Rows.Written, Named.IsNamedMode, Apart.{AreDistinct, entry_names}}
-use Rattle.mpf_config.specs.{Short.IsShortMode, FewModes.AreFewModes, Reading.{modes_in_texts, found_of, rows_from}}
+use Rattle.mpf_config.specs.{Rows.Written, Named.IsNamedMode, States.HasStatesMode}
+use Rattle.mpf_config.specs.{Apart.{AreDistinct, entry_names}, Short.IsShortMode, FewModes.AreFewModes}
+use Rattle.mpf_config.specs.Reading.{modes_in_texts, found_of, rows_from}
 use Rattle.mpf_config.specs.Inside.{texts_view, modes_view, machine_read_view, found_modes_view}
-use Rattle.mpf_config.proofs.{Theorem.{machine_distinct, rows_again}, ShortRows.{rows_are_short, rows_are_few}}
-use Rattle.mpf_config.proofs.RowNames.{rows_are_named, modes_are_named}
+use Rattle.mpf_config.proofs.{Theorem.{machine_distinct, rows_again}, StateRows.rows_have_states}
+use Rattle.mpf_config.proofs.{ShortRows.{rows_are_short, rows_are_few}, RowNames.{rows_are_named, modes_are_named}}
 use Rattle.mpf_config.proofs.bundle.read_exactly.Goals as goal
 
 pub invariant_of-result : goal.invariant_of-result
@@ -18,9 +19,11 @@ invariant_of-result c =
     let is = rows_again bundle texts machine found c.if-bundle-gt-MAX_BUNDLE_LEN.false c.in_ok-texts.ensures (rw c.deref.ensures.value at c.in_ok-sections.ensures) modes in
     let rows = rows_from texts machine (found_of found) in
     let short = rows_are_short bundle rows is in
+    let states = rows_have_states bundle rows is in
     let same = sym c.in_ok-modes.ensures.modes in
     record {
       lists_short = (short.0, subst (All IsShortMode) same short.1);
+      have_states = (states.0, subst (All HasStatesMode) same states.1);
       few_modes = subst AreFewModes same (rows_are_few bundle rows is);
       all_named = ∣ (rows_are_named bundle rows is, subst (All IsNamedMode) same (modes_are_named bundle rows is)) ∣₁;
     }

@@ -1,54 +1,80 @@
-use Rattle.std.{proofs.{Common.{rules, refl, ap, ◌∙◌}, lemmas.Result.err_from_is_err_and}, specs.Prelude.Err}
-use Rattle.row_contributions.specs.Contributions.{given_by}
-use Rattle.plan_rows.specs.View.{row_list_view}
-use Rattle.mpf_plan.{specs.Uses.lacks_name, proofs.Drafted.{entries_count, coils_count}}
-use Rattle.mpf_plan.proofs.Planned.{refused_exact, refused_limit, rows_within, is_plan, is_planned, is_valid, modes_few, acts_few, lists_within}
+use Rattle.std.proofs.{Common.{length, ap, sym, ◌∙◌, subst}, lemmas.Result.err_from_is_err_and}
+use Rattle.std.specs.{Prelude.{Err, Vec, slice_get}, Global.Global}
+use Rattle.plan_tables.specs.declared.entries.{SwitchEntry.SwitchEntry, CoilLimits.CoilLimits}
+use Rattle.plan_tables.specs.{declared.names.NameTable.NameTable, NamesKept.names_kept, Valid.IsValid}
+use Rattle.mpf_plan.specs.declared.fault.PlanFault.TheVariants as faults
+use Rattle.mpf_plan.proofs.Planned.{refused_exact, limit_said, too_many, within, fit, one_each_switch, one_each_coil}
+use Rattle.mpf_plan.proofs.Planned.{is_plan, is_valid, is_planned}
 use Rattle.mpf_plan.proofs.build.plan_of_rows.Goals as goal
 
-pub number-requires : goal.number-requires
-number-requires c = ap (λ rs. lacks_name (given_by c.args.definitions.now.machine rs)) c.requires.rows ∙ c.requires.complete
-
-pub returns-in_err-numbered-clause-exact : goal.returns-in_err-numbered-clause-exact
-returns-in_err-numbered-clause-exact c =
+pub returns-in_err-draft-clause-exact : goal.returns-in_err-draft-clause-exact
+returns-in_err-draft-clause-exact c =
     let p = err_from_is_err_and c.from_residual.result c.from_residual.ensures.1 in
-    refused_exact c.args.definitions.now c.args.definitions.now.machine refl c.args.rows.now c.args.rows.now c.requires.rows refl c.from_residual.result c.in_err-numbered.field-0.0 (p.1 ∙ ap Err p.2) c.in_err-numbered.ensures
+    refused_exact c.args.definitions.now c.args.rows.now c.requires.rows c.requires.complete
+    c.from_residual.result c.in_err-draft.field-0.0 (p.1 ∙ ap Err p.2) c.in_err-draft.ensures
 
-pub returns-in_err-numbered-clause-limit : goal.returns-in_err-numbered-clause-limit
-returns-in_err-numbered-clause-limit c =
+pub returns-in_err-draft-clause-limit : goal.returns-in_err-draft-clause-limit
+returns-in_err-draft-clause-limit c =
     let p = err_from_is_err_and c.from_residual.result c.from_residual.ensures.1 in
-    refused_limit c.args.definitions.now c.args.definitions.now.machine refl c.args.rows.now c.args.rows.now c.requires.rows refl c.from_residual.result c.in_err-numbered.field-0.0 (p.1 ∙ ap Err p.2) c.in_err-numbered.ensures
+    limit_said c.args.definitions.now c.from_residual.result
+    (refused_exact c.args.definitions.now c.args.rows.now c.requires.rows c.requires.complete
+    c.from_residual.result c.in_err-draft.field-0.0 (p.1 ∙ ap Err p.2) c.in_err-draft.ensures)
 
-pub fill-requires-clause-modes : goal.fill-requires-clause-modes
-fill-requires-clause-modes c = modes_few c.args.definitions.now c.args.definitions.now.machine c.args.rows.now c.args.rows.now refl c.requires.rows refl c.requires.modes
+pub returns-in-Some-clause-exact : goal.returns-in-Some-clause-exact
+returns-in-Some-clause-exact c =
+    too_many c.args.definitions.now c.args.rows.now c.requires.rows c.requires.complete
+    c.in_ok-draft.draft c.in_ok-draft.ensures c.first_above.result c.first_above.ensures c.in-Some.table c.in-Some.is
 
-pub fill-requires-clause-acts : goal.fill-requires-clause-acts
-fill-requires-clause-acts c =
-    acts_few c.args.definitions.now c.args.definitions.now.machine c.args.rows.now c.args.rows.now refl c.requires.rows refl
-    c.in_ok-numbered.ensures.4
+pub returns-in-Some-clause-limit : goal.returns-in-Some-clause-limit
+returns-in-Some-clause-limit c =
+    limit_said c.args.definitions.now (Err (faults.Limit c.in-Some.table))
+    (too_many c.args.definitions.now c.args.rows.now c.requires.rows c.requires.complete
+    c.in_ok-draft.draft c.in_ok-draft.ensures c.first_above.result c.first_above.ensures c.in-Some.table c.in-Some.is)
 
-pub fill-requires-clause-lists : goal.fill-requires-clause-lists
-fill-requires-clause-lists c = search (rules, lists_within)
+pub tables_of-requires : goal.tables_of-requires
+tables_of-requires c =
+    fit c.args.definitions.now c.args.rows.now c.requires.rows c.requires.complete
+    c.in_ok-draft.draft c.in_ok-draft.ensures c.first_above.result c.first_above.ensures c.in_default.is
 
 pub new-requires-clause-valid : goal.new-requires-clause-valid
 new-requires-clause-valid c =
-    is_valid c.args.definitions.now c.args.definitions.now.machine refl c.args.rows.now c.args.rows.now c.requires.rows refl c.in_ok-numbered.numbered c.in_ok-numbered.ensures c.in_ok-draft.draft c.args.rows.now refl c.in_ok-draft.ensures c.requires.short c.requires.modes
+    subst IsValid (sym c.tables_of.ensures.tables)
+    (is_valid c.args.definitions.now c.args.rows.now c.requires.rows c.requires.complete
+    c.in_ok-draft.draft c.in_ok-draft.ensures c.first_above.result c.first_above.ensures c.in_default.is
+    c.requires.states c.requires.short c.requires.modes)
 
 pub new-requires-clause-switches : goal.new-requires-clause-switches
-new-requires-clause-switches c = entries_count c.in_ok-numbered.numbered.names c.in_ok-draft.draft (given_by c.args.definitions.now.machine (row_list_view c.args.rows.now)) c.in_ok-draft.ensures
+new-requires-clause-switches c =
+    ap (λ (v : Vec SwitchEntry Global). length v.items) c.tables_of.ensures.switches
+    ∙ one_each_switch c.args.definitions.now c.args.rows.now c.requires.rows c.requires.complete
+    c.in_ok-draft.draft c.in_ok-draft.ensures c.first_above.result c.first_above.ensures c.in_default.is
+    ∙ ap (λ (v : Vec NameTable Global). length (names_kept (slice_get v.items 2))) (sym c.tables_of.ensures.names)
 
 pub new-requires-clause-coils : goal.new-requires-clause-coils
-new-requires-clause-coils c = coils_count c.in_ok-numbered.numbered.names c.in_ok-draft.draft (given_by c.args.definitions.now.machine (row_list_view c.args.rows.now)) c.in_ok-draft.ensures
+new-requires-clause-coils c =
+    ap (λ (v : Vec CoilLimits Global). length v.items) c.tables_of.ensures.coils
+    ∙ one_each_coil c.args.definitions.now c.args.rows.now c.requires.rows c.requires.complete
+    c.in_ok-draft.draft c.in_ok-draft.ensures c.first_above.result c.first_above.ensures c.in_default.is
+    ∙ ap (λ (v : Vec NameTable Global). length (names_kept (slice_get v.items 3))) (sym c.tables_of.ensures.names)
 
 pub returns-clause-exact : goal.returns-clause-exact
-returns-clause-exact c = search (rules, is_planned)
+returns-clause-exact c =
+    is_planned c.args.definitions.now c.in_ok-plan.plan c.requires.complete
+    (within c.args.definitions.now c.args.rows.now c.requires.rows c.requires.complete
+    c.in_ok-draft.draft c.in_ok-draft.ensures c.first_above.result c.first_above.ensures c.in_default.is)
+    (c.in_ok-plan.ensures ∙ c.tables_of.ensures.tables
+    ∙ is_plan c.args.definitions.now c.args.rows.now c.requires.rows c.requires.complete
+    c.in_ok-draft.draft c.in_ok-draft.ensures c.first_above.result c.first_above.ensures c.in_default.is
+    c.requires.states c.requires.short)
 
 pub returns-clause-plan : goal.returns-clause-plan
 returns-clause-plan c =
-    c.in_ok-plan.ensures ∙ is_plan c.args.definitions.now c.args.definitions.now.machine refl c.args.rows.now c.args.rows.now c.requires.rows refl c.in_ok-numbered.numbered c.in_ok-numbered.ensures c.in_ok-draft.draft c.args.rows.now refl c.in_ok-draft.ensures
+    c.in_ok-plan.ensures ∙ c.tables_of.ensures.tables
+    ∙ is_plan c.args.definitions.now c.args.rows.now c.requires.rows c.requires.complete
+    c.in_ok-draft.draft c.in_ok-draft.ensures c.first_above.result c.first_above.ensures c.in_default.is
+    c.requires.states c.requires.short
 
 pub returns-clause-within : goal.returns-clause-within
 returns-clause-within c =
-    rows_within c.args.definitions.now c.args.definitions.now.machine refl c.args.rows.now c.args.rows.now c.requires.rows refl c.in_ok-numbered.numbered c.in_ok-numbered.ensures
-
-pub fill-requires-clause-numbers : goal.fill-requires-clause-numbers
-fill-requires-clause-numbers c = search rules
+    within c.args.definitions.now c.args.rows.now c.requires.rows c.requires.complete
+    c.in_ok-draft.draft c.in_ok-draft.ensures c.first_above.result c.first_above.ensures c.in_default.is

@@ -1,16 +1,31 @@
-use Rattle.std.proofs.Common.{◌≡◌, ℕ, [], ◌∷◌, ◌++◌, length, map, replicate, Vec, Global, ◌∙◌, ap, arith}
-use Rattle.std.proofs.lemmas.List.{length-map}
-use Rattle.plan_tables.specs.{declared.entries.{Action.Action, ListId.ListId}, Inside.action_lists}
-use Rattle.mpf_plan.specs.Inside.{draft_view}
+use Rattle.std.proofs.{Common.{refl, subst}, lemmas.Result.on_ok_weaker}
+use Rattle.plan_parts.specs.{RowViews.{acts_view, bytes_view, names_view, whose_view}, Devices.Device}
+use Rattle.mpf_plan.{specs.Drafting.{AddsActs, AddsListeners, Notes, names_uses}, proofs.Device.adds_device}
+use Rattle.plan_tables.specs.declared.table.Table.TheVariants.{Events}
 use Rattle.mpf_plan.proofs.fill.add_device.Goals as goal
 
 pub returns : goal.returns
-returns c names =
-    let draft = c.args.draft.now in
-    let d = draft_view names draft in
-    let first : ℕ → ListId = λ n. record { 0 = n } in
-    let count : c.len.result ≡ length (map (λ (v : Vec Action Global). v.items) draft.lists.items) = omega (arith, c.len.ensures, draft.lists.ok.0, length-map draft.lists.items (λ (v : Vec Action Global). v.items)) in
-    let rows = c.in_ok-push.ensures.items ∙ ap (λ x. draft.rows.items ++ x ∷ []) (c.next_row-row.ensures names) in
-    let firsts = c.in_ok-push-2.ensures.items ∙ ap (λ n. draft.row_lists.items ++ first n ∷ []) count in
-    let lists = c.in_ok-begin_lists.ensures ∙ ap (λ n. action_lists draft.lists.items ++ replicate n []) c.list_count.ensures in
-    λ i. record d { plan = record d.plan { rows = rows i; row_lists = firsts i; lists = lists i } }
+returns c =
+    let a = c.args.draft.now in
+    let parts = c.args.parts.now in
+    let whose = whose_view parts.whose in
+    let row = c.next_row-row.result in
+    let dev : Device = record {
+      settings = c.args.settings;
+      listens = bytes_view parts.listens.items;
+      handled = acts_view parts.handled.items;
+      mentioned = names_view parts.mentioned.items;
+      lists = parts.lists;
+    } in
+    let start = record a { rows = c.push.new.self; row_lists = c.push-2.new.self } in
+    let b = c.add_listeners.new.draft in
+    let d = c.add_acts.new.draft in
+    let e = record d { names = c.note_mentioned.new.names } in
+    on_ok_weaker c.add_lists.result
+    (λ does. adds_device a start b d e c.add_lists.new.draft whose dev row c.next_list-first.result
+    refl refl refl refl refl refl refl c.in_ok-push.ensures.items c.in_ok-push-2.ensures.items
+    (subst (λ xs. AddsListeners start b row (bytes_view xs)) c.deref.ensures.value c.in_ok-add_listeners.ensures)
+    (subst (λ xs. AddsActs b d whose row (acts_view xs)) c.deref-2.ensures.value c.in_ok-add_acts.ensures)
+    (subst (λ xs. Notes d.names c.note_mentioned.new.names (names_uses Events xs)) c.deref-3.ensures.value c.in_ok-note_mentioned.ensures)
+    refl refl refl refl refl refl refl refl does c.next_row-row.ensures c.next_list-first.ensures)
+    c.add_lists.ensures

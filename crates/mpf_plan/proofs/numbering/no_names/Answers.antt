@@ -2,7 +2,7 @@ use Rattle.std.proofs.Common.{rules, ◌≡◌, ℕ, ◌+◌, false, [], length,
 use Rattle.std.{specs.Prelude.slice_get, proofs.lemmas.{List.length_push, Option.none-some}}
 use Rattle.plan_tables.specs.declared.{table.Table.TheVariants.Events, names.NameTable.NameTable}
 use Rattle.plan_tables.specs.Limits.{limit_of, tables_in_order}
-use Rattle.mpf_plan.proofs.{ByTable.{table_at, each_pushed}, Found.found_none}
+use Rattle.mpf_plan.proofs.{ByTable.{table_at, each_pushed}, Noted.none_kept}
 use Rattle.mpf_plan.proofs.numbering.no_names.Goals as goal
 
 abbrev IsEmptyAt : ℕ → NameTable → Type 0
@@ -23,4 +23,4 @@ loop-table-preserved c =
     }
 
 pub returns : goal.returns
-returns c = search (rules, found_none, table_at)
+returns c = search (rules, none_kept, table_at)

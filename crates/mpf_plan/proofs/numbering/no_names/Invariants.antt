@@ -5,5 +5,6 @@ use Rattle.mpf_plan.proofs.numbering.no_names.Given as goal
 abbrev pub invariant-loop-table : goal.invariant-loop-table
 invariant-loop-table l = record {
   count : length l.tables.items ≡ l.table-index;
-  empty : (i : ℕ) (k : NameTable) → slice_get l.tables.items i ≡ Some k → (k.limit ≡ limit_of (get_or l.table-items i Events)) × (k.above ≡ false) × (k.set.keys ≡ []);
+  empty : (i : ℕ) (k : NameTable) → slice_get l.tables.items i ≡ Some k
+      → (k.limit ≡ limit_of (get_or l.table-items i Events)) × (k.above ≡ false) × (k.set.keys ≡ []);
 }

@@ -1,8 +1,0 @@
-use Rattle.std.proofs.Common.{take}
-use Rattle.row_contributions.specs.Contributions.{given_by}
-use Rattle.plan_rows.specs.View.{row_list_view}
-use Rattle.mpf_plan.specs.Numbering.{HasFound}
-use Rattle.mpf_plan.proofs.numbering.find_names.Given as goal
-
-abbrev pub invariant-loop-row : goal.invariant-loop-row
-invariant-loop-row l = HasFound (given_by l.definitions.machine (row_list_view (take l.row-index l.rows))) l.found

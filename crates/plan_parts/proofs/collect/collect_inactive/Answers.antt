@@ -1,0 +1,14 @@
+use Rattle.std.proofs.Common.{[], ◌∷◌, ◌++◌, codes, ap, ◌∙◌}
+use Rattle.std.proofs.lemmas.{List.{append-nil, append_assoc}, Result.on_ok_weaker}
+use Rattle.mpf_sections.specs.View.{switch_view}
+use Rattle.plan_parts.{specs.{Parts.texts, RowViews.names_view}, proofs.Views.names_view-push}
+use Rattle.plan_parts.proofs.collect.collect_inactive.Goals as goal
+
+pub returns : goal.returns
+returns c =
+    let row = switch_view c.args.row in
+    let old = names_view c.args.inactive.now.items in
+    let own = row.name.text ++ codes "_inactive" in
+    let named = c.joined.ensures ∙ ap (λ n. n ++ [] ++ codes "_inactive") c.deref.ensures ∙ ap (λ n. n ++ codes "_inactive") (append-nil row.name.text) in
+    let first = ap names_view c.in_ok-add.ensures.added ∙ names_view-push c.args.inactive.now.items c.joined.result ∙ ap (λ n. old ++ n ∷ []) named in
+    on_ok_weaker c.collect_names.result (λ last. last ∙ ap (λ l. l ++ texts row.deactivated) first ∙ append_assoc old (own ∷ []) (texts row.deactivated)) c.collect_names.ensures

@@ -1,0 +1,91 @@
+-- What the entries of coils, coil players, flippers and autofire coils say. Here `machine` is the sections of the
+-- machine text, which have the coils.
+use Rattle.std.specs.Prelude.{ℕ, Bool, if◌then◌else◌, List, [], ◌∷◌, ◌++◌, Option, None, Some, unwrap_or}
+use Rattle.mpf_sections.specs.declared.words.CoilAction.{CoilAction}
+use Rattle.mpf_sections.specs.declared.words.CoilAction.TheVariants as actions
+use Rattle.mpf_sections.specs.Rows.{Written, Coil, CoilItem, Rule, Flipper, Autofire, CoilRule, flipper, autofire, SectionRows}
+use Rattle.plan_tables.specs.declared.entries.CoilLimits.{CoilLimits}
+use Rattle.plan_tables.specs.declared.devices.{Settings.Settings, Act.TheVariants.{Enable, Disable}}
+use Rattle.plan_tables.specs.declared.devices.Settings.TheVariants as kinds
+use Rattle.machine_definitions.specs.Definitions.{coil_of_name}
+use Rattle.plan_parts.specs.{Effects.{Deed, pulse, enable, disable, Effect, works}, DeviceEntries.{Device, acts}}
+
+-- ---- coils
+
+-- what a coil may be sent
+abbrev pub limits_of_coil : Coil → CoilLimits
+limits_of_coil c = record {
+  max_pulse_ms = c.max_pulse_ms;
+  max_pulse_power = c.max_pulse_power;
+  max_hold_power = c.max_hold_power;
+  may_hold = c.may_hold;
+}
+
+-- what a coil's entry says of pulses and holds of which nothing else is said, and whether the coil may be held
+pub record Defaults : Type 0 where
+  pub pulse_ms : ℕ
+  pub pulse_power : ℕ
+  pub hold_power : ℕ
+  pub may_hold : Bool
+
+abbrev pub defaults_of_coil : Coil → Defaults
+defaults_of_coil c = record { pulse_ms = c.pulse_ms; pulse_power = c.pulse_power; hold_power = c.hold_power; may_hold = c.may_hold }
+
+abbrev pub defaults_called : List SectionRows → List ℕ → Defaults
+defaults_called machine name = defaults_of_coil (coil_of_name machine name)
+
+-- a pulse and a hold of which nothing else is said
+abbrev pub own_pulse : Defaults → Deed
+own_pulse c = pulse c.pulse_ms c.pulse_power
+
+abbrev pub own_hold : Defaults → Deed
+own_hold c = enable c.hold_power
+
+-- ---- coil players
+
+-- what an item does with its coil; what the item does not say, the coil's entry does
+abbrev pub deed_by : Defaults → CoilItem → CoilAction → Deed
+deed_by c item actions.Pulse = pulse (unwrap_or item.pulse_ms c.pulse_ms) (unwrap_or item.pulse_power c.pulse_power)
+deed_by c item actions.Enable = enable (unwrap_or item.hold_power c.hold_power)
+deed_by c item actions.Disable = disable
+
+abbrev pub item_effect : List SectionRows → CoilItem → Effect
+item_effect machine item = works item.coil.text (deed_by (defaults_called machine item.coil.text) item item.action)
+
+-- ---- flippers and autofire coils
+
+-- What lifts a flipper. If it has a hold coil, the main coil is pulsed, and the hold coil is enabled. If it has none,
+-- the main coil is enabled if it may be held, and else pulsed.
+abbrev pub flipper_on : List SectionRows → Written → Option Written → List Effect
+flipper_on machine main (Some hold) =
+    works main.text (own_pulse (defaults_called machine main.text)) ∷ works hold.text (own_hold (defaults_called machine hold.text)) ∷ []
+flipper_on machine main None =
+    let c = defaults_called machine main.text in
+    works main.text (if c.may_hold then own_hold c else own_pulse c) ∷ []
+
+-- what lets it fall: the coil that is enabled, if any, is disabled
+abbrev pub flipper_off : List SectionRows → Written → Option Written → List Effect
+flipper_off machine main (Some hold) = works hold.text disable ∷ []
+flipper_off machine main None = if (defaults_called machine main.text).may_hold then works main.text disable ∷ [] else []
+
+-- the device of a coil rule, with these settings and effect lists
+abbrev pub rule_device : Settings → Rule → List (List Effect) → Device
+rule_device settings r lists = record {
+  settings = settings;
+  listens = r.switch.text ∷ [];
+  handled = acts Enable r.enables ++ acts Disable r.disables;
+  mentioned = [];
+  lists = lists;
+}
+
+abbrev pub flipper_device : List SectionRows → Flipper → Device
+flipper_device machine f = rule_device kinds.Flipper f.rule (flipper_on machine f.main_coil f.hold_coil ∷ flipper_off machine f.main_coil f.hold_coil ∷ [])
+
+abbrev pub autofire_device : List SectionRows → Autofire → Device
+autofire_device machine a = rule_device kinds.Autofire a.rule ((works a.coil.text (own_pulse (defaults_called machine a.coil.text)) ∷ []) ∷ [])
+
+-- the device of an entry that may be a flipper or an autofire coil
+abbrev pub rule_device_of : List SectionRows → Option CoilRule → Option Device
+rule_device_of machine None = None
+rule_device_of machine (Some (flipper f)) = Some (flipper_device machine f)
+rule_device_of machine (Some (autofire a)) = Some (autofire_device machine a)

@@ -1,0 +1,218 @@
+//! What one row gives to a plan.
+
+ghost use Rattle.std.specs.Prelude.{◌≡◌, [], ◌∷◌, ◌++◌, OnOk, OnErr};
+
+use crate::effects::EffectLists;
+use crate::names::{Parts, whole};
+use mpf_config::{Guard, HandledAt, ModeSettings, mode_settings};
+use plan_rows::Row;
+use plan_tables::devices::{Act, Settings};
+use plan_tables::entries::{CoilLimits, ModeId, Owner, SwitchKind};
+use std::alloc::{AllocError, Global};
+
+/// The owner of a device or a handler, and the priority of what it binds to events. The row of a device has no
+/// priority.
+#[derive(Clone, Copy)]
+pub struct Whose {
+    pub owner: Owner,
+    pub priority: u32,
+}
+
+/// The text that a row is in.
+#[derive(Clone, Copy)]
+pub struct Text {
+    /// Whose it is.
+    pub whose: Whose,
+    /// How many modes come before the row: the number of the mode, if the row is one.
+    pub modes: u16,
+}
+
+impl Text {
+    ghost use Rattle.std.specs.Prelude.{◌≡◌, ◌<◌};
+    ghost use Rattle.plan_rows.specs.View.{row_view};
+    ghost use Rattle.plan_parts.specs.RowViews.{machine_text, text_after, text_view};
+
+    /// The machine text.
+    pub fn machine() -> Text
+        ensures { text_view result ≡ machine_text }
+    {
+        Text {
+            whose: Whose {
+                owner: Owner::Machine,
+                priority: 0,
+            },
+            modes: 0,
+        }
+    }
+
+    /// The text that the next row is in: a mode comes before the rows of its text. No machine has so many modes that
+    /// they cannot be counted.
+    pub fn after(self, row: Row<'_, '_>) -> Text
+        ensures { self.modes < 65535 → text_view result ≡ text_after (row_view row.entry) (text_view self) }
+    {
+        match row {
+            Row::Mode(_, sections) => Text {
+                whose: Whose {
+                    owner: Owner::Mode(ModeId(self.modes)),
+                    priority: mode_settings(sections).priority,
+                },
+                modes: self.modes.saturating_add(1),
+            },
+            _ => self,
+        }
+    }
+}
+
+/// Adds one more, or leaves what was there if memory runs out. Everything adds by this call: `push` hands back what
+/// it was given if it fails, and each `?` after a `push` would have to drop it, which is slow to prove.
+pub(crate) fn add<T: Drop>(items: &mut Vec<T>, more: T) -> Result<(), AllocError>
+    ensures added { OnOk result (items.new.items ≡ items.old.items ++ more ∷ []) }
+    ensures kept { OnErr result (items.new.items ≡ items.old.items) }
+{
+    items.push(more)?;
+    Ok(())
+}
+
+/// An event that is handled, and the condition if it has one.
+#[derive(Clone, Copy)]
+pub struct Handled<'a> {
+    pub event: Parts<'a>,
+    pub condition: Option<&'a Guard>,
+}
+
+impl<'a> Handled<'a> {
+    ghost use Rattle.std.specs.Prelude.{◌≡◌};
+    ghost use Rattle.mpf_sections.specs.View.{handled_at_view};
+    ghost use Rattle.plan_parts.specs.DeviceEntries.{always};
+    ghost use Rattle.plan_parts.specs.RowViews.{handled_event_view};
+    ghost use Rattle.plan_parts.specs.View.{parts_text};
+
+    /// As it is written.
+    pub fn written(handled: HandledAt<'a>) -> Handled<'a>
+        ensures { handled_event_view result ≡ (handled_at_view handled.entry).event }
+    {
+        Handled {
+            event: whole(handled.name),
+            condition: handled.condition,
+        }
+    }
+
+    /// The event of this name, whatever the variables are.
+    pub fn always(event: Parts<'a>) -> Handled<'a>
+        ensures { handled_event_view result ≡ always (parts_text event.entry) }
+    {
+        Handled {
+            event,
+            condition: None,
+        }
+    }
+}
+
+/// What an event does with a mode.
+#[derive(Clone, Copy)]
+pub enum Control {
+    /// It starts the mode.
+    Start,
+    /// It stops the mode.
+    Stop,
+}
+
+/// What a row is to a plan. The other fields of [`RowParts`] say the rest.
+#[derive(Clone, Copy)]
+pub enum Head<'a> {
+    /// It gives nothing.
+    Nothing,
+    /// A switch: its name, how it is read, and whether a ball that presses it is on the playfield. It posts
+    /// `active` and `inactive`.
+    Switch {
+        name: &'a [u8],
+        kind: SwitchKind,
+        confirms_playfield: bool,
+    },
+    /// A coil: its name, and what it may be sent.
+    Coil(&'a [u8], CoilLimits),
+    /// The game: how many balls have to be at home for it to begin, how many each player has, and how many
+    /// players there can be.
+    Game {
+        min_balls: u32,
+        balls_per_game: u32,
+        max_players: u32,
+    },
+    /// A mode: its number, its name and its settings. `controls` start and stop it.
+    Mode(ModeId, &'a [u8], ModeSettings<'a>),
+    /// A handler of this event: it does what `lists` do.
+    Handler(Handled<'a>),
+    /// A device with these settings: `listens`, `handled`, `mentioned` and `lists` are its own.
+    Device(Settings),
+    /// A shot in a group: the events of `handled` act on the row of this number, which may come later.
+    Seat(usize),
+}
+
+/// What one row gives to a plan, by names. Its vectors are cleared and used again for the next row.
+#[derive(Drop)]
+pub struct RowParts<'a> {
+    /// Whether a setting names a profile, a shot or a ball device that nothing has.
+    pub unknown: bool,
+    /// The switch of a shot. Of all names of a row, it is the first.
+    pub mention: Option<&'a [u8]>,
+    /// What the row is to a plan.
+    pub head: Head<'a>,
+    /// Whose it is.
+    pub whose: Whose,
+    /// What a switch posts when it becomes active.
+    pub active: Vec<Parts<'a>>,
+    /// What a switch posts when it becomes inactive.
+    pub inactive: Vec<Parts<'a>>,
+    /// What starts and stops a mode.
+    pub controls: Vec<(Handled<'a>, Control)>,
+    /// The switches to which a device listens. A switch has its place among them as its number in the device.
+    pub listens: Vec<&'a [u8]>,
+    /// The events that a device or a seat handles, and what each does.
+    pub handled: Vec<(Handled<'a>, Act)>,
+    /// Other events that a device names before its effect lists do.
+    pub mentioned: Vec<Parts<'a>>,
+    /// The effect lists of a device, or the one of a handler.
+    pub lists: EffectLists<'a>,
+}
+
+impl<'a> RowParts<'a> {
+    ghost use Rattle.plan_parts.specs.RowViews.{AreNoParts, whose_view};
+    ghost use Rattle.plan_parts.specs.Parts.{own};
+    ghost use Rattle.std.specs.Prelude.{◌≡◌};
+
+    /// No parts, of the machine.
+    pub fn new(alloc: Global) -> RowParts<'a>
+        ensures { AreNoParts own result }
+    {
+        RowParts {
+            unknown: false,
+            mention: None,
+            head: Head::Nothing,
+            whose: Text::machine().whose,
+            active: Vec::new(alloc),
+            inactive: Vec::new(alloc),
+            controls: Vec::new(alloc),
+            listens: Vec::new(alloc),
+            handled: Vec::new(alloc),
+            mentioned: Vec::new(alloc),
+            lists: EffectLists::new(alloc),
+        }
+    }
+
+    /// Removes all that was there. What comes has this owner and priority.
+    pub fn clear(&mut self, whose: Whose)
+        ensures { AreNoParts (whose_view whose) self.new }
+    {
+        self.unknown = false;
+        self.mention = None;
+        self.head = Head::Nothing;
+        self.whose = whose;
+        self.active.clear();
+        self.inactive.clear();
+        self.controls.clear();
+        self.listens.clear();
+        self.handled.clear();
+        self.mentioned.clear();
+        self.lists.clear();
+    }
+}

@@ -1,8 +1,0 @@
-use Rattle.std.proofs.Common.{◌≡◌, ◌++◌, map, drop}
-use Rattle.mpf_sections.specs.View.{name_view}
-use Rattle.plan_contributions.specs.{Contributions.inactive, View.contributions_view}
-use Rattle.row_contributions.specs.Contributions.{texts}
-use Rattle.row_contributions.proofs.collect.collect_inactive.Given as goal
-
-abbrev pub invariant-loop-name : goal.invariant-loop-name
-invariant-loop-name l = contributions_view l.contributions.items ++ map inactive (texts (map name_view (drop l.name-index l.name-items))) ≡ contributions_view l.initial.contributions.items ++ map inactive (texts (map name_view l.name-items))
