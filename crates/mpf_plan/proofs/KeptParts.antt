@@ -5,7 +5,7 @@ use Rattle.std.{specs.List.All, proofs.lemmas.{List.{Sums.sum_by-cons, Elements.
 use Rattle.mpf_config.specs.{Rows.Rows, Short.AreListsShort, States.HaveStates}
 use Rattle.plan_parts.{specs.Parts.{Part, handler, device, act_on, parts_of}, proofs.RowFacts.parts_are}
 use Rattle.plan_parts.specs.{PartBounds.IsPartOf, PartKinds.{row_of_part, rows_of_parts}}
-use Rattle.plan_tables.proofs.RowLists.few_lists
+use Rattle.plan_tables.proofs.RowLists.{few_lists}
 use Rattle.mpf_plan.{specs.{PlanOf.row_count, Drafting.IsKept}, proofs.{Laws.rows_of_all, Grown.{InLimits, few_rows}}}
 
 -- how many rows there are
