@@ -10,6 +10,10 @@ as `yaml_subset/src/line,yaml_subset/specs`: what is declared there gets the new
   local    variables of a file: there, and if it is one of code in the proofs of its functions and in edits of it
   both     a field, and the variables of this name in the files of WHERE
   method   a method, and what `item` says
+  word     this word in all files of WHERE and nowhere else, whatever it stands for there, but not in prose. Here WHERE
+           can also be `CRATE/src/FILE:FUNCTION`, a function with its proofs and the edits of it
+  merge    what `word` does, though the files have the new word too
+  text     any text of the files of WHERE, in which `␣` stands for a blank and `¶` for the end of a line
   file     a file of definitions
 
 A row is refused if a file that it would change has the new name already, or if the old name has a second meaning there
@@ -43,6 +47,7 @@ CHAIN = re.compile(r"(?<![\w.-])(?:c|l|w|g)((?:\.[\w-]+)+)")
 OF_VARIABLES = ("args", "new", "ranges", "auto", "type_inv", "initial", "fn", "invariant_of")
 AFTER_VARIABLE = ("index", "item", "is", "end", "iterator")
 LANGUAGES = (".rt", ".rattle", ".antt", ".edit")
+KINDS = ("item", "field", "local", "both", "method", "word", "merge", "text", "file")
 
 
 class Row(NamedTuple):
@@ -674,6 +679,61 @@ def is_path_of(crate: str, path: str, text: str, at: int, folder: str, tree: Tre
     return text[:at].endswith((f"{crate}::specs::", f"Rattle.{crate}.specs."))
 
 
+def rename_word(row: Row, tree: Tree) -> dict[str, str]:
+    """The texts that change if a word stands for one thing in all files of a row, or for things of one new name."""
+    found = {}
+    for path, text in tree.texts.items():
+        spans = [] if row.old not in text or is_left_alone(path, row) else list(spans_of_row(row, path, text, tree))
+        spots = [at for at, role in roles_in(row.old, path, text) if is_in(at, spans) and (
+            role != "comment" or (re.search(r"[`\[:.]$", text[:at]) and re.match(r"[`\]:(]", text[at + len(row.old) :])))
+        ] if spans else []
+        if row.kind == "word" and any(is_in(it.start(), spans) for it in words(row.new, text)) and spots:
+            raise Refused(f"{path} has {row.new} already")
+        if spots:
+            long = rf"(?<=[{{,\s]){row.new}: {row.new}(?=,| }})"
+            found[path] = re.sub(long, row.new, replaced(text, spots, row)) if is_code(path) else replaced(text, spots, row)
+    if not found:
+        raise Refused("nothing has this name there")
+    return found
+
+
+def replace_text(row: Row, tree: Tree) -> dict[str, str]:
+    """The files of a row with one text in place of another."""
+    old, new = (it.replace("␣", " ").replace("¶", "\n") for it in (row.old, row.new))
+    found = {path: text.replace(old, new) for path, text in tree.texts.items() if is_home(path, row) and old in text}
+    if not found:
+        raise Refused("nothing has this text there")
+    return found
+
+
+def spans_of_row(row: Row, path: str, text: str, tree: Tree) -> Iterator[tuple[int, int]]:
+    """The parts of a file that are in WHERE: all of it, or a function, or what an edit changes in that function."""
+    if is_home(path, row):
+        yield 0, len(text)
+        return
+    for home, _, function in (it.partition(":") for it in row.where):
+        crate, _, rest = home.partition("/src/")
+        if not function or crate_of(path) != crate:
+            continue
+        source = f"crates/{home}.rt"
+        if re.match(rf"crates/{crate}/proofs/{rest}/(?:\w+/)?{function}/", path):
+            yield 0, len(text)
+        elif path == source:
+            yield from function_spans(function, text)
+        elif path.endswith(".edit") and re.search(rf"^file: src/{re.escape(rest)}\.rt$", text, re.M):
+            bodies = [tree.texts[source][start:end] for start, end in function_spans(function, tree.texts[source])]
+            yield from (it.span() for it in re.finditer(r"^old: (.*)\nnew: .*$", text, re.M)
+                        if any(it[1] in body for body in bodies))
+
+
+def function_spans(function: str, text: str) -> Iterator[tuple[int, int]]:
+    for it in re.finditer(rf"^( *)(?:pub(?:\([\w ]+\))? )?(?:const )?fn {function}\b", text, re.M):
+        yield it.start(), text.index(f"\n{it[1]}}}", it.start())
+
+
+RENAMERS = {"file": rename_file, "word": rename_word, "merge": rename_word, "text": replace_text}
+
+
 def left_of(row: Row, tree: Tree, changed: Iterable[str]) -> list[str]:
     """The pages that have the old name as code, and the files with a comment or a member that has it still."""
     pages = [it for it, text in tree.pages.items() if re.search(rf"`[^`\n]*\b{re.escape(row.old)}\b[^`\n]*`", text)]
@@ -708,7 +768,7 @@ def main() -> int:
         return 0
     rows = [Row(number, *line.split()[:3], tuple(line.split()[3].split(",")))
             for number, line in enumerate(given.table.read_text().splitlines(), 1)
-            if line.split()[:1] and line.split()[0] in ("item", "field", "local", "both", "method", "file")]
+            if line.split()[:1] and line.split()[0] in KINDS]
     if given.only:
         rows = [it for it in rows if it.old in given.only.split(",")]
     if given.row:
@@ -718,13 +778,13 @@ def main() -> int:
     for row in rows:
         moved = len(tree.moved)
         try:
-            found = rename_file(row, tree) if row.kind == "file" else changes_of(row, tree)
+            found = RENAMERS.get(row.kind, changes_of)(row, tree)
         except Refused as why:
             del tree.moved[moved:]
             refused += 1
             print(f"REFUSED {row}: {why}")
             continue
-        folders = [it for it in tree.texts if row.kind != "file" and re.search(rf"/proofs/(?:\w+/)+{row.old}/", it)
+        folders = [it for it in tree.texts if row.kind not in RENAMERS and re.search(rf"/proofs/(?:\w+/)+{row.old}/", it)
                    and row.kind != "local" and is_of_code(it, row, "")]
         tree.texts.update(found)
         for it in folders:
