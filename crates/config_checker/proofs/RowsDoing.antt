@@ -6,12 +6,13 @@ use Rattle.std.specs.Prelude.{Option, Some, None, IfSome, is_some}
 use Rattle.std.proofs.lemmas.{List.get_or_append_left, Bool.or_parts}
 use Rattle.std.specs.{Str.bytes_eq, List.{All, AllPairs, flat_map, list_any}}
 use Rattle.std.proofs.lemmas.List.Elements.{All-nil, All-cons, All-append, All-map, All-weaker, All-from_get_or, All-from_recursion}
-use Rattle.mpf_sections.specs.Rows.{Written, Entry, Switch, CoilPlayer, VariablePlayer, BlockEvents, CoilRule, Shot, ShotGroup, BallDevice, SectionRows}
-use Rattle.mpf_sections.specs.{TypedGame.variable_players_in, TypedBalls.ball_devices_in}
+use Rattle.mpf_sections.specs.Rows.{Written, Entry, Switch, CoilPlayer, VariablePlayer, BlockEvents, Shot, ShotGroup, BallDevice, SectionRows}
+use Rattle.mpf_sections.specs.{TypedGame.variable_players_in, CoilRules.{CoilRule, coil_rule_of}}
+use Rattle.mpf_sections.specs.{TypedBalls.ball_devices_in, TypedCoils.coil_players_in}
 use Rattle.machine_definitions.specs.{Players.player_event, Shots.Profile}
 use Rattle.mpf_config.specs.Rows.{Rows}
 use Rattle.mpf_sections.specs.Typed.{counters_name, accruals_name, sequences_name, timers_name, counter_of, step_block_of, timer_of, entries_in, switches_in, event_players_in, counters_in, accruals_in, sequences_in}
-use Rattle.mpf_sections.specs.{TypedCoils.{coil_players_in, coil_rule_of}, TypedShots.{shots_in, shot_groups_in}}
+use Rattle.mpf_sections.specs.TypedShots.{shots_in, shot_groups_in}
 use Rattle.mpf_sections.specs.TypedSaves.{ball_saves_name, multiballs_name, ball_save_of, multiball_of}
 use Rattle.machine_settings.specs.declared.settings.StepSettings.{StepSettings}
 use Rattle.plan_tables.specs.declared.devices.Settings.{Settings}

@@ -129,13 +129,22 @@ fn refuse_own(alloc: Global, definitions: &Definitions<'_>) -> Result<(), Report
     Err(Report::Faults(faults))
 }
 
-/// Faults of rows as faults of a configuration.
+/// How many faults are moved from one list to another before the first one gives room back.
+const AT_ONCE: usize = 16_384;
+
+/// Faults of rows as faults of a configuration. Both lists may be very long, so the first one gives
+/// its room back as the other one grows.
 fn faults_of(alloc: Global, own: Vec<RowFault>) -> Result<Vec<Fault>, AllocError>
     ensures { IfOk result (λ faults. AreOfRows own.items faults.items) }
 {
-    let mut faults = Vec::new(alloc);
-    for fault in own {
+    let mut faults = Vec::with_capacity(alloc, own.len())?;
+    let mut left = own;
+    left.reverse();
+    while let Some(fault) = left.pop() {
         faults.push(Fault::Row(fault))?;
+        if left.len() % AT_ONCE == 0 {
+            left.shrink_to_fit();
+        }
     }
     Ok(faults)
 }

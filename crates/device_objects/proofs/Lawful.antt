@@ -66,17 +66,13 @@ pub parts-none : (state : DeviceState) → due_of state ≡ None → (k : ℕ) �
 parts-none state is k = search (rules, ball-parts_none)
 
 pub parts-one : (state : DeviceState) → IfSome (due_of state) (λ due. (k : ℕ) × (part_due state k ≡ Some due))
-parts-one (states.Timer s) = search rules
 parts-one (states.BallDevice s) = ball-parts_one s
-parts-one (states.BallSave s) = search rules
-parts-one _ = tt
+parts-one state = search rules
 
 pub parts-first : (state : DeviceState)
     → IfSome (due_of state) (λ due. (k other : ℕ) → part_due state k ≡ Some other → due ≤ other)
-parts-first (states.Timer s) = search rules
 parts-first (states.BallDevice s) = ball-parts_first s
-parts-first (states.BallSave s) = search rules
-parts-first _ = tt
+parts-first state = search rules
 
 pub devices_are_due_with_their_parts : DevicesAreDueWithTheirParts
 devices_are_due_with_their_parts =

@@ -16,16 +16,15 @@ device_step settings call now world state = (kind_of settings).step call now wor
 abbrev pub outcomes : Settings → Call → List (List ℕ)
 outcomes settings call = (kind_of settings).outcomes call
 
--- What a part does when its moment has come, by the part's number: a timer ticks, a ball switch counts, an attempt is
--- over, a ball save is disabled. Other devices have no such parts.
+-- what a part does when its moment has come, by the part's number: a timer, for example, ticks
 abbrev pub fire_part : Settings → ℕ → ℕ → DeviceState → DeviceState × List ℕ
 fire_part settings k now state = (kind_of settings).fire_part k now state
 
--- The moment at which the device is due, if there is one. Only timers, ball devices and ball saves are ever due.
+-- the moment at which the device is due, if there is one
 abbrev pub due_of : DeviceState → Option ℕ
 due_of state = (moments_of state).due
 
--- The moment at which a part of the device is due, by the part's number. A timer and a ball save have just one part.
+-- the moment at which a part of the device is due, by the part's number
 abbrev pub part_due : DeviceState → ℕ → Option ℕ
 part_due state k = (moments_of state).part k
 

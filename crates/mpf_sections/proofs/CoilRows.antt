@@ -1,12 +1,15 @@
 -- What holds of coils, coil players, flippers and autofire coils, by the names of their settings: their names are
 -- names, and their settings are in their ranges.
-use Rattle.std.proofs.Common.{rules, ℕ, ◌≤◌, Bool, length, Option, Some, IfSome, unwrap_or, slice_get, arith}
-use Rattle.std.{specs.List.All, proofs.lemmas.List.length-map}
+use Rattle.std.proofs.Common.{rules, ◌≡◌, ℕ, ◌≤◌, Bool, true, false, ◌||◌, List, [], ◌∷◌, map, length, Option, Some, IfSome, is_some, unwrap_or, slice_get, refl, arith}
+use Rattle.std.specs.{List.{All, list_any}, Prelude.{if◌then◌else◌, option_map}, Str.bytes_eq}
+use Rattle.std.proofs.lemmas.List.{length-map}
+use Rattle.mpf_tables.specs.SectionTables.{named_in}
 use Rattle.mpf_values.specs.Names.{IsName}
 use Rattle.setting_values.specs.Values.{Plain, Keyed, Value}
 use Rattle.section_tables.specs.{Rows.{Entry, Player}, Named.{IsNamedEntry, IsNamedPlayer, IsShortPlayer}}
 use Rattle.mpf_sections.specs.{Rows.{Written, SectionRows}, Inside.rule_at}
 use Rattle.mpf_sections.specs.Typed.{text_of, listed_keyed, name_in, pulse_in, power_in, entries_of, players_of}
+use Rattle.mpf_sections.specs.CoilRules.{CoilRule, coil_rules, coil_rule_sections, coil_rule_of, IsNamedCoilRule}
 use Rattle.mpf_sections.specs.TypedCoils.{coils_name, coil_player_name, max_hold_power, coil_of, coil_item_of, coil_player_of, needed_at, flipper_of, autofire_of, coils_in, coil_players_in}
 use Rattle.mpf_sections.specs.Named.{IsNamedCoil, IsNamedCoilPlayer, IsNamedRule, IsNamedFlipper, IsNamedAutofire, IsNamed}
 use Rattle.mpf_sections.specs.Short.{IsPulseInRange, IsPowerInRange, IsCoilInRange, IsItemInRange, IsShortCoilPlayer, IsCoilPlayerInRange}
@@ -57,6 +60,24 @@ flipper_named e h = search (rules, needed_named, some_named, slice_get, written_
 pub autofire_named : (e : Entry) → IsNamedEntry e → IsNamedAutofire (autofire_of e)
 unfolding autofire_of
 autofire_named e h = record { coil = needed_named e 0 h; rule = rule_named 1 e h }
+
+-- And those in an entry that is a coil rule, whichever it is.
+pub coil_rule_named : (section : List ℕ) (e : Entry) → IsNamedEntry e → IfSome (coil_rule_of section e) IsNamedCoilRule
+coil_rule_named section e h = search (rules, flipper_named, autofire_named)
+
+-- The entries of these sections are coil rules, and no others.
+pub coil_rule_some : (section : List ℕ) (e : Entry) → is_some (coil_rule_of section e) ≡ list_any (bytes_eq section) coil_rule_sections
+coil_rule_some section e = by coil_rules
+  where
+    by : (each : List (List ℕ × (Entry → CoilRule)))
+        → is_some (option_map (λ rule_of. rule_of e) (named_in section each)) ≡ list_any (bytes_eq section) (map (λ r. r.0) each)
+    by [] = refl
+    by (r ∷ rest) = either (bytes_eq section r.0) (by rest)
+      where
+        either : (is : Bool) → is_some (option_map (λ rule_of. rule_of e) (named_in section rest)) ≡ list_any (bytes_eq section) (map (λ x. x.0) rest)
+            → is_some (option_map (λ rule_of. rule_of e) (if is then Some r.1 else named_in section rest)) ≡ (is || list_any (bytes_eq section) (map (λ x. x.0) rest))
+        either true h = refl
+        either false h = h
 
 -- so they are in a section
 pub coils_named : (s : SectionRows) → IsNamed s → All IsNamedCoil (coils_in s)

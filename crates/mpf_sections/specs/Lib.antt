@@ -11,4 +11,5 @@ pub mod Short
 pub mod SectionView
 pub mod View
 pub mod TypedOf
+pub mod CoilRules
 pub mod Inside

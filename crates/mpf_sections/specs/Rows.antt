@@ -86,11 +86,6 @@ pub record Autofire : Type 0 where
   pub coil : Written
   pub rule : Rule
 
--- a flipper or an autofire coil
-pub data CoilRule : Type 0 where
-  flipper : Flipper → CoilRule
-  autofire : Autofire → CoilRule
-
 -- an entry of `ball_devices`: its ball switches, the coil that ejects a ball, if there is one, where it ejects its
 -- balls to, how it counts and ejects them, and its tags
 pub record BallDevice : Type 0 where

@@ -8,7 +8,7 @@ use Rattle.mpf_tables.specs.SectionTables as tables
 pub use Rattle.mpf_tables.specs.SectionTables.{coils_name, coil_player_name, flippers_name, autofire_coils_name}
 use Rattle.mpf_sections.specs.Typed.{setting_of, field_of, text_of, flag_of, listed_events, listed_keyed, handled_in, name_in, word_in, pulse_in, power_in, place_of, entries_in, entries_of, players_of}
 use Rattle.mpf_sections.specs.TypedNumbers.{time_setting}
-use Rattle.mpf_sections.specs.Rows.{Coil, CoilItem, CoilPlayer, Rule, Flipper, Autofire, CoilRule, flipper, autofire, SectionRows}
+use Rattle.mpf_sections.specs.Rows.{Coil, CoilItem, CoilPlayer, Rule, Flipper, Autofire, SectionRows}
 
 -- ---- `coils`
 
@@ -93,16 +93,6 @@ flipper_of e = record {
 
 unfoldable pub autofire_of : Entry → Autofire
 autofire_of e = record { coil = needed_name tables.autofire_coils (codes "coil") e; rule = rule_of tables.autofire_coils (codes "switch") e }
-
--- the sections whose entries are coil rules
-abbrev pub coil_rule_sections : List (List ℕ)
-coil_rule_sections = flippers_name ∷ autofire_coils_name ∷ []
-
--- the flipper or the autofire coil that an entry of the section of this name is; none if it is neither
-abbrev pub coil_rule_of : List ℕ → Entry → Option CoilRule
-coil_rule_of section e =
-    if bytes_eq section flippers_name then Some (flipper (flipper_of e))
-    else (if bytes_eq section autofire_coils_name then Some (autofire (autofire_of e)) else None)
 
 -- ---- sections
 

@@ -22,7 +22,6 @@ use Rattle.mpf_sections.specs.declared.game.VariableItem as typed_variable_items
 use Rattle.mpf_sections.specs.declared.game.GameSettings as typed_games
 use Rattle.mpf_sections.specs.declared.coil_rules.Flipper as typed_flippers
 use Rattle.mpf_sections.specs.declared.coil_rules.Autofire as typed_autofires
-use Rattle.mpf_sections.specs.declared.coil_rules.CoilRule as typed_coil_rules
 use Rattle.mpf_sections.specs.declared.shots.Shot as typed_shots
 use Rattle.mpf_sections.specs.declared.shots.ShotGroup as typed_groups
 use Rattle.mpf_sections.specs.declared.shots.ShotProfile as typed_profiles
@@ -30,11 +29,11 @@ use Rattle.mpf_sections.specs.declared.balls.BallDevice as typed_balls
 use Rattle.mpf_sections.specs.declared.saves.BallSave as typed_saves
 use Rattle.mpf_sections.specs.declared.saves.Multiball as typed_multiballs
 use Rattle.mpf_sections.specs.Typed.{switch_of, event_player_of, mode_settings_of, mode_settings, listed_modes, counter_of, step_block_of, control_of, timer_of, entries_in, players_in, entries_of, players_of}
-use Rattle.mpf_sections.specs.TypedCoils.{coil_of, coil_item_of, coil_player_of, needed_at, flipper_of, autofire_of, coil_rule_of}
+use Rattle.mpf_sections.specs.TypedCoils.{coil_of, coil_item_of, coil_player_of, needed_at, flipper_of, autofire_of}
 use Rattle.mpf_sections.specs.TypedGame.{variable_item_of, variable_player_of, game_of, min_balls_of}
 use Rattle.mpf_sections.specs.TypedShots.{shot_of, shot_group_of, state_of, shot_profile_of}
 use Rattle.mpf_sections.specs.{TypedBalls.ball_device_of, TypedSaves.{ball_save_of, multiball_of}}
-use Rattle.mpf_sections.specs.View.{name_view, handler_view, fields_view, keyed_view, entry_view, player_view, content_view, section_view, name_at_view, handled_at_view, switch_view, event_player_view, mode_settings_view, counter_view, step_block_view, control_view, timer_view, coil_view, coil_item_view, coil_player_view, variable_item_view, variable_player_view, game_view, flipper_view, autofire_view, coil_rule_view, shot_view, shot_group_view, shot_profile_view, ball_device_view, ball_save_view, multiball_view}
+use Rattle.mpf_sections.specs.View.{name_view, handler_view, fields_view, keyed_view, entry_view, player_view, content_view, section_view, name_at_view, handled_at_view, switch_view, event_player_view, mode_settings_view, counter_view, step_block_view, control_view, timer_view, coil_view, coil_item_view, coil_player_view, variable_item_view, variable_player_view, game_view, flipper_view, autofire_view, shot_view, shot_group_view, shot_profile_view, ball_device_view, ball_save_view, multiball_view}
 
 -- ---- switches, and what events do
 
@@ -83,10 +82,6 @@ IsFlipperOf entry flipper = flipper_view flipper ≡ flipper_of (entry_view entr
 -- the autofire coil of this entry of `autofire_coils`
 abbrev pub IsAutofireOf : entry_rows.Entry → typed_autofires.Autofire → Type 0
 IsAutofireOf entry autofire = autofire_view autofire ≡ autofire_of (entry_view entry)
-
--- the flipper or the autofire coil that this entry is, if its section has this name
-abbrev pub IsCoilRuleOf : List ℕ → entry_rows.Entry → Option typed_coil_rules.CoilRule → Type 0
-IsCoilRuleOf section entry rule = option_map coil_rule_view rule ≡ coil_rule_of section (entry_view entry)
 
 -- ---- logic blocks and timers
 

@@ -20,15 +20,13 @@ use Rattle.mpf_sections.specs.declared.game.GameSettings as typed_games
 use Rattle.mpf_sections.specs.declared.coil_rules.Rule as typed_rules
 use Rattle.mpf_sections.specs.declared.coil_rules.Flipper as typed_flippers
 use Rattle.mpf_sections.specs.declared.coil_rules.Autofire as typed_autofires
-use Rattle.mpf_sections.specs.declared.coil_rules.CoilRule as typed_coil_rules
-use Rattle.mpf_sections.specs.declared.coil_rules.CoilRule.TheVariants as kinds
 use Rattle.mpf_sections.specs.declared.shots.Shot as typed_shots
 use Rattle.mpf_sections.specs.declared.shots.ShotGroup as typed_groups
 use Rattle.mpf_sections.specs.declared.shots.ShotProfile as typed_profiles
 use Rattle.mpf_sections.specs.declared.balls.BallDevice as typed_balls
 use Rattle.mpf_sections.specs.declared.saves.BallSave as typed_saves
 use Rattle.mpf_sections.specs.declared.saves.Multiball as typed_multiballs
-use Rattle.mpf_sections.specs.Rows.{Written, Handled, Switch, EventPlayer, Coil, CoilItem, CoilPlayer, VariableItem, VariablePlayer, GameSettings, Rule, Flipper, Autofire, CoilRule, flipper, autofire, Shot, ShotGroup, ShotProfile, BallDevice, BallSave, Multiball, BlockEvents, Counter, StepBlock, Control, Timer, ModeSettings}
+use Rattle.mpf_sections.specs.Rows.{Written, Handled, Switch, EventPlayer, Coil, CoilItem, CoilPlayer, VariableItem, VariablePlayer, GameSettings, Rule, Flipper, Autofire, Shot, ShotGroup, ShotProfile, BallDevice, BallSave, Multiball, BlockEvents, Counter, StepBlock, Control, Timer, ModeSettings}
 use Rattle.mpf_sections.specs.{Typed.controls_of, TypedShots.state_of}
 use Rattle.mpf_sections.specs.{TypedCoils.coil_item_of, TypedGame.variable_item_of}
 pub use Rattle.mpf_sections.specs.SectionView.{content_view, section_view}
@@ -150,10 +148,6 @@ flipper_view f = record { main_coil = name_at_view f.main_coil; hold_coil = opti
 
 abbrev pub autofire_view : typed_autofires.Autofire → Autofire
 autofire_view a = record { coil = name_at_view a.coil; rule = rule_view a.rule }
-
-abbrev pub coil_rule_view : typed_coil_rules.CoilRule → CoilRule
-coil_rule_view (kinds.Flipper f) = flipper (flipper_view f)
-coil_rule_view (kinds.Autofire a) = autofire (autofire_view a)
 
 abbrev pub shot_view : typed_shots.Shot → Shot
 shot_view s = record {

@@ -1,9 +1,10 @@
 //! The entries of `flippers` and `autofire_coils`, by the names of their settings.
 
 ghost use Rattle.std.specs.Prelude.{◌≡◌, ◌≤◌};
+ghost use Rattle.mpf_sections.specs.CoilRules.{IsCoilRuleOf};
 ghost use Rattle.mpf_sections.specs.Inside.{IsRuleAt};
 ghost use Rattle.mpf_sections.specs.TypedCoils.{quick_place};
-ghost use Rattle.mpf_sections.specs.TypedOf.{IsNeededAt, IsFlipperOf, IsAutofireOf, IsCoilRuleOf};
+ghost use Rattle.mpf_sections.specs.TypedOf.{IsNeededAt, IsFlipperOf, IsAutofireOf};
 
 use crate::typed::NameAt;
 use crate::values::{handlers, name, text};

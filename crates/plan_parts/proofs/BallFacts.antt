@@ -24,9 +24,9 @@ use Rattle.plan_parts.specs.DeviceEntries.{texts, Device, events, always, device
 use Rattle.plan_parts.specs.BallEntries.{drains, ball_event, is_known, ball_device_from, attempt_effects}
 use Rattle.plan_parts.specs.ShotEntries.{shot_acts, lone_device, group_device}
 use Rattle.plan_parts.specs.Parts.{Whose, Part, handler, device, mode, mention, unknown, run, start, stop, act_on, control, stops_at_ball_end, stops_at_game_end, where_some, where_true, unknown_unless, mode_parts, machine_device, switch_part, coil_part, game_part, machine_entry_parts, entry_parts, alone_parts, player_parts, seated, row_parts, text_parts, parts_of}
-use Rattle.plan_parts.proofs.{NamedFacts.attempts, WalkFacts.{IsSuch, text_each, EachRow}}
-use Rattle.plan_parts.proofs.DeviceFacts.{IsPlain, IsShared, IsRule, plain_lone, plain_group, device_shared, machine_rule}
-use Rattle.plan_parts.proofs.PartFacts.{parts_each, IsTextOf, EachText}
+use Rattle.plan_parts.proofs.{NamedFacts.attempts, RuleFacts.{IsRule, machine_rule}}
+use Rattle.plan_parts.proofs.{WalkFacts.{IsSuch, text_each, EachRow}, PartFacts.{parts_each, IsTextOf, EachText}}
+use Rattle.plan_parts.proofs.DeviceFacts.{IsPlain, IsShared, plain_lone, plain_group, device_shared}
 use Rattle.plan_parts.specs.PartBalls.{IsBallFree, IsRightDevice, IsRight}
 
 -- ---- one device

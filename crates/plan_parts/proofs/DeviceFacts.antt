@@ -5,10 +5,9 @@ use Rattle.std.proofs.Common.{map, length, refl, sym, ◌∙◌, ap₂, codes, a
 use Rattle.std.specs.{Prelude.{Option, None, Some, IfSome}, List.{flat_map, All}, Str.bytes_eq}
 use Rattle.std.proofs.lemmas.List.{length-append, length-map, Elements.{All-nil, All-cons, All-map}}
 use Rattle.mpf_sections.specs.Rows.{Written, Entry, Shot, ShotGroup, BallDevice, BlockEvents, Counter, StepBlock}
-use Rattle.mpf_sections.specs.Rows.{Timer, BallSave, Multiball, Flipper, Autofire, SectionRows}
+use Rattle.mpf_sections.specs.{Rows.{Timer, BallSave, Multiball, SectionRows}, Typed.{step_block_of, timer_of}}
 use Rattle.mpf_sections.specs.Typed.{counters_name, accruals_name, sequences_name, timers_name, counter_of}
-use Rattle.mpf_sections.{specs.Typed.{step_block_of, timer_of}, proofs.SaveRows.{ball_save_short, multiball_short}}
-use Rattle.mpf_sections.specs.TypedCoils.{flippers_name, autofire_coils_name, flipper_of, autofire_of}
+use Rattle.mpf_sections.proofs.SaveRows.{ball_save_short, multiball_short}
 use Rattle.mpf_sections.specs.TypedSaves.{ball_saves_name, multiballs_name, ball_save_of, multiball_of}
 use Rattle.mpf_sections.specs.Short.{IsShortEntry, IsShortBlock, IsShortCounter, IsShortStepBlock, IsShortTimer}
 use Rattle.mpf_sections.specs.Short.{IsShortBallDevice, IsShortBallSave, IsShortMultiball}
@@ -18,18 +17,16 @@ use Rattle.plan_tables.specs.{Devices.{IsWithinLimits, list_count}, BallRows.IsN
 use Rattle.plan_tables.specs.declared.{devices.Settings.Settings, entries.Owner.Owner}
 use Rattle.plan_tables.specs.declared.devices.Settings.TheVariants as kinds
 use Rattle.plan_rows.specs.{declared.destination.Destination.Destination, Members.{flags, is_enabled, Members}}
-use Rattle.plan_parts.specs.{Effects.{Effect, posts}, Parts.{Whose, machine_device}, PartBalls.IsOfNoBall}
+use Rattle.plan_parts.specs.{Effects.{Effect, posts}, PartBalls.IsOfNoBall}
 use Rattle.plan_parts.specs.{ShotEntries.group_device, PartBounds.{IsFew, IsKindOf}}
-use Rattle.plan_parts.specs.CoilEntries.{flipper_on, flipper_off, flipper_device, autofire_device}
 use Rattle.plan_parts.specs.BallEntries.{attempt_effects, ball_device_from}
 use Rattle.plan_parts.specs.ShotEntries.{shot_events, group_events, shot_lists, state_lists, group_lists, lone_device}
 use Rattle.plan_parts.specs.SaveEntries.{save_device, multiball_device, save_device_of}
 use Rattle.plan_parts.specs.DeviceEntries.{Device, texts, block_event, or_own, block_lists, counter_device, device_of}
 use Rattle.plan_parts.specs.DeviceEntries.{step_device, step_settings, timer_event, timer_endings, timer_device}
-use Rattle.plan_parts.proofs.{WordFacts.HasState, CoilFacts.{all_flips, fires}}
+use Rattle.plan_parts.proofs.{WordFacts.HasState, ShotFacts.{IsShortProfile, IsShortGroup, flags_of, bank_within}}
 use Rattle.plan_parts.proofs.SaveFacts.{all_save, all_multiball, save_lists_few, multiball_lists_few}
 use Rattle.plan_parts.proofs.ShotFacts.{posts_of_shot, posts_of_group, shot_lists_few, group_lists_few}
-use Rattle.plan_parts.proofs.ShotFacts.{IsShortProfile, IsShortGroup, flags_of, bank_within}
 
 -- a device that is no ball device: it has nothing to do with balls, and listens to one switch at most
 pub record IsPlain (d : Device) : Type 0 where
@@ -124,13 +121,6 @@ pub plain_group : (g : ShotGroup) (m : Members) → IsPlain (group_device g m)
 plain_group g m =
     record { settings = tt; lists = posts_of_group IsOfNoBall posts_nothing m.profile g.name.text (texts g.shots); listens = omega arith }
 
-plain_flipper : (machine : List SectionRows) (f : Flipper) → IsPlain (flipper_device machine f)
-plain_flipper machine f =
-    record { settings = tt; lists = all_flips IsOfNoBall machine f (tt, tt, tt) (any_written f.hold_coil) (any_written f.hold_coil); listens = omega arith }
-
-plain_autofire : (machine : List SectionRows) (a : Autofire) → IsPlain (autofire_device machine a)
-plain_autofire machine a = record { settings = tt; lists = fires IsOfNoBall machine a tt; listens = omega arith }
-
 pub anywhere_lone : (p : Profile) (s : Shot) → IsAnywhere (lone_device p s)
 anywhere_lone p s = record { listens = refl; kind = λ owner. tt }
 
@@ -183,31 +173,6 @@ module _ (S Short : Type 0) where
   sound_multiball m h =
       record { count = λ x. refl; lists = λ x. multiball_lists_few m.name.text m.settings.balls; limits = h }
 
-  sound_flipper : (machine : List SectionRows) (f : Flipper) → Sound (flipper_device machine f)
-  sound_flipper machine f =
-      let on = flipper_on machine f.main_coil f.hold_coil in
-      let off = flipper_off machine f.main_coil f.hold_coil in
-      record {
-        count = λ s. refl;
-        lists =
-            λ s. All-cons IsFew on (off ∷ []) (few_on f.hold_coil)
-            (All-cons IsFew off [] (few_off f.hold_coil) (All-nil IsFew));
-        limits = λ s. tt;
-      }
-    where
-      few_on : (hold : Option Written) → IsFew (flipper_on machine f.main_coil hold)
-      few_on x1 = search rules
-
-      few_if : (b : Bool) (e : Effect) → IsFew (if b then e ∷ [] else [])
-      few_if x1 e = search rules
-
-      few_off : (hold : Option Written) → IsFew (flipper_off machine f.main_coil hold)
-      few_off x1 = search rules
-
-  sound_autofire : (machine : List SectionRows) (a : Autofire) → Sound (autofire_device machine a)
-  sound_autofire machine a =
-      record { count = λ s. refl; lists = λ s. All-cons IsFew _ [] (omega arith) (All-nil IsFew); limits = λ s. tt }
-
   pub sound_lone : (p : Profile) (s : Shot) → (S → HasState p) → IsShortProfile p → Sound (lone_device p s)
   sound_lone p s some short = record {
     count =
@@ -250,11 +215,6 @@ module _ (S Short : Type 0) where
     pub sound : Sound d
     pub plain : IsPlain d
     pub anywhere : IsAnywhere d
-
-  -- and of one of the machine text, which is no ball device
-  pub record IsRule (d : Device) : Type 0 where
-    pub sound : Sound d
-    pub plain : IsPlain d
 
   shared_counter : (c : Counter) → (Short → IsShortCounter c) → IsShared (counter_device c)
   shared_counter c h =
@@ -303,15 +263,3 @@ module _ (S Short : Type 0) where
         (either IsShared (bytes_eq section accruals_name) _ _ (shared_accrual (step_block_of e) (λ s. step_block_short e (short s)))
         (either IsShared (bytes_eq section sequences_name) _ _ (shared_sequence (step_block_of e) (λ s. step_block_short e (short s)))
         (either IsShared (bytes_eq section timers_name) _ _ (shared_timer (timer_of e) (timer_in_range e)) (save_shared section))))
-
-    of_any : (o : Option Device) → IfSome o IsShared → IfSome o IsRule
-    of_any None is = tt
-    of_any (Some d) is = record { sound = is.sound; plain = is.plain }
-
-    pub machine_rule : (machine : List SectionRows) (whose : Whose) (section : List ℕ)
-        → IfSome (machine_device machine whose section e) IsRule
-    machine_rule machine whose section =
-        either IsRule (bytes_eq section flippers_name) _ _
-        (record { sound = sound_flipper machine (flipper_of e); plain = plain_flipper machine (flipper_of e) })
-        (either IsRule (bytes_eq section autofire_coils_name) _ _ (record { sound = sound_autofire machine (autofire_of e); plain = plain_autofire machine (autofire_of e) })
-        (of_any (device_of section e) (device_shared section)))

@@ -7,9 +7,10 @@ use Rattle.std.proofs.lemmas.List.Elements.{All-nil, All-cons, All-head, All-tai
 use Rattle.std.proofs.lemmas.List.Sums.{list_all-from_AllPass}
 use Rattle.mpf_values.specs.Events.{Event}
 use Rattle.mpf_sections.specs.Rows as sections
-use Rattle.mpf_sections.specs.Rows.{Written, Entry, Player, flipper, autofire, Shot, ShotGroup, BallDevice, ModeSettings, Content, entries, players, SectionRows}
+use Rattle.mpf_sections.specs.Rows.{Written, Entry, Player, Shot, ShotGroup, BallDevice, ModeSettings, Content, entries, players, SectionRows}
 use Rattle.mpf_sections.specs.Typed.{switches_name, event_player_name, switch_of, event_player_of, mode_settings, switches_in, event_players_in}
-use Rattle.mpf_sections.specs.TypedCoils.{coils_name, coil_player_name, flippers_name, autofire_coils_name, coil_of, coil_player_of, flipper_of, autofire_of, coil_players_in, coil_rule_of}
+use Rattle.mpf_sections.specs.TypedCoils.{coils_name, coil_player_name, coil_of, coil_player_of, coil_players_in}
+use Rattle.mpf_sections.specs.{CoilRules.{CoilRule, coil_rule_of}, Typed.{counter_of, step_block_of, timer_of}}
 use Rattle.mpf_sections.specs.TypedGame.{variable_player_name, game_name, variable_player_of, game_of, variable_players_in}
 use Rattle.mpf_sections.specs.TypedBalls.{ball_devices_name, playfield, ball_device_of, ball_devices_in}
 use Rattle.mpf_sections.specs.TypedShots.{shots_name, shot_groups_name, shot_of, shot_group_of, shots_in, shot_groups_in}
@@ -22,16 +23,15 @@ use Rattle.plan_rows.specs.declared.destination.Destination.TheVariants as desti
 use Rattle.plan_rows.specs.Seats.{Seat, seat_of, ball_row_of, row_or_unknown, destination_of, rows_after_text}
 use Rattle.plan_rows.specs.Rows.{Row, entry, alone, player, shot_row, group_row, ball_device_row, other_row, entry_row, rows_from, text_rows}
 use Rattle.plan_parts.{specs.{Effects.{Effect, posts}, VariableEntries.item_change}, proofs.SeatFacts.ball_row_some}
-use Rattle.plan_parts.specs.CoilEntries.{item_effect, flipper_device, autofire_device, rule_device_of}
+use Rattle.plan_parts.specs.CoilEntries.{item_effect, coil_rule_device, rule_device_of}
 use Rattle.plan_parts.specs.DeviceEntries.{texts, Device, events, always, device_of}
 use Rattle.plan_parts.specs.SaveEntries.{save_device_of, save_device, multiball_device}
 use Rattle.plan_parts.specs.{BallEntries.{is_known, ball_device_from}, Doing.IsHeardOnce, Parts.unknown}
 use Rattle.plan_parts.specs.ShotEntries.{shot_lists, shot_acts, lone_device, group_device}
-use Rattle.plan_parts.specs.Parts.{Whose, Part, handler, device, mode, mention, run, start, stop, act_on, own, control, of_the_mode, stops_at_ball_end, stops_at_game_end, where_some, where_true, unknown_unless, mode_parts, machine_device, switch_part, coil_part, game_part, machine_entry_parts, entry_parts, alone_parts, player_parts, seated, row_parts, text_parts, modes_parts, parts_of}
+use Rattle.plan_parts.specs.Parts.{Whose, Part, handler, device, mode, mention, run, start, stop, act_on, own, control, of_the_mode, stops_at_ball_end, stops_at_game_end, where_some, where_true, unknown_unless, first_of, mode_parts, machine_device, switch_part, coil_part, game_part, machine_entry_parts, entry_parts, alone_parts, player_parts, seated, row_parts, text_parts, modes_parts, parts_of}
 use Rattle.plan_parts.specs.Doing.{has_target, IsBallDeviceDoing, IsSwitchDoing, IsPlayerDoing, IsDeviceDoing, IsEntryDoing, IsCoilPlayerDoing, IsVariablePlayerDoing, IsShotDoing, IsShotGroupDoing, IsDoing, IsMachineDoing, AreDoing, Does}
 use Rattle.yaml_bytes.proofs.Each.{All-flat_map, All-from_map}
 use Rattle.mpf_sections.specs.Typed.{counters_name, accruals_name, sequences_name, timers_name}
-use Rattle.mpf_sections.specs.Typed.{counter_of, step_block_of, timer_of}
 use Rattle.mpf_sections.specs.TypedSaves.{ball_saves_name, multiballs_name, ball_save_of, multiball_of}
 use Rattle.plan_parts.specs.DeviceEntries.{counter_device, step_settings, step_device, timer_device}
 
@@ -81,7 +81,15 @@ entry_apart section e = search (rules, apart_if, none_apart, save_apart)
 
 machine_apart : (machine : List SectionRows) (whose : Whose) (section : List ℕ) (e : Entry)
     → ListensApart (machine_device machine whose section e)
-machine_apart machine whose section e = search (rules, apart_if, one_apart, entry_apart)
+machine_apart machine whose section e = by (coil_rule_of section e) (entry_apart section e)
+  where
+    rule : (r : CoilRule) → AreApart (coil_rule_device machine r).listens
+    rule r = search (rules, one_apart, none_apart)
+
+    by : (o : Option CoilRule) → ListensApart (device_of section e)
+        → ListensApart (first_of (rule_device_of machine o) (device_of section e))
+    by None is = is
+    by (Some r) is = rule r
 
 -- ---- targets
 
@@ -191,13 +199,12 @@ module _ (P : Effect → Type 0) (S L : List ℕ → Type 0) where
     in_machine_device : (section : List ℕ) (e : Entry)
         → IsEntryDoing P S L (rule_device_of machine (coil_rule_of section e))
         → IsEntryDoing P S L (device_of section e) → IsEntryDoing P S L (machine_device machine whose section e)
-    in_machine_device section e = by (bytes_eq section flippers_name) (bytes_eq section autofire_coils_name)
+    in_machine_device section e = by (rule_device_of machine (coil_rule_of section e))
       where
-        by : (f a : Bool)
-            → IsEntryDoing P S L (rule_device_of machine (if f then Some (flipper (flipper_of e)) else (if a then Some (autofire (autofire_of e)) else None)))
-            → IsEntryDoing P S L (device_of section e)
-            → IsEntryDoing P S L (if f then Some (flipper_device machine (flipper_of e)) else (if a then Some (autofire_device machine (autofire_of e)) else device_of section e))
-        by x1 x2 own h = search rules
+        by : (o : Option Device) → IsEntryDoing P S L o → IsEntryDoing P S L (device_of section e)
+            → IsEntryDoing P S L (first_of o (device_of section e))
+        by None first other = other
+        by (Some d) first other = first
 
     in_machine_entry : (section : List ℕ) (e : Entry)
         → Where (bytes_eq section switches_name) (IsSwitchDoing P S L (switch_of e))

@@ -22,8 +22,8 @@ use Rattle.plan_parts.specs.Parts.{Whose, Device, events, always, device_of, Rea
 use Rattle.plan_parts.specs.Parts.{act_on, switch, mode, handler, device, where_true, control, stops_at_ball_end}
 use Rattle.plan_parts.specs.Parts.{stops_at_game_end, mode_parts, machine_device, parts_of}
 use Rattle.plan_parts.specs.PartNames.{IsOfNames, IsFitEffect, IsFitEvent, IsFitDevice, IsFitReaction, IsFitPart}
-use Rattle.plan_parts.proofs.{PartFacts.parts_each, ShotFacts.{profile_named, members_named}}
-use Rattle.plan_parts.proofs.NamedFacts.{device_fit, machine_fit, active_fit, inactive_fit}
+use Rattle.plan_parts.proofs.{PartFacts.parts_each, ShotFacts.{profile_named, members_named}, RuleFacts.machine_fit}
+use Rattle.plan_parts.proofs.NamedFacts.{device_fit, active_fit, inactive_fit}
 use Rattle.plan_parts.proofs.NamedFacts.{fit_handled, fit_player, fit_shot_acts, fit_lone, fit_group, fit_ball_device}
 use Rattle.plan_parts.proofs.WalkFacts.{EachPart, IsSuchContent, IsSuch, text_parts_each}
 

@@ -4,9 +4,9 @@ pub mod Entries
 pub mod WordFacts
 pub mod ShotFacts
 pub mod SaveFacts
-pub mod CoilFacts
 pub mod DeviceFacts
 pub mod NamedFacts
+pub mod RuleFacts
 pub mod WalkFacts
 pub mod SeatFacts
 pub mod PartFacts

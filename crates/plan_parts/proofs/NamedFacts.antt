@@ -4,25 +4,23 @@ use Rattle.std.specs.{Prelude.{Option, IfSome}, List.All, Str.bytes_eq}
 use Rattle.std.proofs.lemmas.List.Elements.{All-nil, All-cons, All-head, All-tail, All-append, All-map, All-weaker}
 use Rattle.mpf_values.specs.Events.{Event}
 use Rattle.mpf_sections.specs.Rows.{Written, Handled, Entry, Switch, EventPlayer, SectionRows}
-use Rattle.mpf_sections.specs.Rows.{Rule, Flipper, Autofire, BlockEvents, Counter, StepBlock}
+use Rattle.mpf_sections.specs.Rows.{Rule, BlockEvents, Counter, StepBlock}
 use Rattle.mpf_sections.specs.Rows.{Control as TimerControl, Timer, Shot, ShotGroup, BallDevice, BallSave, Multiball}
 use Rattle.mpf_sections.specs.Named.{IsName, AllNames, IsNamedHandled, AllNamedEvents, IsNamedEntry, IsNamedSwitch}
 use Rattle.mpf_sections.specs.Named.{IsNamedEventPlayer, IsNamedRule, IsNamedCounter, IsNamedStepBlock, IsNamedTimer}
-use Rattle.mpf_sections.specs.Named.{IsNamedFlipper, IsNamedAutofire, IsNamedShot, IsNamedShotGroup}
+use Rattle.mpf_sections.specs.{Named.{IsNamedShot, IsNamedShotGroup}, Typed.{step_block_of, timer_of}}
 use Rattle.mpf_sections.specs.Named.{IsNamedBallDevice, IsNamedBallSave, IsNamedMultiball, IsNamedBlock}
 use Rattle.mpf_sections.specs.Typed.{counters_name, accruals_name, sequences_name, timers_name, counter_of}
-use Rattle.mpf_sections.specs.Typed.{step_block_of, timer_of}
-use Rattle.mpf_sections.specs.TypedCoils.{flippers_name, autofire_coils_name, flipper_of, autofire_of}
 use Rattle.mpf_sections.specs.TypedSaves.{ball_saves_name, multiballs_name, ball_save_of, multiball_of}
 use Rattle.mpf_sections.proofs.DeviceRows.{counter_named, step_block_named, timer_named}
-use Rattle.mpf_sections.proofs.{CoilRows.{flipper_named, autofire_named}, SaveRows.{ball_save_named, multiball_named}}
+use Rattle.mpf_sections.proofs.SaveRows.{ball_save_named, multiball_named}
 use Rattle.machine_definitions.specs.Shots.{Profile}
 use Rattle.plan_tables.specs.declared.devices.Act.{Act, TheVariants.{Count, Enable, Disable, Start as Begin}}
 use Rattle.plan_tables.specs.declared.devices.Settings.{Settings}
 use Rattle.plan_tables.specs.declared.devices.Settings.TheVariants as kinds
 use Rattle.plan_rows.specs.{declared.destination.Destination.Destination, Members.Members}
 use Rattle.plan_parts.specs.Effects.{Effect, posts, works, leaves, loses, arrives}
-use Rattle.plan_parts.specs.CoilEntries.{defaults_called, own_pulse, rule_device, flipper_device, autofire_device}
+use Rattle.plan_parts.specs.CoilEntries.{defaults_called, own_pulse, rule_device}
 use Rattle.plan_parts.specs.BallEntries.{drains, ball_event, ball_endings, eject_pulse, attempt_effects}
 use Rattle.plan_parts.specs.BallEntries.{drain_mentions, ball_device_from}
 use Rattle.plan_parts.specs.ShotEntries.{shot_events, group_events, shot_acts, lone_device, group_device}
@@ -30,9 +28,9 @@ use Rattle.plan_parts.specs.SaveEntries.{save_device, multiball_device, save_dev
 use Rattle.plan_parts.specs.DeviceEntries.{Device, texts, always, acts, block_acts, block_mentions, device_of}
 use Rattle.plan_parts.specs.DeviceEntries.{block_event, or_own, block_lists, counter_device, step_acts, step_settings}
 use Rattle.plan_parts.specs.DeviceEntries.{step_device, controlled, timer_event, timer_endings, timer_device}
-use Rattle.plan_parts.specs.Parts.{Whose, machine_device, tag_event, active_posts, inactive_posts}
+use Rattle.plan_parts.specs.Parts.{tag_event, active_posts, inactive_posts}
 use Rattle.plan_parts.specs.PartNames.{IsOfNames, IsFitEffect, IsFitEvent, IsFitDevice}
-use Rattle.plan_parts.proofs.{SaveFacts.{all_save_by, all_multiball_by}, CoilFacts.{all_flips, fires}}
+use Rattle.plan_parts.proofs.SaveFacts.{all_save_by, all_multiball_by}
 use Rattle.plan_parts.proofs.{ShotFacts.IsNamedProfile, DeviceFacts.{either, seven}}
 use Rattle.plan_parts.proofs.ShotFacts.{OfHandled, all_shot_acts, all_group_acts, all_shot_lists, all_group_lists}
 
@@ -158,7 +156,7 @@ module _ (P : List ℕ → Type 0) (of : IsOfNames P) where
         (λ ending k. All-cons (IsFitEffect P) (posts (timer_event t.name.text ending)) [] k (All-nil (IsFitEffect P))) timer_endings (of.timer t.name.text h.name));
   }
 
-  -- ---- ball saves, flippers and autofire coils
+  -- ---- ball saves and coil rules
 
   -- what enables and disables one of them
   fit_rule : (enables disables : List Handled) → AllNamedEvents enables → AllNamedEvents disables
@@ -183,7 +181,7 @@ module _ (P : List ℕ → Type 0) (of : IsOfNames P) where
     lists = all_multiball_by (IsFitEffect P) m.name.text m.settings.balls (of.multiball m.name.text h.name) tt;
   }
 
-  fit_rule_device : (settings : Settings) (r : Rule) (lists : List (List Effect)) → IsNamedRule r
+  pub fit_rule_device : (settings : Settings) (r : Rule) (lists : List (List Effect)) → IsNamedRule r
       → All (All (IsFitEffect P)) lists → Fit (rule_device settings r lists)
   fit_rule_device settings r lists h all = record {
     listens = All-cons IsName r.switch.text [] h.switch (All-nil IsName);
@@ -191,14 +189,6 @@ module _ (P : List ℕ → Type 0) (of : IsOfNames P) where
     mentioned = All-nil P;
     lists = all;
   }
-
-  fit_flipper : (machine : List SectionRows) (f : Flipper) → IsNamedFlipper f → Fit (flipper_device machine f)
-  fit_flipper machine f h =
-      fit_rule_device kinds.Flipper f.rule _ h.rule
-      (all_flips (IsFitEffect P) machine f (h.main_coil, h.main_coil, h.main_coil) h.hold_coil h.hold_coil)
-
-  fit_autofire : (machine : List SectionRows) (a : Autofire) → IsNamedAutofire a → Fit (autofire_device machine a)
-  fit_autofire machine a h = fit_rule_device kinds.Autofire a.rule _ h.rule (fires (IsFitEffect P) machine a h.coil)
 
   -- ---- shots
 
@@ -289,9 +279,3 @@ module _ (P : List ℕ → Type 0) (of : IsOfNames P) where
         (either Fit (bytes_eq section accruals_name) _ _ (fit_steps (kinds.Accrual (step_settings (step_block_of e))) (step_block_of e) (step_block_named e h))
         (either Fit (bytes_eq section sequences_name) _ _ (fit_steps (kinds.Sequence (step_settings (step_block_of e))) (step_block_of e) (step_block_named e h))
         (either Fit (bytes_eq section timers_name) _ _ (fit_timer (timer_of e) (timer_named e h)) (save_fit section))))
-
-    pub machine_fit : (machine : List SectionRows) (whose : Whose) (section : List ℕ)
-        → IfSome (machine_device machine whose section e) Fit
-    machine_fit machine whose section =
-        either Fit (bytes_eq section flippers_name) _ _ (fit_flipper machine (flipper_of e) (flipper_named e h))
-        (either Fit (bytes_eq section autofire_coils_name) _ _ (fit_autofire machine (autofire_of e) (autofire_named e h)) (device_fit section))

@@ -35,13 +35,14 @@ use Rattle.plan_parts.specs.Parts.{Whose, Device, texts, events, always, device_
 use Rattle.plan_parts.specs.Parts.{act_on, Part, mode, handler, device, where_true, own, control}
 use Rattle.plan_parts.specs.Parts.{stops_at_ball_end, stops_at_game_end, mode_parts, machine_device}
 use Rattle.plan_parts.specs.Parts.{game_part, alone_parts, row_parts, text_parts, modes_parts, parts_of}
-use Rattle.plan_parts.proofs.{WordFacts.HasState, NamedFacts.{one, attempts}, PartFacts.{IsTextOf, parts_each}}
+use Rattle.plan_parts.proofs.{WordFacts.HasState, NamedFacts.{one, attempts}}
+use Rattle.plan_parts.proofs.{PartFacts.{IsTextOf, parts_each}, RuleFacts.{IsRule, machine_rule}}
 use Rattle.plan_parts.specs.PartBounds.{AreLimits, AreRules, IsKindOf, IsTargetAmong, IsPartOf}
 use Rattle.plan_parts.specs.PartKinds.{is_game_part, rows_of_parts, IsRowOf}
 use Rattle.plan_parts.proofs.ShotFacts.{profile_short, members_short, found_such, first_such}
-use Rattle.plan_parts.proofs.DeviceFacts.{any_written, IsPlain, IsSound, IsShared, IsRule, plain_lone}
+use Rattle.plan_parts.proofs.DeviceFacts.{any_written, IsPlain, IsSound, IsShared, plain_lone}
 use Rattle.plan_parts.proofs.DeviceFacts.{plain_group, anywhere_lone, anywhere_group, sound_lone, sound_group}
-use Rattle.plan_parts.proofs.DeviceFacts.{sound_ball_device, device_shared, machine_rule, seven}
+use Rattle.plan_parts.proofs.DeviceFacts.{sound_ball_device, device_shared, seven}
 use Rattle.plan_parts.proofs.WalkFacts.{EachPart, IsSuchContent, IsSuch, text_parts_each}
 use Rattle.plan_parts.proofs.SeatFacts.{rows_of_text, IsRowAt, seat_at, ball_row_at}
 

@@ -1,15 +1,16 @@
 -- What an entry gives, by the name of its section.
-use Rattle.std.proofs.Common.{◌≡◌, ◌≤◌, true, false, ℕ, Option, None, Some, List, [], ◌∷◌, length, map, refl}
+use Rattle.std.proofs.Common.{◌≡◌, ◌≤◌, true, false, ℕ, Option, None, Some, List, [], ◌∷◌, length, map, refl, sym, ap, ◌∙◌}
 use Rattle.std.specs.{Prelude.slice_get, Str.bytes_eq}
-use Rattle.mpf_sections.specs.{Rows.{Entry, Player, Shot, SectionRows}, TypedBalls.ball_device_of}
+use Rattle.mpf_sections.{specs.Rows.{Entry, Player, Shot, SectionRows}, proofs.ShotRows.few_short}
+use Rattle.mpf_sections.specs.{TypedBalls.ball_device_of, CoilRules.{CoilRule, coil_rule_of}}
 use Rattle.mpf_sections.specs.Typed.{switches_name, event_player_name, switch_of, event_player_of, listed_names}
-use Rattle.mpf_sections.{proofs.ShotRows.few_short, specs.TypedGame.{variable_player_name, variable_player_of}}
+use Rattle.mpf_sections.specs.TypedGame.{variable_player_name, variable_player_of}
 use Rattle.machine_definitions.specs.Shots.{Profile}
 use Rattle.plan_rows.specs.Seats.{Seat}
-use Rattle.mpf_sections.specs.TypedCoils.{coils_name, coil_player_name, flippers_name, autofire_coils_name, coil_of, coil_player_of, flipper_of, autofire_of}
+use Rattle.mpf_sections.specs.TypedCoils.{coils_name, coil_player_name, coil_of, coil_player_of}
 use Rattle.plan_parts.specs.{Effects.posts, VariableEntries.item_change}
-use Rattle.plan_parts.specs.CoilEntries.{item_effect, flipper_device, autofire_device}
-use Rattle.plan_parts.specs.Parts.{Whose, texts, device, handler, run, where_some, device_of, coil_part, switch_part, machine_entry_parts, player_parts, seated}
+use Rattle.plan_parts.specs.CoilEntries.{item_effect, coil_rule_device, rule_device_of}
+use Rattle.plan_parts.specs.Parts.{Whose, Part, texts, device, handler, run, where_some, first_of, device_of, machine_device, coil_part, switch_part, machine_entry_parts, player_parts, seated}
 
 module _ (machine : List SectionRows) (section : List ℕ) where
   module _ (e : Entry) (whose : Whose) where
@@ -25,21 +26,20 @@ module _ (machine : List SectionRows) (section : List ℕ) where
       switch_there is = rw (no_coil, is) refl
 
       module _ (no_switch : bytes_eq section switches_name ≡ false) where
-        pub flipper_there : bytes_eq section flippers_name ≡ true
-            → device whose (flipper_device machine (flipper_of e)) ∷ [] ≡ machine_entry_parts machine whose section e
+        machine_device_there : where_some (device whose) (machine_device machine whose section e) ≡ machine_entry_parts machine whose section e
         unfolding machine_entry_parts
-        flipper_there is = rw (no_coil, no_switch, is) refl
+        machine_device_there = rw (no_coil, no_switch) refl
 
-        module _ (no_flipper : bytes_eq section flippers_name ≡ false) where
-          pub autofire_there : bytes_eq section autofire_coils_name ≡ true
-              → device whose (autofire_device machine (autofire_of e)) ∷ [] ≡ machine_entry_parts machine whose section e
-          unfolding machine_entry_parts
-          autofire_there is = rw (no_coil, no_switch, no_flipper, is) refl
+        abbrev given_by : Option CoilRule → List Part
+        given_by rule = where_some (device whose) (first_of (rule_device_of machine rule) (device_of section e))
 
-          pub device_there : bytes_eq section autofire_coils_name ≡ false
-              → where_some (device whose) (device_of section e) ≡ machine_entry_parts machine whose section e
-          unfolding machine_entry_parts
-          device_there is = rw (no_coil, no_switch, no_flipper, is) refl
+        pub rule_there : (r : CoilRule) → Some r ≡ coil_rule_of section e
+            → device whose (coil_rule_device machine r) ∷ [] ≡ machine_entry_parts machine whose section e
+        rule_there r is = ap given_by is ∙ machine_device_there
+
+        pub device_there : None ≡ coil_rule_of section e
+            → where_some (device whose) (device_of section e) ≡ machine_entry_parts machine whose section e
+        device_there is = ap given_by is ∙ machine_device_there
 
   module _ (p : Player) (whose : Whose) where
     pub event_player_there : bytes_eq section event_player_name ≡ true

@@ -9,14 +9,14 @@ use Rattle.std.proofs.lemmas.List.Elements.{All-nil, All-cons, All-tail, All-app
 use Rattle.yaml_subset.specs.Keys.{is_among}
 use Rattle.mpf_values.specs.Events.{Event}
 use Rattle.mpf_sections.specs.Rows.{Written, Entry, Player, Shot, Content, entries, players, entry as single, listed}
-use Rattle.mpf_sections.specs.{Rows.SectionRows, Typed.timer_of, TypedCoils.{flipper_of, autofire_of}}
+use Rattle.mpf_sections.specs.{Rows.SectionRows, Typed.timer_of, TypedGame.{variable_player_name, game_name}}
+use Rattle.mpf_sections.specs.CoilRules.{CoilRule, coil_rule_of, coil_rule_sections}
+use Rattle.mpf_sections.{proofs.CoilRows.coil_rule_some, specs.TypedCoils.{coils_name, coil_player_name, coil_of}}
 use Rattle.mpf_sections.specs.Typed.{entries_of, switches_name, event_player_name, counters_name, accruals_name}
 use Rattle.mpf_sections.specs.Typed.{sequences_name, timers_name, entries_in, switch_of, counter_of, step_block_of}
-use Rattle.mpf_sections.specs.TypedCoils.{coils_name, coil_player_name, flippers_name, autofire_coils_name, coil_of}
 use Rattle.mpf_sections.specs.TypedShots.{shots_name, shot_groups_name, shot_of, shot_group_of, shot_groups_in}
 use Rattle.mpf_sections.specs.TypedBalls.{ball_devices_name, ball_device_of, ball_devices_in}
 use Rattle.mpf_sections.specs.TypedSaves.{ball_saves_name, multiballs_name, ball_save_of, multiball_of}
-use Rattle.mpf_sections.specs.TypedGame.{variable_player_name, game_name}
 use Rattle.mpf_config.specs.Rows.{Rows}
 use Rattle.machine_definitions.specs.Shots.{Profile, has_profile, profile_of_name}
 use Rattle.plan_tables.specs.declared.{devices.Act.Act, table.Table.TheVariants.Switches}
@@ -29,9 +29,9 @@ use Rattle.plan_rows.specs.Seats.{entry_seats, seat_of, entry_ball_row, ball_row
 use Rattle.plan_rows.specs.Rows.{Row, entry, alone, player, shot_row, group_row, ball_device_row, other_row}
 use Rattle.plan_parts.specs.{BallEntries.{is_known, ball_device_from}, ShotEntries.shot_acts, PartKinds.is_ball}
 use Rattle.plan_parts.specs.SaveEntries.{save_device, multiball_device, save_device_of}
-use Rattle.plan_parts.specs.CoilEntries.{flipper_device, autofire_device}
+use Rattle.plan_parts.specs.CoilEntries.{coil_rule_device, rule_device_of}
 use Rattle.plan_parts.specs.DeviceEntries.{counter_device, step_settings, step_device, timer_device, device_of}
-use Rattle.plan_parts.specs.Parts.{Whose, Device, Part, handler, device, act_on, mention, where_some, unknown_unless}
+use Rattle.plan_parts.specs.Parts.{Whose, Device, Part, handler, device, act_on, mention, where_some, first_of, unknown_unless}
 use Rattle.plan_parts.specs.Parts.{machine_device, switch_part, coil_part, machine_entry_parts, entry_parts}
 use Rattle.plan_parts.specs.Parts.{alone_parts, player_parts, seated, row_parts, text_parts}
 
@@ -121,20 +121,26 @@ module _ (whose : Whose) where
             ≡ row_if (c || (a || (s || (t || saves)))) false
         by x1 x2 x3 x4 = search (rules, save_row)
 
-    -- the machine text has flippers and autofire coils, too, and ball devices
+    -- the machine text has coil rules, too, and ball devices
     machine_device_row : (section : List ℕ) (e : Entry) → bytes_eq section shot_groups_name ≡ false
         → bytes_eq section ball_devices_name ≡ false
         → marked (machine_device machine whose section e) ≡ row_if (list_any (bytes_eq section) (row_sections Machine)) false
-    machine_device_row section e other =
-        by (bytes_eq section flippers_name) (bytes_eq section autofire_coils_name)
-        (bytes_eq section ball_devices_name) (shared_row section e other)
+    machine_device_row section e other no_ball =
+        by (coil_rule_of section e) (bytes_eq section ball_devices_name) (shared_row section e other) no_ball
+        ∙ ap (λ b. row_if b false)
+        (ap (λ b. b || list_any (bytes_eq section) (ball_devices_name ∷ row_sections Mode)) (coil_rule_some section e)
+        ∙ sym (list_any-append (bytes_eq section) coil_rule_sections (ball_devices_name ∷ row_sections Mode)))
       where
         others : Bool
         others = list_any (bytes_eq section) (row_sections Mode)
 
-        by : (f a b : Bool) → marked (device_of section e) ≡ row_if others false → b ≡ false
-            → marked (if f then Some (flipper_device machine (flipper_of e)) else (if a then Some (autofire_device machine (autofire_of e)) else device_of section e)) ≡ row_if (f || (a || (b || others))) false
-        by x1 x2 b h is = search rules
+        rule : (r : CoilRule) → marked (Some (coil_rule_device machine r)) ≡ row_if true false
+        rule r = search rules
+
+        by : (o : Option CoilRule) (b : Bool) → marked (device_of section e) ≡ row_if others false → b ≡ false
+            → marked (first_of (rule_device_of machine o) (device_of section e)) ≡ row_if (is_some o || (b || others)) false
+        by None b h is = search rules
+        by (Some r) b h is = rule r
 
     -- its coils and switches have none
     machine_row : (section : List ℕ) (e : Entry) → bytes_eq section shot_groups_name ≡ false

@@ -1,9 +1,9 @@
 -- What the entries of coils, coil players, flippers and autofire coils say. Here `machine` is the sections of the
 -- machine text, which have the coils.
-use Rattle.std.specs.Prelude.{ℕ, Bool, if◌then◌else◌, List, [], ◌∷◌, ◌++◌, Option, None, Some, unwrap_or}
-use Rattle.mpf_sections.specs.declared.words.CoilAction.{CoilAction}
+use Rattle.std.specs.Prelude.{ℕ, Bool, if◌then◌else◌, List, [], ◌∷◌, ◌++◌, Option, None, Some, option_map, unwrap_or}
+use Rattle.mpf_sections.specs.{declared.words.CoilAction.CoilAction, CoilRules.{CoilRule, flipper, autofire}}
 use Rattle.mpf_sections.specs.declared.words.CoilAction.TheVariants as actions
-use Rattle.mpf_sections.specs.Rows.{Written, Coil, CoilItem, Rule, Flipper, Autofire, CoilRule, flipper, autofire, SectionRows}
+use Rattle.mpf_sections.specs.Rows.{Written, Coil, CoilItem, Rule, Flipper, Autofire, SectionRows}
 use Rattle.plan_tables.specs.declared.entries.CoilLimits.{CoilLimits}
 use Rattle.plan_tables.specs.declared.devices.{Settings.Settings, Act.TheVariants.{Enable, Disable}}
 use Rattle.plan_tables.specs.declared.devices.Settings.TheVariants as kinds
@@ -84,8 +84,10 @@ flipper_device machine f = rule_device kinds.Flipper f.rule (flipper_on machine 
 abbrev pub autofire_device : List SectionRows → Autofire → Device
 autofire_device machine a = rule_device kinds.Autofire a.rule ((works a.coil.text (own_pulse (defaults_called machine a.coil.text)) ∷ []) ∷ [])
 
--- the device of an entry that may be a flipper or an autofire coil
+-- the device of a coil rule, whichever it is, and of an entry that may be one
+abbrev pub coil_rule_device : List SectionRows → CoilRule → Device
+coil_rule_device machine (flipper f) = flipper_device machine f
+coil_rule_device machine (autofire a) = autofire_device machine a
+
 abbrev pub rule_device_of : List SectionRows → Option CoilRule → Option Device
-rule_device_of machine None = None
-rule_device_of machine (Some (flipper f)) = Some (flipper_device machine f)
-rule_device_of machine (Some (autofire a)) = Some (autofire_device machine a)
+rule_device_of machine rule = option_map (coil_rule_device machine) rule

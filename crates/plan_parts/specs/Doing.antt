@@ -3,7 +3,8 @@
 use Rattle.std.specs.Prelude.{◌≡◌, ◌≢◌, ℕ, Bool, true, ◌||◌, List, Option, None, Some, IfSome, IsSome}
 use Rattle.std.specs.{List.{All, AllPairs, flat_map, list_any}, Str.bytes_eq}
 use Rattle.mpf_sections.specs.Rows.{Switch, EventPlayer, CoilPlayer, VariablePlayer, Shot, ShotGroup, BallDevice, SectionRows}
-use Rattle.mpf_sections.specs.{TypedBalls.{playfield, ball_devices_in}, TypedCoils.{coil_players_in, coil_rule_of}}
+use Rattle.mpf_sections.specs.TypedBalls.{playfield, ball_devices_in}
+use Rattle.mpf_sections.specs.{TypedCoils.coil_players_in, CoilRules.coil_rule_of}
 use Rattle.mpf_sections.specs.{TypedGame.variable_players_in, TypedShots.{shots_in, shot_groups_in}}
 use Rattle.mpf_config.specs.Rows.{ModeRows, Rows}
 use Rattle.mpf_sections.specs.Typed.{entries_in, switches_in, event_players_in}

@@ -14,6 +14,7 @@ use Rattle.mpf_sections.specs.declared.coils.CoilPlayer as typed_coil_players
 use Rattle.mpf_sections.specs.declared.coil_rules.Rule as typed_rules
 use Rattle.mpf_sections.specs.declared.coil_rules.Flipper as typed_flippers
 use Rattle.mpf_sections.specs.declared.coil_rules.Autofire as typed_autofires
+use Rattle.mpf_sections.specs.declared.coil_rules.CoilRule as typed_coil_rules
 use Rattle.mpf_sections.specs.declared.game.VariablePlayer as typed_variable_players
 use Rattle.mpf_sections.specs.declared.game.GameSettings as typed_games
 use Rattle.mpf_sections.specs.declared.shots.Shot as typed_shots
@@ -21,7 +22,7 @@ use Rattle.mpf_sections.specs.declared.shots.ShotGroup as typed_groups
 use Rattle.mpf_sections.specs.declared.balls.BallDevice as typed_balls
 use Rattle.mpf_sections.specs.declared.saves.BallSave as typed_saves
 use Rattle.mpf_sections.specs.declared.saves.Multiball as typed_multiballs
-use Rattle.mpf_sections.specs.Rows.{SectionRows}
+use Rattle.mpf_sections.specs.{Rows.SectionRows, CoilRules.coil_rule_view}
 use Rattle.mpf_sections.specs.View.{entry_view, player_view, switch_view, event_player_view, mode_settings_view, block_view, counter_view, step_block_view, timer_view, coil_view, coil_player_view, rule_view, flipper_view, autofire_view, variable_player_view, game_view, shot_view, shot_group_view, ball_device_view, ball_save_view, multiball_view}
 use Rattle.machine_definitions.specs.declared.profile.Profile as profiles
 use Rattle.machine_definitions.specs.Found.{profile_view}
@@ -38,7 +39,7 @@ use Rattle.plan_tables.specs.declared.table.Table.TheVariants.{Switches}
 use Rattle.plan_parts.specs.DeviceEntries.{Device, texts, block_acts, block_mentions, block_lists, counter_device, step_settings, step_device, timer_device, device_of}
 use Rattle.plan_parts.specs.BallEntries.{ball_settings, is_known, ball_device_from}
 use Rattle.plan_parts.specs.SaveEntries.{save_device, multiball_device, save_device_of}
-use Rattle.plan_parts.specs.CoilEntries.{Defaults, item_effect, rule_device, flipper_device, autofire_device}
+use Rattle.plan_parts.specs.CoilEntries.{Defaults, item_effect, rule_device, flipper_device, autofire_device, coil_rule_device}
 use Rattle.plan_parts.specs.{ShotEntries.{group_device, lone_device}, Effects.posts, VariableEntries.item_change}
 use Rattle.plan_parts.specs.Parts.{Whose, Part, device, where_some, unknown_unless, seated, mention, switch_part, coil_part, game_part, mode_parts, machine_entry_parts, entry_parts, alone_parts, player_parts, handler, run}
 use Rattle.plan_parts.specs.RowViews.{AreNoParts, acts_view, bytes_view, names_view, parts_in}
@@ -152,6 +153,9 @@ flipper_in machine f = flipper_device machine (flipper_view f)
 
 abbrev pub autofire_in : List SectionRows → typed_autofires.Autofire → Device
 autofire_in machine a = autofire_device machine (autofire_view a)
+
+abbrev pub coil_rule_in : List SectionRows → typed_coil_rules.CoilRule → Device
+coil_rule_in machine r = coil_rule_device machine (coil_rule_view r)
 
 abbrev pub lone_in : profiles.Profile → typed_shots.Shot → Device
 lone_in p s = lone_device (profile_view p) (shot_view s)

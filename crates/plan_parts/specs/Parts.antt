@@ -6,7 +6,8 @@ use Rattle.mpf_config.specs.Rows.{ModeRows, Rows}
 use Rattle.mpf_sections.specs.declared.words.Debounce.{Debounce, TheVariants.{Auto, Quick, Normal}}
 use Rattle.mpf_sections.specs.Rows.{Written, Entry, Player, Switch, Coil, GameSettings, Shot, ModeSettings, SectionRows}
 use Rattle.mpf_sections.specs.Typed.{mode_settings, switches_name, event_player_name, switch_of, event_player_of}
-use Rattle.mpf_sections.specs.TypedCoils.{coils_name, coil_player_name, flippers_name, autofire_coils_name, coil_of, coil_player_of, flipper_of, autofire_of}
+use Rattle.mpf_sections.specs.TypedCoils.{coils_name, coil_player_name, coil_of, coil_player_of}
+use Rattle.mpf_sections.specs.CoilRules.{coil_rule_of}
 use Rattle.mpf_sections.specs.TypedGame.{variable_player_name, game_name, variable_player_of, game_of, min_balls_of}
 use Rattle.machine_definitions.specs.{Definitions.makes_quick, Shots.Profile}
 use Rattle.plan_tables.specs.declared.entries.{ModeId.ModeId, SwitchKind.SwitchKind, CoilLimits.CoilLimits, Owner.Owner}
@@ -16,7 +17,7 @@ use Rattle.plan_rows.specs.{declared.place.Place.{Place, TheVariants.{Machine, M
 use Rattle.plan_rows.specs.Rows.{Row, entry, alone, shot, group, ball_device, player, of_mode, text_rows}
 use Rattle.plan_parts.specs.{Effects.{Effect, posts}, VariableEntries.item_change}
 use Rattle.plan_parts.specs.BallEntries.{is_known, ball_device_from}
-use Rattle.plan_parts.specs.CoilEntries.{limits_of_coil, item_effect, flipper_device, autofire_device}
+use Rattle.plan_parts.specs.CoilEntries.{limits_of_coil, item_effect, rule_device_of}
 use Rattle.plan_parts.specs.ShotEntries.{shot_acts, lone_device, group_device}
 pub use Rattle.plan_parts.specs.DeviceEntries.{texts, events, Device, always, device_of}
 
@@ -120,6 +121,11 @@ where_true holds part = if holds then part ∷ [] else []
 abbrev pub unknown_unless : Bool → List Part
 unknown_unless known = if known then [] else unknown ∷ []
 
+-- the first device, or else the other
+abbrev pub first_of : Option Device → Option Device → Option Device
+first_of None other = other
+first_of (Some d) other = Some d
+
 -- a mode, with what starts it and what stops it: as it is written, then the end of the ball, then that of the game
 unfoldable pub mode_parts : ModeId → List ℕ → ModeSettings → List Part
 mode_parts m name s =
@@ -131,12 +137,9 @@ mode_parts m name s =
 
 -- Here `machine` is the sections of the machine text, and `whose` the owner and priority of the text that a row is in.
 module _ (machine : List SectionRows) (whose : Whose) where
-  -- the device of an entry of the machine text, whatever its kind
+  -- the device of an entry of the machine text, whatever its kind: a coil rule, or one that any text can have
   abbrev pub machine_device : List ℕ → Entry → Option Device
-  machine_device section e =
-      if bytes_eq section flippers_name then Some (flipper_device machine (flipper_of e))
-      else (if bytes_eq section autofire_coils_name then Some (autofire_device machine (autofire_of e))
-      else device_of section e)
+  machine_device section e = first_of (rule_device_of machine (coil_rule_of section e)) (device_of section e)
 
   abbrev pub switch_part : Switch → Part
   switch_part s = switch s.name.text (kind_of machine s) (confirms s.tags) (active_posts s) (inactive_posts s)
@@ -147,8 +150,8 @@ module _ (machine : List SectionRows) (whose : Whose) where
   abbrev pub game_part : GameSettings → Part
   game_part g = game (min_balls_of machine) g.balls_per_game g.max_players
 
-  -- an entry of the machine text, and of any text, by its section: only the machine text has switches, coils, flippers
-  -- and autofire coils
+  -- an entry of the machine text, and of any text, by its section: only the machine text has switches, coils and coil
+  -- rules
   unfoldable pub machine_entry_parts : List ℕ → Entry → List Part
   machine_entry_parts section e =
       if bytes_eq section coils_name then coil_part (coil_of e) ∷ []

@@ -8,7 +8,7 @@ ghost use Rattle.plan_parts.specs.RowViews.{controls_view, names_view, parts_at,
 ghost use Rattle.plan_rows.specs.View.{row_view};
 
 use crate::collect_balls::collect_ball_device;
-use crate::collect_coils::{collect_autofire, collect_coil, collect_coil_player, collect_flipper};
+use crate::collect_coils::{collect_coil, collect_coil_player, collect_coil_rule};
 use crate::collect_devices::collect_device;
 use crate::collect_handled::{collect_controls, collect_names};
 use crate::collect_shots::{collect_group, collect_shot};
@@ -18,12 +18,12 @@ use crate::names::{Parts, joined, whole};
 use crate::row_parts::{Control, Handled, Head, RowParts, Text, Whose, add};
 use machine_definitions::Definitions;
 use mpf_config::{
-    AUTOFIRE_COILS_NAME, COIL_PLAYER_NAME, COILS_NAME, Debounce, EVENT_PLAYER_NAME, Entry,
-    EventPlayer, FLIPPERS_NAME, GAME_NAME, GameSettings, ModeSettings, Name, Player, SWITCHES_NAME,
-    Switch, VARIABLE_PLAYER_NAME, as_autofire, as_ball_device, as_coil, as_coil_player,
-    as_event_player, as_flipper, as_game, as_shot, as_shot_group, as_switch, as_variable_player,
-    mode_settings,
+    COIL_PLAYER_NAME, COILS_NAME, Debounce, EVENT_PLAYER_NAME, Entry, EventPlayer, GAME_NAME,
+    GameSettings, ModeSettings, Name, Player, SWITCHES_NAME, Switch, VARIABLE_PLAYER_NAME,
+    as_ball_device, as_coil, as_coil_player, as_event_player, as_game, as_shot, as_shot_group,
+    as_switch, as_variable_player, mode_settings,
 };
+use mpf_sections::as_coil_rule;
 use plan_rows::{Place, Row};
 use plan_tables::entries::{ModeId, Owner, SwitchKind};
 use std::alloc::AllocError;
@@ -64,7 +64,7 @@ pub fn collect_row<'a>(
     }
 }
 
-/// What an entry gives. Only the machine text has switches, coils, flippers and autofire coils.
+/// What an entry gives. Only the machine text has switches, coils and coil rules.
 #[tactic(auto, unfolding(crate::specs::Parts::entry_parts))]
 fn collect_entry<'a>(
     parts: &mut RowParts<'a>,
@@ -98,13 +98,10 @@ fn collect_machine_entry<'a>(
     if section == SWITCHES_NAME {
         return collect_switch(parts, definitions, as_switch(entry));
     }
-    if section == FLIPPERS_NAME {
-        return collect_flipper(parts, definitions, as_flipper(entry));
+    match as_coil_rule(section, entry) {
+        Some(rule) => collect_coil_rule(parts, definitions, rule),
+        None => collect_device(parts, section, entry),
     }
-    if section == AUTOFIRE_COILS_NAME {
-        return collect_autofire(parts, definitions, as_autofire(entry));
-    }
-    collect_device(parts, section, entry)
 }
 
 /// What the one entry of a section gives. Only the machine text has a game.

@@ -4,7 +4,7 @@ ghost use Rattle.std.specs.Prelude.{◌≡◌, ◌∷◌, ◌++◌, [], map, OnO
 ghost use Rattle.mpf_sections.specs.TypedCoils.{coil_item_of};
 ghost use Rattle.mpf_sections.specs.View.{coil_view, coil_item_view, keyed_view, name_at_view};
 ghost use Rattle.plan_parts.specs.CoilEntries.{limits_of_coil, defaults_called, own_pulse, own_hold, deed_by, flipper_off, flipper_on, item_effect};
-ghost use Rattle.plan_parts.specs.Gives.{AddsDevice, Gives, autofire_in, coil_gives, coil_player_gives, defaults_view, flipper_in, rule_in};
+ghost use Rattle.plan_parts.specs.Gives.{AddsDevice, Gives, autofire_in, coil_gives, coil_player_gives, coil_rule_in, defaults_view, flipper_in, rule_in};
 ghost use Rattle.plan_parts.specs.Lists.{with_last};
 ghost use Rattle.plan_parts.specs.View.{deed_view};
 
@@ -15,7 +15,7 @@ use machine_definitions::Definitions;
 use mpf_config::{
     Autofire, Coil, CoilAction, CoilItem, CoilPlayer, Flipper, Keyed, NameAt, as_coil_item,
 };
-use mpf_sections::Rule;
+use mpf_sections::{CoilRule, Rule};
 use plan_tables::devices::{Act, Settings};
 use plan_tables::entries::CoilLimits;
 use std::alloc::AllocError;
@@ -117,7 +117,21 @@ fn collect_items<'a>(
     Ok(())
 }
 
-// ---- `flippers` and `autofire_coils`
+// ---- coil rules
+
+/// A coil rule, whichever it is.
+pub(crate) fn collect_coil_rule<'a>(
+    parts: &mut RowParts<'a>,
+    definitions: &Definitions<'_>,
+    rule: CoilRule<'a>,
+) -> Result<(), AllocError>
+    ensures { OnOk result (AddsDevice parts.old parts.new (coil_rule_in definitions.now.machine rule.entry)) }
+{
+    match rule {
+        CoilRule::Flipper(row) => collect_flipper(parts, definitions, row),
+        CoilRule::Autofire(row) => collect_autofire(parts, definitions, row),
+    }
+}
 
 pub(crate) fn own_pulse(coil: Defaults) -> Deed
     ensures { deed_view result ≡ own_pulse (defaults_view coil) }
@@ -151,7 +165,7 @@ fn collect_rule<'a>(
 }
 
 /// A flipper.
-pub(crate) fn collect_flipper<'a>(
+fn collect_flipper<'a>(
     parts: &mut RowParts<'a>,
     definitions: &Definitions<'_>,
     row: Flipper<'a>,
@@ -201,7 +215,7 @@ fn collect_main_coil<'a>(
 }
 
 /// An autofire coil.
-pub(crate) fn collect_autofire<'a>(
+fn collect_autofire<'a>(
     parts: &mut RowParts<'a>,
     definitions: &Definitions<'_>,
     row: Autofire<'a>,

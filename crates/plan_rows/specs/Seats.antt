@@ -2,7 +2,7 @@
 use Rattle.std.specs.Prelude.{ℕ, suc, Bool, not, if◌then◌else◌, List, [], ◌∷◌, ◌++◌, map, fold, Option, None, Some}
 use Rattle.std.specs.{List.{flat_map, list_any}, Str.bytes_eq}
 use Rattle.yaml_subset.specs.Keys.{is_among}
-use Rattle.mpf_sections.specs.{Rows.{Written, Entry, ShotGroup, SectionRows}, TypedCoils.coil_rule_sections}
+use Rattle.mpf_sections.specs.{Rows.{Written, Entry, ShotGroup, SectionRows}, CoilRules.coil_rule_sections}
 use Rattle.mpf_sections.specs.Typed.{entries_in, counters_name, accruals_name, sequences_name, timers_name}
 use Rattle.mpf_sections.specs.TypedShots.{shots_name, shot_groups_name, shot_group_of, shot_groups_in}
 use Rattle.mpf_sections.specs.TypedBalls.{ball_devices_name, playfield, ball_device_of}

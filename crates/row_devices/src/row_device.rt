@@ -68,6 +68,24 @@ pub fn devices_of(alloc: Global, rows: &[DeviceRow]) -> Result<Vec<RowDevice>, A
     Ok(devices)
 }
 
+// What is asked of a device of any kind.
+macro_rules! each_kind {
+    ($self:expr, $device:ident => $answer:expr) => {
+        match $self {
+            RowDevice::Counter($device) => $answer,
+            RowDevice::Accrual($device) => $answer,
+            RowDevice::Sequence($device) => $answer,
+            RowDevice::Timer($device) => $answer,
+            RowDevice::Bank($device) => $answer,
+            RowDevice::Flipper($device) => $answer,
+            RowDevice::Autofire($device) => $answer,
+            RowDevice::BallDevice($device) => $answer,
+            RowDevice::BallSave($device) => $answer,
+            RowDevice::Multiball($device) => $answer,
+        }
+    };
+}
+
 impl Device for RowDevice {
     ghost use Rattle.row_devices.specs.declared.row_device.RowDevice.TheVariants as kinds;
 
@@ -98,107 +116,30 @@ impl Device for RowDevice {
     ] };
 
     fn row(&self) -> DeviceRow {
-        match self {
-            RowDevice::Counter(device) => device.row(),
-            RowDevice::Accrual(device) => device.row(),
-            RowDevice::Sequence(device) => device.row(),
-            RowDevice::Timer(device) => device.row(),
-            RowDevice::Bank(device) => device.row(),
-            RowDevice::Flipper(device) => device.row(),
-            RowDevice::Autofire(device) => device.row(),
-            RowDevice::BallDevice(device) => device.row(),
-            RowDevice::BallSave(device) => device.row(),
-            RowDevice::Multiball(device) => device.row(),
-        }
+        each_kind!(self, device => device.row())
     }
 
     fn state(&self) -> DeviceState {
-        match self {
-            RowDevice::Counter(device) => device.state(),
-            RowDevice::Accrual(device) => device.state(),
-            RowDevice::Sequence(device) => device.state(),
-            RowDevice::Timer(device) => device.state(),
-            RowDevice::Bank(device) => device.state(),
-            RowDevice::Flipper(device) => device.state(),
-            RowDevice::Autofire(device) => device.state(),
-            RowDevice::BallDevice(device) => device.state(),
-            RowDevice::BallSave(device) => device.state(),
-            RowDevice::Multiball(device) => device.state(),
-        }
+        each_kind!(self, device => device.state())
     }
 
     fn due(&self) -> Option<u64> {
-        match self {
-            RowDevice::Counter(device) => device.due(),
-            RowDevice::Accrual(device) => device.due(),
-            RowDevice::Sequence(device) => device.due(),
-            RowDevice::Timer(device) => device.due(),
-            RowDevice::Bank(device) => device.due(),
-            RowDevice::Flipper(device) => device.due(),
-            RowDevice::Autofire(device) => device.due(),
-            RowDevice::BallDevice(device) => device.due(),
-            RowDevice::BallSave(device) => device.due(),
-            RowDevice::Multiball(device) => device.due(),
-        }
+        each_kind!(self, device => device.due())
     }
 
     fn start(&mut self, now: u64, world: World) -> Outcome {
-        match self {
-            RowDevice::Counter(device) => device.start(now, world),
-            RowDevice::Accrual(device) => device.start(now, world),
-            RowDevice::Sequence(device) => device.start(now, world),
-            RowDevice::Timer(device) => device.start(now, world),
-            RowDevice::Bank(device) => device.start(now, world),
-            RowDevice::Flipper(device) => device.start(now, world),
-            RowDevice::Autofire(device) => device.start(now, world),
-            RowDevice::BallDevice(device) => device.start(now, world),
-            RowDevice::BallSave(device) => device.start(now, world),
-            RowDevice::Multiball(device) => device.start(now, world),
-        }
+        each_kind!(self, device => device.start(now, world))
     }
 
     fn stop(&mut self, now: u64, world: World) -> Outcome {
-        match self {
-            RowDevice::Counter(device) => device.stop(now, world),
-            RowDevice::Accrual(device) => device.stop(now, world),
-            RowDevice::Sequence(device) => device.stop(now, world),
-            RowDevice::Timer(device) => device.stop(now, world),
-            RowDevice::Bank(device) => device.stop(now, world),
-            RowDevice::Flipper(device) => device.stop(now, world),
-            RowDevice::Autofire(device) => device.stop(now, world),
-            RowDevice::BallDevice(device) => device.stop(now, world),
-            RowDevice::BallSave(device) => device.stop(now, world),
-            RowDevice::Multiball(device) => device.stop(now, world),
-        }
+        each_kind!(self, device => device.stop(now, world))
     }
 
     fn fire(&mut self, now: u64, world: World) -> Outcome {
-        match self {
-            RowDevice::Counter(device) => device.fire(now, world),
-            RowDevice::Accrual(device) => device.fire(now, world),
-            RowDevice::Sequence(device) => device.fire(now, world),
-            RowDevice::Timer(device) => device.fire(now, world),
-            RowDevice::Bank(device) => device.fire(now, world),
-            RowDevice::Flipper(device) => device.fire(now, world),
-            RowDevice::Autofire(device) => device.fire(now, world),
-            RowDevice::BallDevice(device) => device.fire(now, world),
-            RowDevice::BallSave(device) => device.fire(now, world),
-            RowDevice::Multiball(device) => device.fire(now, world),
-        }
+        each_kind!(self, device => device.fire(now, world))
     }
 
     fn act(&mut self, act: Act, now: u64, world: World) -> Outcome {
-        match self {
-            RowDevice::Counter(device) => device.act(act, now, world),
-            RowDevice::Accrual(device) => device.act(act, now, world),
-            RowDevice::Sequence(device) => device.act(act, now, world),
-            RowDevice::Timer(device) => device.act(act, now, world),
-            RowDevice::Bank(device) => device.act(act, now, world),
-            RowDevice::Flipper(device) => device.act(act, now, world),
-            RowDevice::Autofire(device) => device.act(act, now, world),
-            RowDevice::BallDevice(device) => device.act(act, now, world),
-            RowDevice::BallSave(device) => device.act(act, now, world),
-            RowDevice::Multiball(device) => device.act(act, now, world),
-        }
+        each_kind!(self, device => device.act(act, now, world))
     }
 }

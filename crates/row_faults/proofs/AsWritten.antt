@@ -1,6 +1,6 @@
 -- What settings have, in the order in which they are written.
 use Rattle.std.proofs.Common.{◌≡◌, ◌==◌, ℕ, true, List, length, [], ◌∷◌, ◌++◌, map, codes, refl, ap, sym, ◌∙◌, arith}
-use Rattle.std.{specs.List.{All, flat_map}, proofs.lemmas.Bool.eqb-true}
+use Rattle.std.{specs.List.{All, flat_map}, proofs.lemmas.{Bool.eqb-true, List.append-nil}}
 use Rattle.section_tables.specs.Shapes.{Setting}
 use Rattle.mpf_tables.specs.SectionTables as tables
 use Rattle.mpf_sections.specs.{Rows.{Written, Switch, BlockEvents, Counter, StepBlock}, Typed.place_of}
@@ -88,3 +88,8 @@ seen-unwritten see order parts none =
     ap (flat_map (λ part. see part.1)) (sym (ordered-unwritten parts))
     ∙ seen-in_order see [] parts
     ∙ ap (λ (places : List ℕ). in_order places (map (λ part. (part.0, see part.1)) parts)) (sym (eqb-none order none))
+
+-- two of them
+pub two-unwritten : {X : Type 0} (order : List ℕ) (p q : ℕ) (xs ys : List X) → length order == 0 ≡ true → in_order order ((p, xs) ∷ (q, ys) ∷ []) ≡ xs ++ ys
+two-unwritten {X = X} order p q xs ys none =
+    sym (seen-unwritten (λ (zs : List X). zs) order ((p, xs) ∷ (q, ys) ∷ []) none) ∙ ap (λ (zs : List X). xs ++ zs) (append-nil ys)

@@ -9,7 +9,7 @@ pub mod Sound
 pub mod Numbers
 pub mod Leads
 pub mod Routed
-pub mod Rising
+pub mod Apart
 pub mod Plain
 mod Short
 mod Ungrouped

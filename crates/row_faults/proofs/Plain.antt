@@ -11,7 +11,7 @@ use Rattle.row_faults.specs.declared.fault.RowFaultKind.TheVariants.{Name, Pulse
 use Rattle.row_faults.specs.{FaultView.RowFaultView, View.{row_fault_view, row_faults_view}}
 use Rattle.row_faults.specs.{RowFaults.listed_once, FaultsOf.printed_line, Plain.{is_mark, is_plain, IsPlain, ArePlain}}
 use Rattle.row_faults.specs.FaultText.{row_fault_number, row_title, row_place, row_fault_line}
-use Rattle.row_faults.proofs.{Rising.{number_at, place_is, same_line}, RowFaults.same_lines}
+use Rattle.row_faults.proofs.{Apart.{number_at, place_is, same_line}, RowFaults.same_lines}
 
 -- ---- plain names
 

@@ -1,9 +1,10 @@
 -- The faults of rows, as they are found.
-use Rattle.std.proofs.Common.{rules, ◌≡◌, ℕ, Bool, true, false, not, ◌||◌, List, [], ◌∷◌, ◌++◌, map, append_assoc, refl, sym, ap, ◌∙◌}
+use Rattle.std.proofs.Common.{rules, ◌≡◌, ◌≢◌, ℕ, Bool, true, false, not, ◌||◌, List, [], ◌∷◌, ◌++◌, map, codes, append_assoc, refl, sym, ap, ◌∙◌}
 use Rattle.std.specs.{List.{list_any, filter, flat_map}, Ordering.nat_cmp, BTreeMap.is_at}
-use Rattle.std.{specs.{Global.Vec, Str.bytes_eq, Cmp.Lexicographic.slice_cmp}, proofs.Math.Bool.or-false}
+use Rattle.std.specs.{Global.Vec, Str.bytes_eq, Cmp.Lexicographic.slice_cmp}
 use Rattle.std.proofs.lemmas.{Bool.{not-true, not-false}, List.{map-append, Folds.list_any-append}}
-use Rattle.yaml_subset.{specs.Keys.is_among, proofs.KeySets.contains_key}
+use Rattle.std.proofs.lemmas.{Slice.Eq.bytes_eq-Decides, Map.Text.is_eq-slice_cmp}
+use Rattle.yaml_subset.{specs.Keys.is_among, proofs.KeySets.turned}
 use Rattle.row_faults.specs.declared.fault.{RowFault.RowFault, RowFaultKind.TheVariants.Name}
 use Rattle.row_faults.specs.{FaultView.RowFaultView, CoilFaults.fault_if, View.{row_fault_view, row_faults_view}}
 use Rattle.row_faults.specs.{FaultText.row_fault_line, BallFaults.ball_device_faults}
@@ -17,14 +18,15 @@ use Rattle.row_faults.specs.ShotFaults.{shot_faults, listed_in, misplaced}
 
 -- ---- sets
 
--- whether a set has a name
-pub has_name : (keys : List (Vec ℕ)) (name : List ℕ) → list_any (λ (k : Vec ℕ). is_at (slice_cmp nat_cmp name) k.items) keys ≡ is_among (map (λ (k : Vec ℕ). k.items) keys) name
-has_name [] name = refl
-has_name (k ∷ keys) name = by (contains_key (λ (x : List ℕ). x) (k.items ∷ []) name) (has_name keys name)
-  where
-    by : (is_at (slice_cmp nat_cmp name) k.items || false) ≡ (bytes_eq k.items name || false) → list_any (λ (k : Vec ℕ). is_at (slice_cmp nat_cmp name) k.items) keys ≡ is_among (map (λ (k : Vec ℕ). k.items) keys) name
-        → (is_at (slice_cmp nat_cmp name) k.items || list_any (λ (k : Vec ℕ). is_at (slice_cmp nat_cmp name) k.items) keys) ≡ (bytes_eq k.items name || is_among (map (λ (k : Vec ℕ). k.items) keys) name)
-    by e rest = rw (sym (or-false (is_at (slice_cmp nat_cmp name) k.items)) ∙ e ∙ or-false (bytes_eq k.items name), rest) refl
+-- whether a set has an event that begins as those of modes do
+pub has_event : (keys : List (Vec ℕ)) (rest : List ℕ) → list_any (λ (k : Vec ℕ). is_at (slice_cmp nat_cmp rest) k.items) keys ≡ is_among (map (λ (k : Vec ℕ). codes "mode_" ++ k.items) keys) (codes "mode_" ++ rest)
+has_event [] rest = refl
+has_event (k ∷ keys) rest = rw (is_eq-slice_cmp rest k.items, turned k.items rest, has_event keys rest) refl
+
+-- no other name is in it
+pub no_event : (keys : List (Vec ℕ)) (name : List ℕ) → ((rest : List ℕ) → name ≢ codes "mode_" ++ rest) → is_among (map (λ (k : Vec ℕ). codes "mode_" ++ k.items) keys) name ≡ false
+no_event [] name other = refl
+no_event (k ∷ keys) name other = search (rules, bytes_eq-Decides, no_event keys name other)
 
 -- one name more
 pub took-name : (name : List ℕ) (keys older new : List (List ℕ)) → ((q : List ℕ) → is_among keys q ≡ is_among older q) → ((q : List ℕ) → is_among new q ≡ is_among (name ∷ keys) q)

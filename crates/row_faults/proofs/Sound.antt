@@ -3,10 +3,10 @@ use Rattle.std.proofs.Common.{rules, ◌≡◌, ℕ, get_or, Bool, true, false, 
 use Rattle.std.specs.{Option.is_none, List.{All, flat_map}}
 use Rattle.std.proofs.lemmas.{Bool.{ltb-false, not-false, or_parts}, List.Elements.{All-nil, All-cons, All-weaker}}
 use Rattle.mpf_tables.specs.SectionTables as tables
-use Rattle.mpf_sections.specs.Rows.{Written, Coil, CoilItem, CoilPlayer, Flipper, Autofire, CoilRule, VariablePlayer, Shot, ShotGroup, BallDevice, SectionRows}
+use Rattle.mpf_sections.specs.Rows.{Written, Coil, CoilItem, CoilPlayer, Flipper, Autofire, VariablePlayer, Shot, ShotGroup, BallDevice, SectionRows}
 use Rattle.mpf_sections.specs.{Typed.{entries_in, timers_in}, TypedBalls.ball_devices_in}
-use Rattle.mpf_sections.specs.TypedCoils.{coils_in, coil_players_in, coil_rule_of}
-use Rattle.mpf_sections.specs.{TypedGame.variable_players_in, TypedShots.{shots_in, shot_groups_in}}
+use Rattle.mpf_sections.specs.{TypedCoils.{coils_in, coil_players_in}, TypedShots.{shots_in, shot_groups_in}}
+use Rattle.mpf_sections.specs.{CoilRules.{CoilRule, coil_rule_of}, TypedGame.variable_players_in}
 use Rattle.row_faults.specs.VariableFaults.{is_barred, variable_player_faults, variable_faults}
 use Rattle.mpf_sections.specs.Short.{IsCoilInRange, IsItemInRange, IsCoilPlayerInRange}
 use Rattle.mpf_sections.proofs.CoilRows.{coils_in_range, coil_players_in_range}
@@ -61,22 +61,22 @@ module _ (machine : List SectionRows) (all : All IsCoilSound (flat_map coils_in 
   player-sound : (p : CoilPlayer) → IsCoilPlayerInRange p → coil_player_faults machine text p ≡ [] → IsCoilPlayerSound machine p
   player-sound p range e = let none = flat_map-none (item_faults machine text) p.items e in λ i d within. item-sound (get_or p.items i d) (range i d within) (none i d within)
 
-  -- ---- flippers and autofire coils
+  -- ---- coil rules
 
-  hold-sound : (f : Flipper) (o : Option Written) → hold_faults machine text f o ≡ [] → IfSome o (λ w. IsCoilSuch machine w.text (λ c. IsHoldWithin c c.hold_power))
-  hold-sound f None e = tt
-  hold-sound f (Some w) e = by (coil_called machine w.text) refl e
+  hold-sound : (line : ℕ) (o : Option Written) → hold_faults machine text line o ≡ [] → IfSome o (λ w. IsCoilSuch machine w.text (λ c. IsHoldWithin c c.hold_power))
+  hold-sound line None e = tt
+  hold-sound line (Some w) e = by (coil_called machine w.text) refl e
     where
-      by : (o : Option Coil) → coil_called machine w.text ≡ o → hold_faults_by text f w o ≡ [] → IsCoilSuch machine w.text (λ c. IsHoldWithin c c.hold_power)
+      by : (o : Option Coil) → coil_called machine w.text ≡ o → hold_faults_by text line w o ≡ [] → IsCoilSuch machine w.text (λ c. IsHoldWithin c c.hold_power)
       by x1 is e = search (rules, not-false, fault_if-none, sound)
 
   flipper-sound : (f : Flipper) → flipper_faults machine text f ≡ [] → IsFlipperSound machine f
   flipper-sound f e =
-      let parts = (codes "main_coil", coil_name_faults machine text f.main_coil) ∷ (codes "hold_coil", hold_faults machine text f f.hold_coil) ∷ (codes "activation_switch", switch_name_faults machine text f.rule.switch) ∷ [] in
+      let parts = (codes "main_coil", coil_name_faults machine text f.main_coil) ∷ (codes "hold_coil", hold_faults machine text f.rule.name.line f.hold_coil) ∷ (codes "activation_switch", switch_name_faults machine text f.rule.switch) ∷ [] in
       let none = written-none tables.flippers f.rule.order parts e in
       record {
         main_coil = named-sound f.main_coil (none 0 no_part (omega arith));
-        hold_coil = hold-sound f f.hold_coil (none 1 no_part (omega arith));
+        hold_coil = hold-sound f.rule.name.line f.hold_coil (none 1 no_part (omega arith));
         switch = switch-sound f.rule.switch (none 2 no_part (omega arith));
       }
 

@@ -4,7 +4,8 @@ use Rattle.std.specs.Prelude.{ℕ, nat_lt, Bool, true, false, not, ◌&&◌, ◌
 use Rattle.std.specs.{List.flat_map, Option.is_none}
 use Rattle.mpf_tables.specs.SectionTables as tables
 use Rattle.mpf_sections.specs.declared.words.CoilAction.{CoilAction, TheVariants.{Pulse, Enable, Disable}}
-use Rattle.mpf_sections.specs.Rows.{Written, Coil, CoilItem, CoilPlayer, Flipper, Autofire, CoilRule, flipper, autofire, SectionRows}
+use Rattle.mpf_sections.specs.Rows.{Written, Coil, CoilItem, CoilPlayer, Flipper, Autofire, SectionRows}
+use Rattle.mpf_sections.specs.CoilRules.{CoilRule, flipper, autofire}
 use Rattle.machine_definitions.specs.Definitions.{coil_called, has_switch}
 use Rattle.row_faults.specs.{declared.fault.RowFaultKind.RowFaultKind, FaultView.RowFaultView, AsWritten.as_written}
 use Rattle.row_faults.specs.declared.fault.RowFaultKind.TheVariants.{Name, PulseLimit, PowerLimit, HoldNotAllowed}
@@ -61,23 +62,24 @@ item_faults machine text i = item_faults_by text i (coil_called machine i.coil.t
 abbrev pub coil_player_faults : List SectionRows → List ℕ → CoilPlayer → List RowFaultView
 coil_player_faults machine text p = flat_map (item_faults machine text) p.items
 
--- ---- entries of `flippers` and `autofire_coils`
+-- ---- coil rules
 
--- a hold coil that may not be held is at fault at the line of the flipper
-abbrev pub hold_faults_by : List ℕ → Flipper → Written → Option Coil → List RowFaultView
-hold_faults_by text f w None = fault_at Name text w ∷ []
-hold_faults_by text f w (Some c) = fault_if (not c.may_hold) HoldNotAllowed text (record { line = f.rule.name.line; text = w.text })
+-- a coil that is to be held and may not be is at fault at the line of the entry that holds it
+abbrev pub hold_faults_by : List ℕ → ℕ → Written → Option Coil → List RowFaultView
+hold_faults_by text line w None = fault_at Name text w ∷ []
+hold_faults_by text line w (Some c) = fault_if (not c.may_hold) HoldNotAllowed text (record { line = line; text = w.text })
 
-abbrev pub hold_faults : List SectionRows → List ℕ → Flipper → Option Written → List RowFaultView
-hold_faults machine text f None = []
-hold_faults machine text f (Some w) = hold_faults_by text f w (coil_called machine w.text)
+-- what is wrong with the coil that an entry at this line holds, if it holds one
+abbrev pub hold_faults : List SectionRows → List ℕ → ℕ → Option Written → List RowFaultView
+hold_faults machine text line None = []
+hold_faults machine text line (Some w) = hold_faults_by text line w (coil_called machine w.text)
 
 -- what is wrong with the settings of an entry, in the order in which they are written
 abbrev pub flipper_faults : List SectionRows → List ℕ → Flipper → List RowFaultView
 flipper_faults machine text f =
     as_written tables.flippers f.rule.order
     ((codes "main_coil", coil_name_faults machine text f.main_coil)
-    ∷ (codes "hold_coil", hold_faults machine text f f.hold_coil)
+    ∷ (codes "hold_coil", hold_faults machine text f.rule.name.line f.hold_coil)
     ∷ (codes "activation_switch", switch_name_faults machine text f.rule.switch)
     ∷ [])
 
@@ -85,7 +87,7 @@ abbrev pub autofire_faults : List SectionRows → List ℕ → Autofire → List
 autofire_faults machine text a =
     as_written tables.autofire_coils a.rule.order ((codes "coil", coil_name_faults machine text a.coil) ∷ (codes "switch", switch_name_faults machine text a.rule.switch) ∷ [])
 
--- of an entry that may be either
+-- what is wrong with a coil rule, if the entry is one
 abbrev pub rule_faults : List SectionRows → List ℕ → Option CoilRule → List RowFaultView
 rule_faults machine text None = []
 rule_faults machine text (Some (flipper f)) = flipper_faults machine text f

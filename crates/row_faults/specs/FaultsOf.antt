@@ -1,5 +1,5 @@
 -- The faults of sections and entries as the code has them, and what its lists and sets gain.
-use Rattle.std.specs.Prelude.{◌≡◌, ◌⊎◌, ◌||◌, ℕ, Bool, List, [], ◌++◌, length, map, filter, Option, Some, option_map}
+use Rattle.std.specs.Prelude.{◌≡◌, ◌⊎◌, ◌||◌, ℕ, Bool, List, [], ◌++◌, length, map, filter, codes, Option, Some, option_map}
 use Rattle.std.specs.{List.{flat_map, list_any}, Str.bytes_eq, Borrow.Bor, Global.{Vec, Global}, BTreeSet.BTreeSet}
 use Rattle.std.specs.{HashMap.HashMap, HashSet.HashSet, declared.borrow.CowSlice.CowSlice}
 use Rattle.yaml_subset.specs.Keys.{is_among, copies_view}
@@ -15,14 +15,16 @@ use Rattle.mpf_sections.specs.declared.balls.BallDevice as typed_balls
 use Rattle.mpf_sections.specs.declared.game.VariableItem as typed_variable_items
 use Rattle.mpf_sections.specs.declared.shots.Shot as typed_shots
 use Rattle.mpf_sections.specs.declared.shots.ShotGroup as typed_groups
-use Rattle.mpf_sections.specs.{Rows.{Written, BallDevice, ShotGroup}, TypedShots.{shot_of, shots_in, shot_groups_in}}
+use Rattle.mpf_sections.specs.{Rows.{Written, BallDevice, ShotGroup}, TypedGame.variable_item_of}
+use Rattle.mpf_sections.specs.TypedShots.{shot_of, shots_in, shot_groups_in}
 use Rattle.mpf_sections.specs.Typed.{step_block_of, entries_in, switches_in, event_players_in, counters_in, timers_in}
-use Rattle.mpf_sections.specs.TypedCoils.{coils_in, coil_item_of, coil_players_in, coil_rule_of}
-use Rattle.mpf_sections.specs.{TypedBalls.ball_devices_in, TypedGame.variable_item_of}
+use Rattle.mpf_sections.specs.TypedCoils.{coils_in, coil_item_of, coil_players_in}
+use Rattle.mpf_sections.specs.{CoilRules.coil_rule_of, TypedBalls.ball_devices_in}
 use Rattle.mpf_sections.specs.View.{name_view, name_at_view, entry_view, keyed_view, content_view, section_view, coil_view, coil_item_view, flipper_view, autofire_view, ball_device_view, variable_item_view, shot_view, shot_group_view}
 use Rattle.mpf_config.specs.{declared.config.ModeText.ModeText, Rows.Rows, View.mode_view}
 use Rattle.machine_definitions.specs.{Definitions.ball_devices_of, Found.{is_found, section_rows}}
 use Rattle.row_faults.specs.declared.{fault.{RowFault.RowFault, RowFaultKind.RowFaultKind}, as_written.Named.Named}
+use Rattle.row_faults.specs.declared.fault.RowFaultKind.TheVariants.{Name as a_name, PulseLimit, PowerLimit, HoldNotAllowed, TimerAtEnd, BallRoute}
 use Rattle.row_faults.specs.{FaultView.RowFaultView, Named.named_faults}
 use Rattle.row_faults.specs.{FaultText.row_fault_line, AsWritten.{ordered_by, in_order}}
 use Rattle.row_faults.specs.Reserved.{events_of_modes, switch_posts, player_posts, counter_posts, step_posts, posts_in}
@@ -32,7 +34,7 @@ use Rattle.row_faults.specs.ShotFaults.{shot_switch_faults, profile_faults, shot
 use Rattle.row_faults.specs.BallFaults.{eject_coil_faults, target_faults, ball_device_faults, route_faults}
 use Rattle.row_faults.specs.RowFaults.{starts_at_end, timer_fault, coil_faults_in, section_faults, written_faults, text_faults, mode_faults}
 use Rattle.row_faults.specs.{Numbers.{number_found, number_of}, Collected.{FaultsView, group_faults}}
-use Rattle.row_faults.specs.View.{row_fault_view, row_faults_view, keys_view, devices_view}
+use Rattle.row_faults.specs.View.{row_fault_view, row_faults_view, events_view, devices_view}
 
 -- ---- coils
 
@@ -65,7 +67,7 @@ faults_of_coil_item f item = item_faults f.rows.machine f.text (coil_item_view i
 abbrev pub faults_by_limits : FaultsView → typed_coil_items.CoilItem → typed_coils.Coil → List RowFaultView
 faults_by_limits f item c = item_faults_by f.text (coil_item_view item) (Some (coil_view c))
 
--- of the flippers and the autofire coils of a section, and of this entry of a section of this name
+-- of the coil rules of a section, and of this entry of a section of this name
 abbrev pub faults_of_rules : FaultsView → Section → List RowFaultView
 faults_of_rules f s = flat_map (λ e. rule_faults f.rows.machine f.text (coil_rule_of s.name.items e)) (entries_in (content_view s.content))
 
@@ -75,12 +77,12 @@ faults_of_rule f section entry = rule_faults f.rows.machine f.text (coil_rule_of
 abbrev pub faults_of_flipper : FaultsView → typed_flippers.Flipper → List RowFaultView
 faults_of_flipper f flipper = flipper_faults f.rows.machine f.text (flipper_view flipper)
 
--- of the coil that holds a flipper up, if it has one; of the coil of this name
-abbrev pub faults_of_hold_coil : FaultsView → typed_flippers.Flipper → List RowFaultView
-faults_of_hold_coil f flipper = hold_faults f.rows.machine f.text (flipper_view flipper) (flipper_view flipper).hold_coil
+-- of the coil that an entry at this line holds, if it holds one; of the coil of this name
+abbrev pub faults_of_hold_coil : FaultsView → ℕ → Option NameAt → List RowFaultView
+faults_of_hold_coil f line hold = hold_faults f.rows.machine f.text line (option_map name_at_view hold)
 
-abbrev pub faults_by_hold_limits : FaultsView → typed_flippers.Flipper → NameAt → Option typed_coils.Coil → List RowFaultView
-faults_by_hold_limits f flipper hold c = hold_faults_by f.text (flipper_view flipper) (name_at_view hold) (option_map coil_view c)
+abbrev pub faults_by_hold_limits : FaultsView → ℕ → NameAt → Option typed_coils.Coil → List RowFaultView
+faults_by_hold_limits f line hold c = hold_faults_by f.text line (name_at_view hold) (option_map coil_view c)
 
 abbrev pub faults_of_autofire : FaultsView → typed_autofires.Autofire → List RowFaultView
 faults_of_autofire f a = autofire_faults f.rows.machine f.text (autofire_view a)
@@ -213,11 +215,11 @@ posts_of_names ns = map name_view ns
 
 -- a set has these events
 abbrev pub HasEvents : BTreeSet (Vec ℕ) → List (List ℕ) → Type 0
-HasEvents set events = (q : List ℕ) → is_among (keys_view set) q ≡ is_among events q
+HasEvents set events = (q : List ℕ) → is_among (events_view set) q ≡ is_among events q
 
 -- a set has gained these events
 abbrev pub GainsEvents : BTreeSet (Vec ℕ) → BTreeSet (Vec ℕ) → List (List ℕ) → Type 0
-GainsEvents old new more = HasEvents new (more ++ keys_view old)
+GainsEvents old new more = HasEvents new (more ++ events_view old)
 
 -- the events of the modes that are listed, and of those that have texts
 abbrev pub events_of_listed : List Name → List (List ℕ)
@@ -249,10 +251,10 @@ abbrev pub faults_of_sections : {S : Type 0} → FaultsView → HashSet (Bor (Li
 faults_of_sections f own taken sections = written_faults f.modes f.rows (is_found own) (is_found taken) f.text (section_rows sections)
 
 abbrev pub faults_of_text : {S : Type 0} → BTreeSet (Vec ℕ) → Rows → HashSet (Bor (List ℕ)) S → List ℕ → List Section → List RowFaultView
-faults_of_text modes rows taken text sections = text_faults (keys_view modes) rows (is_found taken) text (section_rows sections)
+faults_of_text modes rows taken text sections = text_faults (events_view modes) rows (is_found taken) text (section_rows sections)
 
 abbrev pub faults_of_modes : {S : Type 0} → BTreeSet (Vec ℕ) → Rows → HashSet (Bor (List ℕ)) S → List ModeText → List RowFaultView
-faults_of_modes modes rows taken texts = mode_faults (keys_view modes) rows (is_found taken) (map mode_view texts)
+faults_of_modes modes rows taken texts = mode_faults (events_view modes) rows (is_found taken) (map mode_view texts)
 
 -- a list of faults has grown by these
 abbrev pub GainsFaults : Vec RowFault → Vec RowFault → List RowFaultView → Type 0
@@ -269,3 +271,14 @@ printed_line fault = row_fault_line (row_fault_view fault)
 -- a set of lines has gained this one
 abbrev pub GainsLine : {S : Type 0} → HashSet (CowSlice ℕ Global) S → HashSet (CowSlice ℕ Global) S → List ℕ → Type 0
 GainsLine old new line = (q : List ℕ) → is_among (copies_view new) q ≡ (bytes_eq line q || is_among (copies_view old) q)
+
+-- ---- what is printed
+
+-- the title of a fault with the space behind it, letter by letter
+abbrev pub title_text : RowFaultKind → List ℕ
+title_text a_name = codes "fault 1 Name "
+title_text PulseLimit = codes "fault 2 PulseLimit "
+title_text PowerLimit = codes "fault 3 PowerLimit "
+title_text HoldNotAllowed = codes "fault 4 HoldNotAllowed "
+title_text TimerAtEnd = codes "fault 5 TimerAtEnd "
+title_text BallRoute = codes "fault 6 BallRoute "

@@ -12,7 +12,7 @@ pub mod Sound
 pub mod View
 -- only contracts of private functions cite these
 pub mod Named
-pub mod Rising
+pub mod Apart
 pub mod Plain
 pub mod Numbers
 pub mod Collected

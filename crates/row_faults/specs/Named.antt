@@ -1,6 +1,6 @@
 -- What contracts of the functions inside this crate see of what a setting names.
 use Rattle.std.specs.{Prelude.{ℕ, List, map, option_map}, List.flat_map}
-use Rattle.mpf_sections.specs.View.{name_view, name_at_view, flipper_view}
+use Rattle.mpf_sections.specs.View.{name_view, name_at_view}
 use Rattle.mpf_config.specs.Rows.{Rows}
 use Rattle.row_faults.specs.{declared.as_written.Named.Named, FaultView.RowFaultView}
 use Rattle.row_faults.specs.declared.as_written.Named.TheVariants as named
@@ -11,7 +11,7 @@ use Rattle.row_faults.specs.BallFaults.{eject_coil_faults, target_faults}
 -- what is wrong with what a setting names
 abbrev pub named_faults : Rows → List ℕ → Named → List RowFaultView
 named_faults rows text (named.Coil w) = eject_coil_faults rows.machine text (option_map name_at_view w)
-named_faults rows text (named.HoldCoil f) = hold_faults rows.machine text (flipper_view f) (flipper_view f).hold_coil
+named_faults rows text (named.HoldCoil line w) = hold_faults rows.machine text line (option_map name_at_view w)
 named_faults rows text (named.Switch w) = shot_switch_faults rows.machine text (option_map name_at_view w)
 named_faults rows text (named.Switches ws) = flat_map (switch_name_faults rows.machine text) (map name_view ws.now)
 named_faults rows text (named.Profile w) = profile_faults rows text (name_at_view w)

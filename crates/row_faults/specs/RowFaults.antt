@@ -2,8 +2,9 @@
 use Rattle.std.specs.{Prelude.{ℕ, Bool, false, if◌then◌else◌, List, [], ◌∷◌, ◌++◌, map, filter}, List.flat_map}
 use Rattle.yaml_subset.specs.Keys.{is_among}
 use Rattle.machine_settings.specs.Ends.{is_at_end}
-use Rattle.mpf_sections.specs.{Rows.{Written, Timer, SectionRows}, Typed.{entries_in, timers_in}}
-use Rattle.mpf_sections.specs.TypedCoils.{coils_in, coil_players_in, coil_rule_of}
+use Rattle.mpf_sections.specs.{Rows.{Written, Timer, SectionRows}, TypedCoils.{coils_in, coil_players_in}}
+use Rattle.mpf_sections.specs.{Typed.{entries_in, timers_in}, TypedBalls.ball_devices_in}
+use Rattle.mpf_sections.specs.{CoilRules.coil_rule_of, TypedShots.shots_in}
 use Rattle.mpf_config.specs.{Rows.{ModeRows, Rows}, BundleText.{machine_name, mode_text_name}}
 use Rattle.row_faults.specs.declared.fault.RowFaultKind.TheVariants.{Name, TimerAtEnd}
 use Rattle.row_faults.specs.{FaultView.RowFaultView, AsWritten.ordered_by, VariableFaults.variable_faults}
@@ -13,7 +14,6 @@ use Rattle.row_faults.specs.CoilFaults.{fault_at, coil_faults, coil_player_fault
 use Rattle.machine_definitions.specs.Definitions.{ball_devices_of}
 use Rattle.row_faults.specs.BallFaults.{ball_device_faults, route_faults}
 use Rattle.row_faults.specs.ShotFaults.{shot_faults, listed_in, listed_of, is_own_shot, taken_after, misplaced}
-use Rattle.mpf_sections.specs.{TypedShots.shots_in, TypedBalls.ball_devices_in}
 
 -- ---- one section
 

@@ -4,11 +4,11 @@
 use Rattle.std.specs.Prelude.{◌≡◌, ◌≢◌, ℕ, ◌≤◌, true, false, ◌||◌, Option, None, Some, IfSome, IsSome, is_some, List, unwrap_or}
 use Rattle.std.specs.List.{All, AllPairs, flat_map}
 use Rattle.mpf_sections.specs.declared.words.CoilAction.{CoilAction, TheVariants.{Pulse, Enable, Disable}}
-use Rattle.mpf_sections.specs.Rows.{Coil, CoilItem, CoilPlayer, Flipper, Autofire, CoilRule, flipper, autofire, VariableItem, Shot, ShotGroup, BallDevice, SectionRows}
-use Rattle.mpf_sections.specs.{Typed.entries_in, TypedGame.variable_players_in}
-use Rattle.mpf_sections.specs.TypedCoils.{coils_in, coil_players_in, coil_rule_of}
+use Rattle.mpf_sections.specs.Rows.{Coil, CoilItem, CoilPlayer, Flipper, Autofire, VariableItem, Shot, ShotGroup, BallDevice, SectionRows}
+use Rattle.mpf_sections.specs.{Typed.entries_in, TypedGame.variable_players_in, TypedBalls.{is_trough, ball_devices_in}}
+use Rattle.mpf_sections.specs.{TypedCoils.{coils_in, coil_players_in}, TypedShots.{shots_in, shot_groups_in}}
+use Rattle.mpf_sections.specs.CoilRules.{CoilRule, flipper, autofire, coil_rule_of}
 use Rattle.mpf_config.specs.Rows.{Rows}
-use Rattle.mpf_sections.specs.{TypedBalls.{is_trough, ball_devices_in}, TypedShots.{shots_in, shot_groups_in}}
 use Rattle.machine_definitions.specs.Definitions.{coil_called, has_switch, ball_devices_of}
 use Rattle.machine_definitions.specs.Shots.{shot_called, has_profile}
 use Rattle.row_faults.specs.Reserved.{events_of_modes, is_reserved, mode_names, posts_of}

@@ -1,5 +1,5 @@
 -- What contracts see of faults.
-use Rattle.std.specs.{Prelude.{ℕ, List, map}, BTreeSet.BTreeSet, Global.Vec, Rc.rc_slice_items}
+use Rattle.std.specs.{Prelude.{ℕ, List, ◌++◌, map, codes}, BTreeSet.BTreeSet, Global.Vec, Rc.rc_slice_items}
 use Rattle.mpf_sections.specs.declared.balls.BallDevice as typed_balls
 use Rattle.mpf_sections.specs.{Rows.BallDevice, View.ball_device_view}
 use Rattle.row_faults.specs.{declared.fault.RowFault.RowFault, FaultView.RowFaultView}
@@ -10,9 +10,9 @@ row_fault_view f = record { kind = f.kind; text = rc_slice_items f.text.letters;
 abbrev pub row_faults_view : List RowFault → List RowFaultView
 row_faults_view faults = map row_fault_view faults
 
--- the keys of a set of names, or of lines
-abbrev pub keys_view : BTreeSet (Vec ℕ) → List (List ℕ)
-keys_view set = map (λ key. key.items) set.keys
+-- the events in a set, which has each without the `mode_` that it begins with
+abbrev pub events_view : BTreeSet (Vec ℕ) → List (List ℕ)
+events_view set = map (λ rest. codes "mode_" ++ rest.items) set.keys
 
 -- ball devices, apart from where they lie in memory
 abbrev pub devices_view : List typed_balls.BallDevice → List BallDevice

@@ -10,7 +10,7 @@ use crate::ball_faults::{add_named_coil, add_switches, add_target};
 use crate::coil_faults::add_hold_coil;
 use crate::collector::Faults;
 use crate::shot_faults::{add_named_switch, add_profile};
-use mpf_config::{Flipper, Name, NameAt};
+use mpf_config::{Name, NameAt};
 use std::alloc::{AllocError, Global};
 
 /// What a setting of an entry names.
@@ -18,8 +18,8 @@ use std::alloc::{AllocError, Global};
 pub(crate) enum Named<'a> {
     /// A coil, if it names one.
     Coil(Option<NameAt<'a>>),
-    /// The coil that holds this flipper up, if it has one for that.
-    HoldCoil(Flipper<'a>),
+    /// The coil that an entry at this line holds, if it names one.
+    HoldCoil(u32, Option<NameAt<'a>>),
     /// A switch, if it names one.
     Switch(Option<NameAt<'a>>),
     /// Switches.
@@ -92,7 +92,7 @@ fn add_named(faults: &mut Faults<'_, '_>, named: Named<'_>) -> Result<(), AllocE
 {
     match named {
         Named::Coil(coil) => add_named_coil(faults, coil),
-        Named::HoldCoil(flipper) => add_hold_coil(faults, flipper),
+        Named::HoldCoil(line, coil) => add_hold_coil(faults, line, coil),
         Named::Switch(switch) => add_named_switch(faults, switch),
         Named::Switches(switches) => add_switches(faults, switches),
         Named::Profile(profile) => add_profile(faults, profile),

@@ -175,9 +175,9 @@ fn may_not_hold(action: CoilAction, coil: Coil<'_>) -> bool
     }
 }
 
-// ---- `flippers` and `autofire_coils`
+// ---- coil rules
 
-/// Adds the faults of the flippers and the autofire coils of a section.
+/// Adds the faults of the coil rules of a section.
 fn add_rules(faults: &mut Faults<'_, '_>, section: &Section) -> Result<(), AllocError>
     ensures { OnOk result (Gains faults.old faults.new (faults_of_rules faults.old section.now)) }
 {
@@ -188,8 +188,7 @@ fn add_rules(faults: &mut Faults<'_, '_>, section: &Section) -> Result<(), Alloc
     Ok(())
 }
 
-/// Adds the faults of an entry of the section of this name, if it is a flipper or an autofire
-/// coil.
+/// Adds the faults of an entry of the section of this name, if it is a coil rule.
 fn add_rule(faults: &mut Faults<'_, '_>, section: &[u8], entry: &Entry) -> Result<(), AllocError>
     ensures { OnOk result (Gains faults.old faults.new (faults_of_rule faults.old section.now entry.now)) }
 {
@@ -206,42 +205,46 @@ fn add_flipper(faults: &mut Faults<'_, '_>, flipper: Flipper<'_>) -> Result<(), 
 {
     let parts = [
         (MAIN_COIL, Named::Coil(Some(flipper.main_coil))),
-        (HOLD_COIL, Named::HoldCoil(flipper)),
+        (
+            HOLD_COIL,
+            Named::HoldCoil(flipper.rule.name.line, flipper.hold_coil),
+        ),
         (ACTIVATION_SWITCH, Named::Switch(Some(flipper.rule.switch))),
     ];
     add_as_written(faults, flipper.rule.order, &parts)
 }
 
-/// Adds the fault of a flipper's hold coil, if it has one.
+/// Adds the fault of the coil that an entry at this line holds, if it holds one.
 pub(crate) fn add_hold_coil(
     faults: &mut Faults<'_, '_>,
-    flipper: Flipper<'_>,
+    line: u32,
+    hold: Option<NameAt<'_>>,
 ) -> Result<(), AllocError>
-    ensures { OnOk result (Gains faults.old faults.new (faults_of_hold_coil faults.old flipper.entry)) }
+    ensures { OnOk result (Gains faults.old faults.new (faults_of_hold_coil faults.old line hold.entry)) }
 {
-    match flipper.hold_coil {
+    match hold {
         Some(hold) => {
             let coil = faults.definitions.coil(hold.text);
-            add_hold(faults, flipper, hold, coil)
+            add_hold(faults, line, hold, coil)
         }
         None => Ok(()),
     }
 }
 
-/// Adds the fault of a hold coil: there is no such coil, or the flipper holds what may not be held.
+/// Adds the fault of a coil that is held: there is no such coil, or it may not be held.
 fn add_hold(
     faults: &mut Faults<'_, '_>,
-    flipper: Flipper<'_>,
+    line: u32,
     hold: NameAt<'_>,
     coil: Option<Coil<'_>>,
 ) -> Result<(), AllocError>
-    ensures { OnOk result (Gains faults.old faults.new (faults_by_hold_limits faults.old flipper.entry hold.entry coil.entry)) }
+    ensures { OnOk result (Gains faults.old faults.new (faults_by_hold_limits faults.old line hold.entry coil.entry)) }
 {
     match coil {
         Some(coil) => {
             let refused = !coil.may_hold;
             let place = NameAt {
-                line: flipper.rule.name.line,
+                line,
                 text: hold.text,
             };
             add_if(faults, refused, RowFaultKind::HoldNotAllowed, place)

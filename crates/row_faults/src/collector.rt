@@ -1,6 +1,6 @@
 //! The faults that are found in a text, and what they depend on.
 
-ghost use Rattle.std.specs.Prelude.{◌≡◌, IfOk, OnOk};
+ghost use Rattle.std.specs.Prelude.{◌≡◌, true, IfOk, OnOk};
 ghost use Rattle.std.specs.Rc.{rc_slice_items};
 ghost use Rattle.mpf_sections.specs.View.{name_view, name_at_view};
 ghost use Rattle.row_faults.specs.CoilFaults.{fault_at};
@@ -33,11 +33,11 @@ pub(crate) struct Faults<'k, 'd> {
 impl<'k, 'd> Model for Faults<'k, 'd> {
     ghost use Rattle.std.specs.Rc.{rc_slice_items};
     ghost use Rattle.row_faults.specs.Collected.{FaultsView};
-    ghost use Rattle.row_faults.specs.View.{keys_view, row_faults_view};
+    ghost use Rattle.row_faults.specs.View.{events_view, row_faults_view};
 
     ghost Value = { FaultsView };
 
-    ghost view = { λ f. record { rows = f.definitions.now; modes = keys_view f.modes.now; text = rc_slice_items f.text.now.letters; found = row_faults_view f.found.items } };
+    ghost view = { λ f. record { rows = f.definitions.now; modes = events_view f.modes.now; text = rc_slice_items f.text.now.letters; found = row_faults_view f.found.items } };
 }
 
 /// The faults that were found.
@@ -74,7 +74,8 @@ fn fault_at(
     })
 }
 
-/// Adds a fault of this name of the text, if something is wrong.
+/// Adds a fault of this name of the text, if something is wrong. Inlined, as mostly nothing is.
+#[inline(always)]
 pub(crate) fn add_if(
     faults: &mut Faults<'_, '_>,
     wrong: bool,
@@ -84,8 +85,16 @@ pub(crate) fn add_if(
     ensures { OnOk result (Gains faults.old faults.new (fault_where faults.old wrong kind name.entry)) }
 {
     if wrong {
-        let fault = fault_at(faults.alloc, kind, faults.text, name)?;
-        faults.found.push(fault)?;
+        add(faults, kind, name)?;
     }
+    Ok(())
+}
+
+/// Adds a fault of this name of the text.
+fn add(faults: &mut Faults<'_, '_>, kind: RowFaultKind, name: NameAt<'_>) -> Result<(), AllocError>
+    ensures { OnOk result (Gains faults.old faults.new (fault_where faults.old true kind name.entry)) }
+{
+    let fault = fault_at(faults.alloc, kind, faults.text, name)?;
+    faults.found.push(fault)?;
     Ok(())
 }

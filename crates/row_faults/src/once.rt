@@ -1,10 +1,11 @@
 //! Faults that print the same line are listed once.
 
 ghost use Rattle.std.specs.Prelude.{◌≡◌, ◌<◌, ◌^◌, [], true, not, IfOk};
+ghost use Rattle.std.specs.Str.{bytes_eq};
 ghost use Rattle.yaml_subset.specs.Keys.{is_among, copies_view};
 ghost use Rattle.row_faults.specs.RowFaults.{listed_once};
 ghost use Rattle.row_faults.specs.Plain.{ArePlain, IsPlain};
-ghost use Rattle.row_faults.specs.Rising.{HaveLines, are_rising, is_before_next};
+ghost use Rattle.row_faults.specs.Apart.{HaveLines, are_apart, is_apart, is_in_order};
 ghost use Rattle.row_faults.specs.View.{row_fault_view, row_faults_view};
 ghost use Rattle.row_faults.specs.FaultsOf.{GainsLine, printed_line};
 
@@ -23,7 +24,7 @@ pub(crate) fn listed_once(
 ) -> Result<Vec<RowFault>, AllocError>
     ensures { IfOk result (λ listed. row_faults_view listed.items ≡ listed_once [] (row_faults_view faults.items)) }
 {
-    if are_rising(&faults) {
+    if are_apart(&faults) {
         return Ok(faults);
     }
     if are_plain(&faults) {
@@ -32,15 +33,16 @@ pub(crate) fn listed_once(
     first_of_each_line(alloc, hashing, faults)
 }
 
-/// Whether the faults are of one text, and each is on a later line than the one before it. No two of
-/// these print the same line.
-fn are_rising(faults: &[RowFault]) -> bool
-    ensures value { result ≡ are_rising (row_faults_view faults.now) }
+/// Whether the faults are of one text, by line and number, and have different names if their lines
+/// and numbers are the same. No two of these print the same line. It may be so, and not be seen, if
+/// there are more than [`COMPARED`] of one line and number.
+fn are_apart(faults: &[RowFault]) -> bool
+    ensures value { result ≡ true → are_apart (row_faults_view faults.now) ≡ true }
     ensures lines { result ≡ true → HaveLines (row_faults_view faults.now) }
 {
     let mut rest = faults;
     while let [fault, after @ ..] = rest {
-        if !is_before_next(fault, after) {
+        if !is_in_order(fault, after) || !is_apart(fault, after) {
             return false;
         }
         rest = after;
@@ -48,16 +50,57 @@ fn are_rising(faults: &[RowFault]) -> bool
     true
 }
 
-/// Whether a fault is of the text of the next one, and on an earlier line, if there is a next one.
-fn is_before_next(fault: &RowFault, after: &[RowFault]) -> bool
-    ensures value { result ≡ is_before_next (row_fault_view fault.now) (row_faults_view after.now) }
+/// Whether a fault is of the text of the next one, and not behind it by line and number, if there is
+/// a next one.
+fn is_in_order(fault: &RowFault, after: &[RowFault]) -> bool
+    ensures value { result ≡ is_in_order (row_fault_view fault.now) (row_faults_view after.now) }
     ensures line { fault.now.line < 2 ^ 64 }
 {
     let line = fault.line;
     match after {
         [] => true,
-        [next, ..] => line < next.line && fault.text == next.text,
+        [next, ..] => {
+            line <= next.line
+                && (line < next.line || fault.kind.number() <= next.kind.number())
+                && fault.text == next.text
+        }
     }
+}
+
+/// How many faults of one line and number are compared one by one. More of them are hashed.
+const COMPARED: usize = 32;
+
+/// Whether none of these up to the next line or number has the name of the fault before them.
+fn is_apart(fault: &RowFault, after: &[RowFault]) -> bool
+    ensures { result ≡ true → is_apart (row_fault_view fault.now) (row_faults_view after.now) ≡ true }
+{
+    let name: &[u8] = &fault.name;
+    let mut rest = after;
+    let mut left = COMPARED;
+    while let [next, behind @ ..] = rest {
+        if fault.line < next.line || fault.kind.number() < next.kind.number() {
+            return true;
+        }
+        if left == 0 || !differ(name, &next.name) {
+            return false;
+        }
+        left -= 1;
+        rest = behind;
+    }
+    true
+}
+
+/// Whether two names differ. Most that do differ in their last letters, so these come first.
+fn differ(name: &[u8], other: &[u8]) -> bool
+    ensures { result ≡ not (bytes_eq name.now other.now) }
+{
+    if let [.., last] = name
+        && let [.., end] = other
+        && *last != *end
+    {
+        return true;
+    }
+    name != other
 }
 
 /// Whether the names of all texts of these are printed as they are, and as one word. Two of these

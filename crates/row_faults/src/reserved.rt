@@ -5,7 +5,7 @@ ghost use Rattle.yaml_subset.specs.Keys.{is_among};
 ghost use Rattle.machine_definitions.specs.GameEvents.{reserved_game_events};
 ghost use Rattle.row_faults.specs.Collected.{Gains, post_faults};
 ghost use Rattle.row_faults.specs.Reserved.{mode_events, is_reserved_by};
-ghost use Rattle.row_faults.specs.View.{keys_view};
+ghost use Rattle.row_faults.specs.View.{events_view};
 ghost use Rattle.row_faults.specs.FaultsOf.{GainsEvents, HasEvents, events_of_listed, events_of_texts, posts_by_section, posts_in_order, posts_of_counters, posts_of_names, posts_of_parts, posts_of_players, posts_of_steps, posts_of_switches};
 
 use crate::as_written::as_written;
@@ -23,7 +23,7 @@ use mpf_tables::tables::{
 use std::alloc::{AllocError, Global};
 use std::collections::BTreeSet;
 
-/// The names of the events of modes.
+/// The names of events of modes, each without the `mode_` that it begins with.
 pub(crate) type ModeEvents = BTreeSet<Vec<u8>>;
 
 // ---- names
@@ -45,7 +45,7 @@ pub(crate) fn add_texts(
     events: &mut ModeEvents,
     texts: &[ModeText],
 ) -> Result<(), AllocError>
-    ensures { OnOk result (HasEvents events.new (keys_view events.old ++ events_of_texts texts.now)) }
+    ensures { OnOk result (HasEvents events.new (events_view events.old ++ events_of_texts texts.now)) }
 {
     for text in texts {
         add_mode(alloc, events, &text.name)?;
@@ -73,10 +73,9 @@ fn add_event(
 ) -> Result<(), AllocError>
     ensures { OnOk result (GainsEvents events.old events.new ((codes "mode_" ++ mode.now ++ end.now) ∷ [])) }
 {
-    let mut name = Vec::from_slice(alloc, b"mode_")?;
-    name.extend_from_slice(mode)?;
-    name.extend_from_slice(end)?;
-    let _added = events.insert(name)?;
+    let mut rest = Vec::from_slice(alloc, mode)?;
+    rest.extend_from_slice(end)?;
+    let _added = events.insert(rest)?;
     Ok(())
 }
 
@@ -84,21 +83,34 @@ fn add_event(
 const SHORTEST: usize = 10;
 
 /// Whether a name is that of an event of a game that no row may post. Most names are shorter than
-/// these.
+/// these, or begin with another letter.
 fn is_of_game(name: &[u8]) -> bool
     ensures { result ≡ is_among reserved_game_events name.now }
 {
     if name.len() < SHORTEST {
         return false;
     }
-    is_reserved_game_event(name)
+    match name[0] {
+        b'b' | b'g' | b'p' => is_reserved_game_event(name),
+        _ => false,
+    }
+}
+
+/// Whether a name is that of one of these events of modes. Few names begin as those do.
+fn is_of_mode(modes: &ModeEvents, name: &[u8]) -> bool
+    ensures { result ≡ is_among (events_view modes.now) name.now }
+{
+    match name.strip_prefix(b"mode_") {
+        Some(rest) => modes.contains(rest),
+        None => false,
+    }
 }
 
 /// Whether a name is one of an event of a game, or one of these events of modes.
 pub(crate) fn is_reserved(modes: &ModeEvents, name: &[u8]) -> bool
-    ensures { result ≡ is_reserved_by (keys_view modes.now) name.now }
+    ensures { result ≡ is_reserved_by (events_view modes.now) name.now }
 {
-    is_of_game(name) || modes.contains(name)
+    is_of_game(name) || is_of_mode(modes, name)
 }
 
 // ---- posts

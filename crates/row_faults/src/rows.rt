@@ -6,7 +6,7 @@ ghost use Rattle.mpf_config.specs.View.{rows_view};
 ghost use Rattle.row_faults.specs.Collected.{Gains};
 ghost use Rattle.row_faults.specs.RowFaults.{starts_at_end, fault_line, fault_number, faults_by, row_faults};
 ghost use Rattle.row_faults.specs.Sound.{IsSound};
-ghost use Rattle.row_faults.specs.View.{keys_view, row_faults_view};
+ghost use Rattle.row_faults.specs.View.{events_view, row_faults_view};
 ghost use Rattle.row_faults.specs.FaultsOf.{GainsFaults, Sorts, Takes, faults_of_modes, faults_of_section, faults_of_sections, faults_of_text, faults_of_timers, listed_by_section, listed_by_sections};
 
 use crate::ball_faults::add_ball_devices;
@@ -59,7 +59,7 @@ fn faults_of_texts<'a>(
     config: &'a Config,
 ) -> Result<Vec<RowFault>, AllocError>
     requires { definitions.now ≡ rows_view config.now }
-    ensures { IfOk result (λ faults. row_faults_view faults.items ≡ faults_by (keys_view modes.now) (rows_view config.now)) }
+    ensures { IfOk result (λ faults. row_faults_view faults.items ≡ faults_by (events_view modes.now) (rows_view config.now)) }
 {
     let machine: &'a [Section] = config.machine.sections.as_slice();
     let texts: &'a [ModeText] = config.modes.as_slice();
@@ -92,6 +92,11 @@ fn add_modes<'a>(
 fn add_all(faults: &mut Vec<RowFault>, own: Vec<RowFault>) -> Result<(), AllocError>
     ensures { OnOk result (GainsFaults faults.old faults.new (row_faults_view own.items)) }
 {
+    // (the faults of one text are often all there are)
+    if faults.is_empty() {
+        *faults = own;
+        return Ok(());
+    }
     faults.reserve(own.len())?;
     for fault in own {
         faults.push(fault)?;

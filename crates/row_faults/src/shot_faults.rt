@@ -37,10 +37,14 @@ pub(crate) fn add_shots(faults: &mut Faults<'_, '_>, section: &Section) -> Resul
     Ok(())
 }
 
-/// Adds the faults of a shot.
+/// Adds the faults of a shot. Most have no settings, and then nothing has to be put in order.
 fn add_shot(faults: &mut Faults<'_, '_>, shot: Shot<'_>) -> Result<(), AllocError>
     ensures { OnOk result (Gains faults.old faults.new (faults_of_shot faults.old shot.entry)) }
 {
+    if shot.order.is_empty() {
+        add_named_switch(faults, shot.switch)?;
+        return add_profile(faults, shot.profile);
+    }
     let parts = [
         (SWITCH, Named::Switch(shot.switch)),
         (PROFILE, Named::Profile(shot.profile)),

@@ -3,7 +3,7 @@
 ghost use Rattle.std.specs.Prelude.{◌≡◌, IfOk, OnOk};
 ghost use Rattle.row_faults.specs.Collected.{Gains};
 ghost use Rattle.row_faults.specs.VariableFaults.{is_barred};
-ghost use Rattle.row_faults.specs.View.{keys_view};
+ghost use Rattle.row_faults.specs.View.{events_view};
 ghost use Rattle.row_faults.specs.FaultsOf.{faults_of_variable_item, faults_of_variable_items, faults_of_variables};
 
 use crate::collector::{Faults, add_if, at};
@@ -54,7 +54,7 @@ fn add_item(faults: &mut Faults<'_, '_>, item: VariableItem<'_>) -> Result<(), A
 
 /// Whether no row may change the variable of this name.
 fn is_barred(alloc: Global, modes: &ModeEvents, variable: &[u8]) -> Result<bool, AllocError>
-    ensures { IfOk result (λ barred. barred ≡ is_barred (keys_view modes.now) variable.now) }
+    ensures { IfOk result (λ barred. barred ≡ is_barred (events_view modes.now) variable.now) }
 {
     if variable == BALL || variable == NUMBER {
         return Ok(true);

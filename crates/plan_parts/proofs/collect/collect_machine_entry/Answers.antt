@@ -1,9 +1,8 @@
-use Rattle.std.proofs.Common.{[], ◌∷◌, sym, ap, ◌∙◌}
-use Rattle.mpf_sections.specs.{Rows.{Coil, Switch, Flipper, Autofire}, View.entry_view}
-use Rattle.plan_parts.specs.{CoilEntries.{flipper_device, autofire_device}, Parts.{device, coil_part, switch_part}}
-use Rattle.plan_parts.specs.Gives.{machine_entry_gives, device_entry_gives, switch_gives, flipper_in, autofire_in}
-use Rattle.plan_parts.proofs.Gives.{gives_added, gives_same}
-use Rattle.plan_parts.proofs.RowKinds.{coil_there, switch_there, flipper_there, autofire_there, device_there}
+use Rattle.std.{proofs.Common.{[], ◌∷◌, sym, ap, ◌∙◌}, specs.Prelude.option_map}
+use Rattle.mpf_sections.specs.{Rows.{Coil, Switch}, View.entry_view, CoilRules.coil_rule_view}
+use Rattle.plan_parts.{specs.Parts.{coil_part, switch_part}, proofs.Gives.{gives_added, gives_same}}
+use Rattle.plan_parts.specs.Gives.{machine_entry_gives, device_entry_gives, switch_gives, coil_rule_in}
+use Rattle.plan_parts.proofs.RowKinds.{coil_there, switch_there, rule_there, device_there}
 use Rattle.plan_parts.proofs.collect.collect_machine_entry.Goals as goal
 
 pub returns-then-eq : goal.returns-then-eq
@@ -23,30 +22,20 @@ returns-then-eq-2 c =
     ∙ switch_there machine section (entry_view c.args.entry.now) whose (sym c.eq.ensures ∙ c.if-eq.false) (sym c.eq-2.ensures ∙ c.if-eq-2.true))
     c.collect_switch.ensures
 
-pub returns-then-eq-3 : goal.returns-then-eq-3
-returns-then-eq-3 c =
+pub returns-in-Some : goal.returns-in-Some
+returns-in-Some c =
     let machine = c.args.definitions.now.machine in
     let section = c.args.section.now in
-    gives_added c.collect_flipper.result c.args.parts.now c.collect_flipper.new.parts (flipper_in machine c.as_flipper.result) (machine_entry_gives machine section c.args.entry.now)
-    (λ whose. ap (λ (x : Flipper). device whose (flipper_device machine x) ∷ []) c.as_flipper.ensures
-    ∙ flipper_there machine section (entry_view c.args.entry.now) whose (sym c.eq.ensures ∙ c.if-eq.false) (sym c.eq-2.ensures ∙ c.if-eq-2.false) (sym c.eq-3.ensures ∙ c.if-eq-3.true))
-    c.collect_flipper.ensures
+    let is = ap (option_map coil_rule_view) (sym c.in-Some.is) ∙ c.as_coil_rule.ensures in
+    gives_added c.collect_coil_rule.result c.args.parts.now c.collect_coil_rule.new.parts (coil_rule_in machine c.in-Some.rule) (machine_entry_gives machine section c.args.entry.now)
+    (λ whose. rule_there machine section (entry_view c.args.entry.now) whose (sym c.eq.ensures ∙ c.if-eq.false) (sym c.eq-2.ensures ∙ c.if-eq-2.false) (coil_rule_view c.in-Some.rule) is)
+    c.collect_coil_rule.ensures
 
-pub returns-then-eq-4 : goal.returns-then-eq-4
-returns-then-eq-4 c =
+pub returns-in-None : goal.returns-in-None
+returns-in-None c =
     let machine = c.args.definitions.now.machine in
     let section = c.args.section.now in
-    gives_added c.collect_autofire.result c.args.parts.now c.collect_autofire.new.parts (autofire_in machine c.as_autofire.result) (machine_entry_gives machine section c.args.entry.now)
-    (λ whose. ap (λ (x : Autofire). device whose (autofire_device machine x) ∷ []) c.as_autofire.ensures
-    ∙ autofire_there machine section (entry_view c.args.entry.now) whose (sym c.eq.ensures ∙ c.if-eq.false) (sym c.eq-2.ensures ∙ c.if-eq-2.false) (sym c.eq-3.ensures ∙ c.if-eq-3.false)
-    (sym c.eq-4.ensures ∙ c.if-eq-4.true))
-    c.collect_autofire.ensures
-
-pub returns : goal.returns
-returns c =
-    let machine = c.args.definitions.now.machine in
-    let section = c.args.section.now in
+    let is = ap (option_map coil_rule_view) (sym c.in-None.is) ∙ c.as_coil_rule.ensures in
     gives_same c.collect_device.result c.args.parts.now c.collect_device.new.parts (device_entry_gives section c.args.entry.now) (machine_entry_gives machine section c.args.entry.now)
-    (λ whose. device_there machine section (entry_view c.args.entry.now) whose (sym c.eq.ensures ∙ c.if-eq.false) (sym c.eq-2.ensures ∙ c.if-eq-2.false) (sym c.eq-3.ensures ∙ c.if-eq-3.false)
-    (sym c.eq-4.ensures ∙ c.if-eq-4.false))
+    (λ whose. device_there machine section (entry_view c.args.entry.now) whose (sym c.eq.ensures ∙ c.if-eq.false) (sym c.eq-2.ensures ∙ c.if-eq-2.false) is)
     c.collect_device.ensures

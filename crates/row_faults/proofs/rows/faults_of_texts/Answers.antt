@@ -2,13 +2,13 @@ use Rattle.std.{proofs.Common.{◌≡◌, ◌++◌, ℕ, Bool, List, map, ap, �
 use Rattle.mpf_sections.specs.View.{section_view}
 use Rattle.mpf_config.specs.{BundleText.machine_name, View.{mode_view, rows_view}}
 use Rattle.machine_definitions.specs.Found.{has_bytes, is_found}
-use Rattle.row_faults.specs.{FaultView.RowFaultView, ShotFaults.{listed_of, taken_after}, View.keys_view}
+use Rattle.row_faults.specs.{FaultView.RowFaultView, ShotFaults.{listed_of, taken_after}, View.events_view}
 use Rattle.row_faults.specs.RowFaults.{text_faults, mode_faults, is_none_taken}
 use Rattle.row_faults.proofs.rows.faults_of_texts.Goals as goal
 
 pub returns : goal.returns
 returns c =
-    let modes = keys_view c.args.modes.now in
+    let modes = events_view c.args.modes.now in
     let given = c.args.definitions.now in
     let machine = c.as_slice-machine.result.now in
     let texts = c.as_slice-texts.result.now in
