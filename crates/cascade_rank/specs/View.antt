@@ -25,6 +25,11 @@ abbrev pub GivesFound : Result (List ℕ) RankFault → Result (List ℕ) RankVi
 GivesFound (Ok weights) found = found ≡ Ok weights
 GivesFound (Err fault) found = IfRank fault (λ reported. found ≡ Err reported)
 
+-- The same, of weights with their bound.
+abbrev pub GivesBounded : Result (List ℕ × Bound) RankFault → Result (List ℕ) RankView → Type 0
+GivesBounded (Ok (weights, bound)) found = found ≡ Ok weights
+GivesBounded (Err fault) found = IfRank fault (λ reported. found ≡ Err reported)
+
 -- The answer is what verifying gives. That takes no memory.
 abbrev pub GivesBound : Result Bound RankFault → Result ℕ RankView → Type 0
 GivesBound (Ok bound) verified = verified ≡ Ok bound.0

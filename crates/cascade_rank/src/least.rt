@@ -3,14 +3,15 @@
 ghost use Rattle.std.specs.Prelude.{◌+◌, IfOk, IfErr};
 ghost use Rattle.cascade_rank.specs.Weights.{IsLeastFitting, IsWithinLimit, greatest};
 ghost use Rattle.cascade_rank.specs.Finding.{found_at};
-ghost use Rattle.cascade_rank.specs.View.{GivesFound, IfRank};
+ghost use Rattle.cascade_rank.specs.View.{GivesFound, GivesBounded, IfRank};
 ghost use Rattle.cascade_rank.specs.Found.{IsUnfound};
+ghost use Rattle.cascade_rank.specs.Verified.{IsVerified};
 ghost use Rattle.cascade_rank.specs.Order.{IsWholeOrder, AreRanks};
 
 use crate::fault::RankFault;
 use crate::ground::ground;
 use crate::price::need;
-use crate::verdict::{GREATEST, limited_bound};
+use crate::verdict::{Bound, GREATEST, limited_bound};
 use crate::walk::{first_left, walk};
 use crate::weights::Weights;
 use plan_tables::{EventId, Plan};
@@ -35,6 +36,24 @@ pub fn find(alloc: Global, plan: &Plan) -> Result<Weights, RankFault>
     ensures within { IfOk result (λ weights. IsWithinLimit plan.now weights) }
     ensures refused { IfErr result (λ fault. IfRank fault (IsUnfound plan.now)) }
 {
+    match find_bounded(alloc, plan) {
+        Ok((weights, _)) => Ok(weights),
+        Err(fault) => Err(fault),
+    }
+}
+
+/// The least weights that fit the plan, as `find` gives them, and the bound that `verify` gives for
+/// them. They are found and bounded in one pass, so `verify` need not be asked.
+///
+/// # Errors
+///
+/// As of [`find`].
+pub fn find_bounded(alloc: Global, plan: &Plan) -> Result<(Weights, Bound), RankFault>
+    ensures exact { GivesBounded result (found_at plan.now) }
+    ensures least { IfOk result (λ found. IsLeastFitting plan.now found.0) }
+    ensures verified { IfOk result (λ found. IsVerified plan.now found.0 found.1.0) }
+    ensures refused { IfErr result (λ fault. IfRank fault (IsUnfound plan.now)) }
+{
     let grounding = ground(alloc, plan)?;
     if let Some(place) = first_left(&grounding.left) {
         let start = EventId(place as u16);
@@ -43,7 +62,7 @@ pub fn find(alloc: Global, plan: &Plan) -> Result<Weights, RankFault>
     let weights = weigh(alloc, plan, &grounding.order)?;
     match limited_bound(plan, &weights) {
         None => Err(RankFault::BoundTooLarge),
-        Some(_) => Ok(Weights::of(weights)),
+        Some(bound) => Ok((Weights::of(weights), bound)),
     }
 }
 

@@ -25,7 +25,7 @@ pub mod work_bounds;
 
 pub use fault::RankFault;
 pub use law::cycles_or_weights;
-pub use least::find;
+pub use least::{find, find_bounded};
 pub use stimuli::switch_cost;
 pub use verdict::{Bound, verify};
 pub use weights::Weights;

@@ -15,7 +15,7 @@ use crate::certified::certified;
 use crate::checked::Checked;
 use crate::report::{Fault, Report};
 use crate::reporting::{named_fault, report_of};
-use cascade_rank::{find, verify};
+use cascade_rank::find_bounded;
 use machine_definitions::Definitions;
 use mpf_config::config::Config;
 use mpf_plan::{PlanFault, plan_complete};
@@ -49,14 +49,10 @@ pub fn check(alloc: Global, config: &Config) -> Result<Checked, Report>
     ensures refused { IfErr result (ReportsFaultsOf config.now) }
 {
     let plan = plan_of(alloc, config)?;
-    let weights = match find(alloc, &plan) {
-        Ok(weights) => weights,
-        Err(fault) => return Err(report_of(alloc, named_fault(alloc, &plan, fault)?)),
-    };
-    let Ok(bound) = verify(&plan, &weights) else {
-        unreachable!()
-    };
-    Ok(Checked::new(plan, weights, bound.0))
+    match find_bounded(alloc, &plan) {
+        Ok((weights, bound)) => Ok(Checked::new(plan, weights, bound.0)),
+        Err(fault) => Err(report_of(alloc, named_fault(alloc, &plan, fault)?)),
+    }
 }
 
 /// Checks a configuration with a certificate of version 1 or 2. What it accepts has a plan, the

@@ -1,12 +1,11 @@
 -- The commands of a cascade are sent as its lines come.
-use Rattle.std.proofs.Common.{rules, ◌≡◌, ℕ, zero, suc, ◌+◌, ◌-◌, ◌<◌, ◌≤◌, Bool, true, false, Option, None, Some, is_none, List, [], ◌∷◌, ◌++◌, length, take, drop, slice_get, refl, ap, sym, ◌∙◌, subst, arith}
-use Rattle.std.{specs.List.All, proofs.lemmas.List.{take-append-drop, length-append}}
+use Rattle.std.proofs.Common.{◌≡◌, ℕ, zero, suc, ◌+◌, true, false, Option, None, Some, is_none, List, [], ◌∷◌, ◌++◌, length, take, drop, slice_get, refl, ap, sym, ◌∙◌, subst, arith}
+use Rattle.std.proofs.lemmas.List.{take-append-drop}
 use Rattle.plan_tables.specs.PlanView.{PlanView}
-use Rattle.written_machine.specs.{declared.line.Line.Line, Machine.Machine, PlanOrder.{plan_step, plan_steps}}
+use Rattle.written_machine.specs.{declared.line.Line.Line, Machine.Machine, PlanOrder.plan_steps}
 use Rattle.written_machine.proofs.{Appends.steps-append, PlanSteps.plan_steps-add}
-use Rattle.machine_core.specs.Core.{CoreView, HasHandlers, StaysWithin, HasSettled, follow}
-use Rattle.coil_driver.specs.Driver.{DriverView, HasSent, HasStopped, IsServed, IsSendable}
-use Rattle.coil_driver.proofs.Serving.{sent-append}
+use Rattle.machine_core.specs.Core.{CoreView, HasSettled, follow}
+use Rattle.coil_driver.{specs.Driver.{DriverView, HasSent, HasStopped, IsServed}, proofs.Serving.sent-append}
 
 -- ---- a line among others
 

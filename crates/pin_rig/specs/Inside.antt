@@ -1,16 +1,8 @@
--- What a rig holds, and what is returned for an input.
-use Rattle.std.specs.Prelude.{◌≡◌, ℕ, ◌<◌, ◌≤◌, ◌^◌, None, Result, Ok, Err, List, length}
-use Rattle.written_machine.specs.{Accepted.IsAccepted, CheckedView.CheckedView}
-use Rattle.written_machine.specs.{Run.{Stimulus, IsReached}, declared.line.Line.Line}
+-- What a rig holds.
+use Rattle.std.specs.Prelude.{◌≡◌, ℕ, ◌<◌, ◌≤◌, ◌^◌, None, List, length}
+use Rattle.written_machine.specs.{Accepted.IsAccepted, CheckedView.CheckedView, Run.IsReached, declared.line.Line.Line}
 use Rattle.coil_driver.specs.Driver.{DriverView}
-use Rattle.machine_core.specs.declared.stimulus.Stimulus.{Stimulus as HeldStimulus}
-use Rattle.machine_core.specs.{Core.{CoreView, IsWhole}, Stimuli.stimulus_view}
-use Rattle.pin_rig.specs.declared.input.StepFault.{StepFault}
-
--- what is returned for a stimulus, or for why there is none
-abbrev pub GivesStimulus : Result HeldStimulus StepFault → Result Stimulus StepFault → Type 0
-GivesStimulus (Ok stimulus) given = given ≡ Ok (stimulus_view stimulus)
-GivesStimulus (Err fault) given = given ≡ Err fault
+use Rattle.machine_core.specs.Core.{CoreView, IsWhole}
 
 -- What was accepted is kept, and its machine, with room for the bound, in a state to which a run leads. So many of its
 -- lines are shown. As long as the board takes all commands, those are all, and the guard of what was sent is the

@@ -1,5 +1,6 @@
 pub mod Refused
 pub mod Rig
+pub mod Admission
 pub mod Steps
 pub mod Exchange
 pub mod ShutDown

@@ -11,4 +11,5 @@ pub use coil_driver::{ShutReport, report};
 pub use exchange::{Refusal, exchanges_leave_the_steps};
 pub use input::{Input, RigFault, StepFault, check_moment};
 pub use law::steps_are_run;
+pub use machine_core::Stimulus;
 pub use rig::Rig;

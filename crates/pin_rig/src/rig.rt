@@ -58,17 +58,17 @@ impl<'c, D: Device, B: Board> Drop for Rig<'c, D, B> {
 }
 
 impl<'c, D: Device, B: Board> Rig<'c, D, B> {
-    ghost use Rattle.std.specs.Prelude.{◌≡◌, ℕ, map, slice_get, Err, IfErr, IfOk, IsOk, MatchResult, option_map, []};
+    ghost use Rattle.std.specs.Prelude.{◌≡◌, ℕ, false, map, slice_get, Err, IfErr, IfOk, IsOk, IsTrue, MatchResult, option_map, []};
     ghost use Rattle.std.specs.Borrow.{sem};
     ghost use Rattle.written_machine.specs.Run.{IsReached};
     ghost use Rattle.written_machine.specs.NextAlarm.{next_alarm};
     ghost use Rattle.pin_rig.specs.Rig.{timely, alarm_at, stimulus_at, RigStep, HasFailed, IsWhy, RunsUnlessHalted, IsOfRun, IsNextMoment};
+    ghost use Rattle.pin_rig.specs.Admission.{GivesStimulus, IsAdmitted, alarm_by, IsTaken, IsTakenToHalt};
     ghost use Rattle.coil_driver.specs.Board.{board_view};
     ghost use Rattle.coil_driver.specs.ShutDown.{ArePutOff};
     ghost use Rattle.pin_rig.specs.ShutDown.{coils_to_put_off};
     ghost use Rattle.pin_rig.specs.Steps.{at_rest};
     ghost use Rattle.machine_core.specs.Stimuli.{stimulus_view};
-    ghost use Rattle.pin_rig.specs.Inside.{GivesStimulus};
     ghost use Rattle.machine_core.specs.Fit.{IsFit, IsFirstWrong};
     ghost use Rattle.machine_core.specs.Stopping.{AreStopped};
     ghost use Rattle.pin_rig.specs.Lending.{HasStepped};
@@ -138,6 +138,64 @@ impl<'c, D: Device, B: Board> Rig<'c, D, B> {
     {
         self.act(input)?;
         Ok(self.trace())
+    }
+
+    /// The stimulus that an input is, if `step` does not refuse it now. The rig takes it by `take`,
+    /// without judging it again.
+    ///
+    /// # Errors
+    ///
+    /// Those of `step`, in their order, but for `BoardFault`.
+    pub fn admit(&self, input: Input) -> Result<Stimulus, StepFault>
+        ensures { GivesStimulus result (stimulus_at self.now input) }
+    {
+        if self.driver.is_halted() {
+            return Err(StepFault::Halted);
+        }
+        match input {
+            Input::Change { at, switch, level } => {
+                if switch.0 as usize >= self.checked.plan().switch_count() {
+                    return Err(StepFault::NoSuchSwitch);
+                }
+                self.judge_moment(at, Stimulus::SwitchChange(at, switch, level))
+            }
+            Input::Alarm => self.judge_alarm(),
+            Input::Wait { at } => self.judge_moment(at, Stimulus::Wait(at)),
+        }
+    }
+
+    /// The alarm that is due next, as a stimulus, if it is due at or before a moment, in milliseconds.
+    pub fn alarm_by(&self, until: u64) -> Option<Stimulus>
+        ensures alarm { option_map stimulus_view result ≡ alarm_by until self.now.machine }
+        ensures reached { IsOfRun self.now }
+    {
+        let (at, source) = self.core.due()?;
+        if at <= until {
+            Some(Stimulus::Alarm(at, source))
+        } else {
+            None
+        }
+    }
+
+    /// Takes a stimulus that `step` would not refuse, as `step` takes its input: it judges nothing. The
+    /// stimulus is one that `admit` gave, if no other has come since; or one of which the caller knows
+    /// as much. Whether the board has taken all commands. If not, that is the `BoardFault` of `step`.
+    pub fn take(&mut self, stimulus: Stimulus) -> bool
+        requires { IsAdmitted self.old (stimulus_view stimulus) }
+        ensures taken { IsTrue result → IsTaken (stimulus_view stimulus) self.old self.new }
+        ensures halted { result ≡ false → IsTakenToHalt (stimulus_view stimulus) self.old self.new }
+    {
+        begin(&mut self.core, stimulus);
+        match run_cascade(&mut self.core, &mut self.driver) {
+            None => {
+                self.shown = self.core.lines().len();
+                true
+            }
+            Some(place) => {
+                self.shown = place;
+                false
+            }
+        }
     }
 
     /// The moment of the latest stimulus, in milliseconds.
@@ -261,36 +319,11 @@ impl<'c, D: Device, B: Board> Rig<'c, D, B> {
     fn act(&mut self, input: Input) -> Result<(), StepFault>
         ensures { MatchResult result (λ _. RigStep input self.old self.new) (λ fault. HasFailed input self.old self.new fault) }
     {
-        let stimulus = self.judge(input)?;
-        begin(&mut self.core, stimulus);
-        match run_cascade(&mut self.core, &mut self.driver) {
-            None => {
-                self.shown = self.core.lines().len();
-                Ok(())
-            }
-            Some(place) => {
-                self.shown = place;
-                Err(StepFault::BoardFault)
-            }
-        }
-    }
-
-    /// The stimulus that an input is, or why it is refused.
-    fn judge(&self, input: Input) -> Result<Stimulus, StepFault>
-        ensures { GivesStimulus result (stimulus_at self.now input) }
-    {
-        if self.driver.is_halted() {
-            return Err(StepFault::Halted);
-        }
-        match input {
-            Input::Change { at, switch, level } => {
-                if switch.0 as usize >= self.checked.plan().switch_count() {
-                    return Err(StepFault::NoSuchSwitch);
-                }
-                self.judge_moment(at, Stimulus::SwitchChange(at, switch, level))
-            }
-            Input::Alarm => self.judge_alarm(),
-            Input::Wait { at } => self.judge_moment(at, Stimulus::Wait(at)),
+        let stimulus = self.admit(input)?;
+        if self.take(stimulus) {
+            Ok(())
+        } else {
+            Err(StepFault::BoardFault)
         }
     }
 

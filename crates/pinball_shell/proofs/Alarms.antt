@@ -1,12 +1,14 @@
 -- The alarms that come by a moment.
-use Rattle.std.proofs.Common.{◌≡◌, ℕ, suc, ◌<◌, ◌≤◌, ◌^◌, ◌⊎◌, Bool, true, false, None, Ok, List, ◌∷◌, length, inl, inr, refl, ap, subst, arith}
+use Rattle.std.proofs.Common.{◌≡◌, ℕ, suc, ◌<◌, ◌≤◌, ◌^◌, ◌⊎◌, Bool, true, false, Option, Some, None, option_map, List, ◌∷◌, length, inl, inr, refl, ap, sym, subst, arith}
+use Rattle.std.proofs.lemmas.Option.{none-some, same_Some}
 use Rattle.plan_tables.specs.{PlanView.PlanView, Valid.IsValid}
-use Rattle.written_machine.specs.{declared.line.Line.Line, NextAlarm.is_due_by}
-use Rattle.written_machine.specs.{Machine.Machine, AlarmsBy.{alarms_by, state_after}, PlanOrder.settled}
+use Rattle.written_machine.specs.{declared.line.Line.Line, NextAlarm.{next_alarm, is_due_by}}
+use Rattle.written_machine.specs.{Machine.Machine, AlarmsBy.{due_by, alarms_by, state_after}, PlanOrder.settled}
 use Rattle.written_machine.specs.Run.{Source, IsNoAlarmDueBy, IsNextAlarm, Stimulus, Alarm, IsAllowed, IsReached}
-use Rattle.written_machine.proofs.{NextAlarms.{due-comes, not_due-nothing}, AlarmsEnd.{alarms_by-more, alarms_by-next}}
+use Rattle.written_machine.proofs.NextAlarms.{due-comes, due_by-some, due_by-none, nothing-not_due, not_due-nothing}
+use Rattle.written_machine.proofs.AlarmsEnd.{alarms_by-more, alarms_by-next}
 use Rattle.pin_rig.specs.declared.input.Input.TheVariants as inputs
-use Rattle.pin_rig.{specs.Rig.{RigView, stimulus_at}, proofs.Judging.allowed-judged}
+use Rattle.pin_rig.{specs.{Rig.RigView, Admission.{Admits, alarm_by}}, proofs.Judging.allowed-judged}
 use Rattle.pinball_shell.specs.RunOfLog.{all_alarms_by}
 
 -- ---- one alarm
@@ -21,6 +23,28 @@ pub record ComesBy (s : Machine) (until : ℕ) : Type 0 where
 pub comes : (s : Machine) (until : ℕ) → is_due_by until s ≡ true → ComesBy s until
 comes s until due = let (at, source, next, by) = due-comes s until due in record { at = at; source = source; next = next; by = by }
 
+-- the stimulus is that alarm
+pub record IsComing (s : Machine) (until : ℕ) (stimulus : Stimulus) : Type 0 where
+  pub next : ComesBy s until
+  pub alarm_is : stimulus ≡ Alarm next.at next.source
+
+pub coming : (s : Machine) (until : ℕ) (stimulus : Stimulus) → Some stimulus ≡ alarm_by until s → IsComing s until stimulus
+coming s until stimulus = go (due_by until (next_alarm s)) refl
+  where
+    go : (o : Option (ℕ × Source)) → due_by until (next_alarm s) ≡ o → Some stimulus ≡ option_map (λ (a : ℕ × Source). Alarm a.0 a.1) o → IsComing s until stimulus
+    go None is h = absurd (none-some stimulus (sym h))
+    go (Some a) is h =
+        let (next, by) = due_by-some s until a.0 a.1 is in
+        record { next = record { at = a.0; source = a.1; next = next; by = by }; alarm_is = same_Some stimulus (Alarm a.0 a.1) h }
+
+-- if there is none, nothing is due by the moment
+pub none-quiet : (s : Machine) (until : ℕ) → None ≡ alarm_by until s → is_due_by until s ≡ false
+none-quiet s until = go (due_by until (next_alarm s)) refl
+  where
+    go : (o : Option (ℕ × Source)) → due_by until (next_alarm s) ≡ o → None ≡ option_map (λ (a : ℕ × Source). Alarm a.0 a.1) o → is_due_by until s ≡ false
+    go None is h = nothing-not_due s until (due_by-none s until is)
+    go (Some a) is h = absurd (none-some (Alarm a.0 a.1) h)
+
 -- nothing is due by the moment, or an alarm comes
 pub cases_due : (s : Machine) (until : ℕ) → IsNoAlarmDueBy s until ⊎ ComesBy s until
 cases_due s until = go (is_due_by until s) refl
@@ -34,7 +58,7 @@ pub alarm-allowed : (plan : PlanView) (s : Machine) (until : ℕ) → until < 2 
 alarm-allowed plan s until early a = let by = a.by in (a.next, omega (arith, by, early))
 
 -- and the rig takes it, unless it is halted
-pub alarm-taken : (rig : RigView) (until : ℕ) → rig.faulted ≡ None → until < 2 ^ 40 → (a : ComesBy rig.machine until) → stimulus_at rig inputs.Alarm ≡ Ok (Alarm a.at a.source)
+pub alarm-taken : (rig : RigView) (until : ℕ) → rig.faulted ≡ None → until < 2 ^ 40 → (a : ComesBy rig.machine until) → Admits rig inputs.Alarm (Alarm a.at a.source)
 alarm-taken rig until running early a = allowed-judged rig inputs.Alarm (Alarm a.at a.source) running (a.at, a.source, refl) (alarm-allowed rig.checked.plan rig.machine until early a)
 
 -- ---- those that come one after another

@@ -1,15 +1,16 @@
 -- What is printed on a rig, one part after another.
-use Rattle.std.proofs.Common.{rules, ◌≡◌, ℕ, Option, None, List, [], ◌∷◌, ◌++◌, map, refl, ap, sym, ◌∙◌, subst, append_assoc, append-nil}
+use Rattle.std.proofs.Common.{rules, ◌≡◌, ℕ, Option, None, Result, Ok, List, [], ◌∷◌, ◌++◌, map, refl, ap, sym, ◌∙◌, subst, append_assoc, append-nil}
 use Rattle.std.{specs.{List.flat_map, Io.KnownBytes.Appends}, proofs.KnownBytes.{Appends-nil, Appends-trans}}
 use Rattle.std.proofs.lemmas.{Grind.flat_map-append, List.{map-append, Folds.flat_map-map}}
 use Rattle.plan_tables.specs.PlanView.{PlanView}
 use Rattle.written_machine.specs.{declared.line.Line.Line, Machine.Machine, Run.Stimulus}
 use Rattle.written_machine.specs.{AlarmsBy.state_after, PlanOrder.settled}
 use Rattle.coil_driver.specs.Board.{commands_of, after_lines, HasTakenAll}
-use Rattle.pin_rig.specs.{declared.input.Input.Input, Rig.{RigView, RigStep, RigHalt}}
+use Rattle.pin_rig.specs.declared.input.{Input.Input, StepFault.StepFault}
+use Rattle.pin_rig.specs.{Rig.{RigView, RigStep, RigHalt}, Admission.Admits}
 use Rattle.pinball_shell.specs.{RunOfLog.{trace_of, Printed, Traced}, TraceText.{printed_text, printed_texts}}
 use Rattle.trace_lines.specs.LineText.{line_text}
-use Rattle.pinball_shell.specs.Played.{IsPrinted, IsPrintedToFault, IsPlayed, IsPlayedToFault, IsInputPlayed, IsInputPlayedToFault}
+use Rattle.pinball_shell.specs.Played.{IsPrinted, IsPrintedToFault, IsPlayed, IsPlayedToFault}
 use Rattle.pinball_shell.proofs.{LineMoments.line-moment, Stimuli.{state_after-append, trace_of-append}}
 use Rattle.pinball_shell.proofs.Serving.{served-none, served-then, traced-lines}
 
@@ -50,48 +51,45 @@ module _ (plan : PlanView) where
 
 -- ---- one step
 
-module _ (input : Input) (old new : RigView) (a b : Option (List ℕ)) where
-  here-played : RigStep input old new → Appends a b (flat_map (line_text old.checked.plan) new.lines) → IsInputPlayed old.checked.plan input old new a b
+is_ok : (a b : Stimulus) (r : Result Stimulus StepFault) → r ≡ Ok a → r ≡ Ok b → a ≡ b
+is_ok a b r h k = let same : ◌≡◌ {A = Result Stimulus StepFault} (Ok a) (Ok b) = sym h ∙ k in cc
+
+module _ (input : Input) (stimulus : Stimulus) (old new : RigView) (admits : Admits old input stimulus) (a b : Option (List ℕ)) where
+  here-played : RigStep input old new → Appends a b (flat_map (line_text old.checked.plan) new.lines) → IsPlayed old.checked.plan old.checked.bound (stimulus ∷ []) old new a b
   here-played r text =
       let c = r.cascade in
       let plan = old.checked.plan in
       let next = settled plan old.checked.bound c.stimulus old.machine in
       let lines : new.lines ≡ next.lines ++ [] = r.lines_are ∙ ap (λ (m : Machine). m.lines) c.machine_is ∙ sym (append-nil next.lines) in
-      record {
-        stimulus = c.stimulus;
-        stimulus_is = c.stimulus_is;
-        played = search (rules, lines-printed);
-      }
+      let here : IsPlayed old.checked.plan old.checked.bound (c.stimulus ∷ []) old new a b = search (rules, lines-printed) in
+      subst (λ (x : Stimulus). IsPlayed old.checked.plan old.checked.bound (x ∷ []) old new a b) (is_ok c.stimulus stimulus _ c.stimulus_is admits) here
 
-  pub step-played : (plan : PlanView) → old.checked.plan ≡ plan → RigStep input old new → Appends a b (flat_map (line_text plan) new.lines) → IsInputPlayed plan input old new a b
-  step-played plan is r = subst (λ (p : PlanView). Appends a b (flat_map (line_text p) new.lines) → IsInputPlayed p input old new a b) is (here-played r)
+  pub step-played : (plan : PlanView) → old.checked.plan ≡ plan → RigStep input old new → Appends a b (flat_map (line_text plan) new.lines) → IsPlayed plan old.checked.bound (stimulus ∷ []) old new a b
+  step-played plan is r = subst (λ (p : PlanView). Appends a b (flat_map (line_text p) new.lines) → IsPlayed p old.checked.bound (stimulus ∷ []) old new a b) is (here-played r)
 
-  here-halted : RigHalt input old new → Appends a b (flat_map (line_text old.checked.plan) new.lines) → IsInputPlayedToFault old.checked.plan input old new a b
+  here-halted : RigHalt input old new → Appends a b (flat_map (line_text old.checked.plan) new.lines) → IsPlayedToFault old.checked.plan old.checked.bound (stimulus ∷ []) old new a b
   here-halted r text =
       let c = r.cascade in
       let plan = old.checked.plan in
       let next = settled plan old.checked.bound c.stimulus old.machine in
       let mid : RigView = record { checked = old.checked; machine = old.machine; lines = new.lines; board = r.board; sent = new.sent; faulted = None } in
       let lines : next.lines ++ [] ≡ new.lines ++ r.line ∷ r.later = append-nil next.lines ∙ sym (ap (λ (m : Machine). m.lines) c.machine_is) ∙ r.lines_are in
-      record {
-        stimulus = c.stimulus;
-        stimulus_is = c.stimulus_is;
-        played = record {
-          shown = map Traced new.lines;
-          line = r.line;
-          command = r.command;
-          line_is = r.line_is;
-          later = map Traced r.later;
-          whole = ap (map Traced) lines ∙ map-append Traced new.lines (r.line ∷ r.later);
-          moment_is = line-moment plan old.checked.bound c.stimulus old.machine new.machine new.lines r.line r.later c.machine_is r.lines_are;
-          mid = mid;
-          earlier = lines-printed plan new.lines old mid a b refl r.taken c.sent_is refl text;
-          halted = record { checked_is = c.checked_is; not_taken = r.not_taken; sent_is = refl; halted = r.halted };
-        };
-      }
+      subst (λ (x : Stimulus). IsPlayedToFault old.checked.plan old.checked.bound (x ∷ []) old new a b) (is_ok c.stimulus stimulus _ c.stimulus_is admits)
+      (record {
+        shown = map Traced new.lines;
+        line = r.line;
+        command = r.command;
+        line_is = r.line_is;
+        later = map Traced r.later;
+        whole = ap (map Traced) lines ∙ map-append Traced new.lines (r.line ∷ r.later);
+        moment_is = line-moment plan old.checked.bound c.stimulus old.machine new.machine new.lines r.line r.later c.machine_is r.lines_are;
+        mid = mid;
+        earlier = lines-printed plan new.lines old mid a b refl r.taken c.sent_is refl text;
+        halted = record { checked_is = c.checked_is; not_taken = r.not_taken; sent_is = refl; halted = r.halted };
+      })
 
-  pub step-halted : (plan : PlanView) → old.checked.plan ≡ plan → RigHalt input old new → Appends a b (flat_map (line_text plan) new.lines) → IsInputPlayedToFault plan input old new a b
-  step-halted plan is r = subst (λ (p : PlanView). Appends a b (flat_map (line_text p) new.lines) → IsInputPlayedToFault p input old new a b) is (here-halted r)
+  pub step-halted : (plan : PlanView) → old.checked.plan ≡ plan → RigHalt input old new → Appends a b (flat_map (line_text plan) new.lines) → IsPlayedToFault plan old.checked.bound (stimulus ∷ []) old new a b
+  step-halted plan is r = subst (λ (p : PlanView). Appends a b (flat_map (line_text p) new.lines) → IsPlayedToFault p old.checked.bound (stimulus ∷ []) old new a b) is (here-halted r)
 
 -- ---- stimuli
 

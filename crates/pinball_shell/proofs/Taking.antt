@@ -1,15 +1,17 @@
 -- What a line gives is taken by the rig, once no alarm is due by its moment.
-use Rattle.std.proofs.Common.{rules, ◌≡◌, ℕ, ◌<◌, ◌≤◌, ◌^◌, Bool, false, true, Option, None, Some, Result, Ok, Err, IsOk, OnOk, IfOk, List, [], ◌∷◌, refl, ap, sym, ◌∙◌, subst, arith, append-nil}
+use Rattle.std.proofs.Common.{rules, ◌≡◌, ℕ, ◌<◌, ◌≤◌, ◌^◌, Bool, false, Option, None, Some, Result, Ok, Err, OnOk, IfOk, List, [], ◌∷◌, refl, ap, sym, ◌∙◌, subst, arith, append-nil}
 use Rattle.std.{specs.Result.is_err, proofs.KnownBytes.Appends-trans}
 use Rattle.plan_tables.specs.{PlanView.PlanView, Valid.IsValid, declared.devices.DeviceRow.DeviceRow}
-use Rattle.written_machine.specs.{Accepted.IsAccepted, Machine.Machine, Run.{Stimulus, Alarm, moment_of, IsReached}}
-use Rattle.written_machine.{specs.{CheckedView.CheckedView, NextAlarm.is_due_by}, proofs.NextAlarms.not_due-nothing}
+use Rattle.written_machine.specs.{Accepted.IsAccepted, Machine.Machine, CheckedView.CheckedView, NextAlarm.is_due_by}
+use Rattle.written_machine.specs.Run.{Stimulus, SwitchChange, Alarm, Wait, moment_of, IsReached}
+use Rattle.written_machine.proofs.NextAlarms.{not_due-nothing}
 use Rattle.coil_driver.specs.Board.{BoardView, commands_of, TellsMore}
-use Rattle.machine_core.specs.{declared.fault.CoreFault.CoreFault, Fit.{IsFit, IsFirstWrong}}
+use Rattle.machine_core.specs.declared.{fault.CoreFault.CoreFault, stimulus.Stimulus.Stimulus as HeldStimulus}
+use Rattle.machine_core.specs.{Fit.{IsFit, IsFirstWrong}, Stimuli.stimulus_view}
 use Rattle.machine_core.specs.declared.fault.CoreFault.TheVariants as core_faults
-use Rattle.pin_rig.{specs.declared.input.{Input.Input, StepFault.StepFault}, proofs.Judging.allowed-judged}
+use Rattle.pin_rig.specs.{declared.input.Input.Input, Admission.{Admits, IsAdmitted}}
+use Rattle.pin_rig.{proofs.Judging.allowed-judged, specs.{Rig.{RigView, IsOfRun}, Steps.at_rest}}
 use Rattle.pin_rig.specs.declared.input.Input.TheVariants as inputs
-use Rattle.pin_rig.specs.{Rig.{RigView, stimulus_at, IsOfRun}, Steps.at_rest}
 use Rattle.device_objects.specs.declared.state.DeviceState.{DeviceState}
 use Rattle.pinball_shell.specs.declared.fault.{ShellFault.ShellFault, Verdict.Verdict}
 use Rattle.pinball_shell.specs.declared.fault.ShellFault.TheVariants as faults
@@ -18,21 +20,24 @@ use Rattle.pinball_shell.specs.{Ends.{IsServed, IsEnd, IsPlayOn}, LogPlayers.Run
 use Rattle.pinball_shell.specs.declared.{play.Stop.Stop, refusal.Refusal.Refusal}
 use Rattle.pinball_shell.specs.declared.play.Stop.TheVariants as stops
 use Rattle.pinball_shell.specs.declared.fault.Verdict.TheVariants as verdicts
-use Rattle.pinball_shell.specs.Played.{input_of, GivesInput, GoesOrHalts, IsPlayed, IsPlayedToFault, IsRigOf, IsInputPlayed, IsInputPlayedToFault, AreAlarmsPlayed, AreAlarmsPlayedToFault, IsLinePlayed, IsLinePlayedToFault, PlaysLine, IsLogPlayed, IsShutDown}
-use Rattle.pinball_shell.proofs.{Alarms.{ComesBy, alarm-taken}, Playing.{line-played, line-fault, line-alarm_fault}}
+use Rattle.pinball_shell.specs.Played.{GivesTimed, GoesOrHalts, IsPlayed, IsPlayedToFault, IsRigOf, AreAlarmsPlayed, AreAlarmsPlayedToFault, IsLinePlayed, IsLinePlayedToFault, PlaysLine, IsLogPlayed, IsShutDown}
+use Rattle.pinball_shell.proofs.{Alarms.{IsComing, alarm-taken}, Playing.{line-played, line-fault, line-alarm_fault}}
 use Rattle.pinball_shell.proofs.LogRuns.{IsGivenInTime, given-in_time, in_time-early, may_come}
 use Rattle.pinball_shell.proofs.Serving.{served-tells, halted-tells, end-tells, traced-append}
 
 -- ---- what the rig takes
 
+-- the input that is a stimulus: which alarm comes, the rig says itself
+abbrev input_of : Stimulus → Input
+input_of (SwitchChange at switch level) = inputs.Change at switch level
+input_of (Alarm at source) = inputs.Alarm
+input_of (Wait at) = inputs.Wait at
+
 -- what comes in time is taken, once nothing is due by its moment
-in_time-taken : (rig : RigView) (now : ℕ) (stimulus : Stimulus) → rig.faulted ≡ None → IsGivenInTime rig.checked.plan now stimulus → rig.machine.moment ≤ moment_of stimulus → is_due_by (moment_of stimulus) rig.machine ≡ false → stimulus_at rig (input_of stimulus) ≡ Ok stimulus
+in_time-taken : (rig : RigView) (now : ℕ) (stimulus : Stimulus) → rig.faulted ≡ None → IsGivenInTime rig.checked.plan now stimulus → rig.machine.moment ≤ moment_of stimulus → is_due_by (moment_of stimulus) rig.machine ≡ false → Admits rig (input_of stimulus) stimulus
 in_time-taken rig now stimulus running time ahead quiet = search (rules, stimulus, allowed-judged, may_come, not_due-nothing)
 
 -- ---- on a rig of the plan
-
-pub ok_where : {T E : Type 0} (r : Result T E) (x : T) → r ≡ Ok x → IsOk r
-ok_where x1 x h = search rules
 
 -- if a step of playing has halted, so has what goes on to it
 pub halts-on : {T U : Type 0} (stop : Stop) (r : Result U Stop) (goes : T → Type 0) (next : U → Type 0) (first halts : Type 0) → r ≡ Err stop → (first → halts) → GoesOrHalts {T = T} (Err stop) goes first → GoesOrHalts r next halts
@@ -51,9 +56,6 @@ ok-both x1 A B P both a b = search rules
 -- an error is the same one, whatever there would be without it
 pub err-as : {T U E : Type 0} (e x : E) → ◌≡◌ {A = Result T E} (Err e) (Err x) → ◌≡◌ {A = Result U E} (Err e) (Err x)
 err-as e x is = let same : e ≡ x = cc in ap Err same
-
-is_ok : (a b : Stimulus) (r : Result Stimulus StepFault) → r ≡ Ok a → r ≡ Ok b → a ≡ b
-is_ok a b r h k = let same : ◌≡◌ {A = Result Stimulus StepFault} (Ok a) (Ok b) = sym h ∙ k in cc
 
 pub rig_of-served : (plan : PlanView) (printed : List Printed) (old now : RigView) → IsServed printed old now → IsRigOf plan old → IsRigOf plan now
 rig_of-served plan printed old now served h = search rules
@@ -121,67 +123,64 @@ wrong-unfit plan rows states (core_faults.WrongDevice row) wrong is fit = (wrong
 pub reached-of : (plan : PlanView) (first now : RigView) → IsRigOf plan first → now.checked ≡ first.checked → (held : IsOfRun now) → IsReached plan held.0 now.machine
 reached-of plan first now h is held = subst (λ (p : PlanView). IsReached p held.0 now.machine) (ap (λ (c : CheckedView). c.plan) is ∙ h.plan_is) held.1
 
--- an input whose stimulus is known plays that
-module _ (plan : PlanView) (bound : ℕ) (input : Input) (old new : RigView) (a b : Option (List ℕ)) (stimulus : Stimulus) (same : old.checked.bound ≡ bound) (is : stimulus_at old input ≡ Ok stimulus) where
-  pub known-played : IsInputPlayed plan input old new a b → IsPlayed plan bound (stimulus ∷ []) old new a b
-  known-played h = search (rules, stimulus, is_ok)
+-- an alarm that comes by a moment
+pub coming-taken : (rig : RigView) (until : ℕ) (alarm : Stimulus) → rig.faulted ≡ None → until < 2 ^ 40 → IsComing rig.machine until alarm → IsAdmitted rig alarm
+coming-taken rig until alarm running early coming = subst (IsAdmitted rig) (sym coming.alarm_is) (inputs.Alarm, alarm-taken rig until running early coming.next)
 
-  pub known-fault : IsInputPlayedToFault plan input old new a b → IsPlayedToFault plan bound (stimulus ∷ []) old new a b
-  known-fault h = search (rules, stimulus, is_ok)
+module _ (plan : PlanView) (until : ℕ) (first now new : RigView) (a b : Option (List ℕ)) (same : now.checked ≡ first.checked) (alarm : Stimulus) (coming : IsComing now.machine until alarm) where
+  abbrev next : Stimulus
+  next = Alarm coming.next.at coming.next.source
 
-module _ (plan : PlanView) (until : ℕ) (first now new : RigView) (a b : Option (List ℕ)) (same : now.checked ≡ first.checked) (running : now.faulted ≡ None) (early : until < 2 ^ 40) (next : ComesBy now.machine until) where
-  pub alarm-played : IsInputPlayed plan inputs.Alarm now new a b → IsPlayed plan first.checked.bound (Alarm next.at next.source ∷ []) now new a b
-  alarm-played =
-      known-played plan first.checked.bound inputs.Alarm now new a b (Alarm next.at next.source) (ap (λ (c : CheckedView). c.bound) same) (alarm-taken now until running early next)
+  pub alarm-played : IsPlayed plan now.checked.bound (alarm ∷ []) now new a b → IsPlayed plan first.checked.bound (next ∷ []) now new a b
+  alarm-played h =
+      subst (λ (c : CheckedView). IsPlayed plan c.bound (next ∷ []) now new a b) same (subst (λ (x : Stimulus). IsPlayed plan now.checked.bound (x ∷ []) now new a b) coming.alarm_is h)
 
-  pub alarm-fault : IsInputPlayedToFault plan inputs.Alarm now new a b → IsPlayedToFault plan first.checked.bound (Alarm next.at next.source ∷ []) now new a b
-  alarm-fault =
-      known-fault plan first.checked.bound inputs.Alarm now new a b (Alarm next.at next.source) (ap (λ (c : CheckedView). c.bound) same) (alarm-taken now until running early next)
+  pub alarm-fault : IsPlayedToFault plan now.checked.bound (alarm ∷ []) now new a b → IsPlayedToFault plan first.checked.bound (next ∷ []) now new a b
+  alarm-fault h =
+      subst (λ (c : CheckedView). IsPlayedToFault plan c.bound (next ∷ []) now new a b) same
+      (subst (λ (x : Stimulus). IsPlayedToFault plan now.checked.bound (x ∷ []) now new a b) coming.alarm_is h)
 
 -- ---- a line that gives a stimulus
 
 -- what a line gives
-pub record IsGiven (plan : PlanView) (s : Machine) (line : List ℕ) (at : ℕ) (input : Input) : Type 0 where
-  pub stimulus : Stimulus
+pub record IsGiven (plan : PlanView) (s : Machine) (line : List ℕ) (at : ℕ) (stimulus : Stimulus) : Type 0 where
   pub given_is : given_by_line plan s.moment (said line) ≡ Ok (Some stimulus)
-  pub input_is : input ≡ input_of stimulus
   pub at_is : at ≡ moment_of stimulus
 
-pub input-given : (plan : PlanView) (r : Result (Option (ℕ × Input)) Refusal) (at : ℕ) (input : Input) (s : Machine) (line : List ℕ) (now : ℕ) (read : Said) → now ≡ s.moment → read ≡ said line → r ≡ Ok (Some (at, input))
-    → GivesInput r (given_by_line plan now read) → IsGiven plan s line at input
-input-given plan r at input s line now read moment says is given =
-    let (stimulus, given_is, timed) = subst (λ (y : Result (Option (ℕ × Input)) Refusal). GivesInput y (given_by_line plan now read)) is given in
+pub timed-given : (plan : PlanView) (r : Result (Option (ℕ × HeldStimulus)) Refusal) (at : ℕ) (stimulus : HeldStimulus) (s : Machine) (line : List ℕ) (now : ℕ) (read : Said) → now ≡ s.moment → read ≡ said line
+    → r ≡ Ok (Some (at, stimulus)) → GivesTimed r (given_by_line plan now read) → IsGiven plan s line at (stimulus_view stimulus)
+timed-given plan r at stimulus s line now read moment says is given =
+    let (given_is, at_is) = subst (λ (y : Result (Option (ℕ × HeldStimulus)) Refusal). GivesTimed y (given_by_line plan now read)) is given in
     record {
-      stimulus = stimulus;
       given_is = ap (λ (m : ℕ). given_by_line plan m (said line)) (sym moment) ∙ ap (given_by_line plan now) (sym says) ∙ given_is;
-      input_is = ap (λ (x : ℕ × Input). x.1) timed;
-      at_is = ap (λ (x : ℕ × Input). x.0) timed;
+      at_is = at_is;
     }
 
-module _ (plan : PlanView) (rig : RigView) (rig_of : IsRigOf plan rig) (line : List ℕ) (at : ℕ) (input : Input) (given : IsGiven plan rig.machine line at input) where
-  given-in : IsGivenInTime plan rig.machine.moment given.stimulus
-  given-in = given-in_time plan rig.machine.moment (said line) given.stimulus given.given_is
+module _ (plan : PlanView) (rig : RigView) (rig_of : IsRigOf plan rig) (line : List ℕ) (at : ℕ) (stimulus : Stimulus) (given : IsGiven plan rig.machine line at stimulus) where
+  given-in : IsGivenInTime plan rig.machine.moment stimulus
+  given-in = given-in_time plan rig.machine.moment (said line) stimulus given.given_is
 
   -- its moment is that of an alarm that is not too late
   pub given-early : at < 2 ^ 40
-  given-early = let (forward, early) = in_time-early plan rig.machine.moment given.stimulus given-in in let is = given.at_is in omega (arith, early, is)
+  given-early = let (forward, early) = in_time-early plan rig.machine.moment stimulus given-in in let is = given.at_is in omega (arith, early, is)
 
   pub given-forward : rig.machine.moment ≤ at
-  given-forward = let (forward, early) = in_time-early plan rig.machine.moment given.stimulus given-in in let is = given.at_is in omega (arith, forward, is)
+  given-forward = let (forward, early) = in_time-early plan rig.machine.moment stimulus given-in in let is = given.at_is in omega (arith, forward, is)
 
   -- an alarm before it is not taken
   pub given-alarm_fault : (number : ℕ) (new : RigView) (a b : Option (List ℕ)) → AreAlarmsPlayedToFault plan at rig new a b → IsLinePlayedToFault plan rig.checked.bound number line rig new a b
-  given-alarm_fault number new a b = line-alarm_fault plan rig.checked.bound number line rig given.stimulus at rig new a a b given.given_is given.at_is
+  given-alarm_fault number new a b = line-alarm_fault plan rig.checked.bound number line rig stimulus at rig new a a b given.given_is given.at_is
 
   module _ (mid : RigView) (a b : Option (List ℕ)) (alarms : AreAlarmsPlayed plan at rig mid a b) where
     -- once its alarms have come, the rig takes it
-    pub given-taken : stimulus_at mid input ≡ Ok given.stimulus
+    pub given-taken : IsAdmitted mid stimulus
     given-taken =
         let served = alarms.played.printed.served in
-        let plan_is : mid.checked.plan ≡ plan = ap (λ (c : CheckedView). c.plan) served.checked_is ∙ rig_of.plan_is in
-        ap (stimulus_at mid) given.input_is
-        ∙ in_time-taken mid rig.machine.moment given.stimulus served.running (subst (λ (p : PlanView). IsGivenInTime p rig.machine.moment given.stimulus) (sym plan_is) given-in)
-        (subst (λ (m : ℕ). mid.machine.moment ≤ m) given.at_is alarms.moment) (subst (λ (m : ℕ). is_due_by m mid.machine ≡ false) given.at_is alarms.quiet)
+        let plan_is : mid.checked.plan ≡ plan = ap (λ (c : CheckedView). c.plan) served.checked_is ∙ rig_of.plan_is in (
+          input_of stimulus,
+          in_time-taken mid rig.machine.moment stimulus served.running (subst (λ (p : PlanView). IsGivenInTime p rig.machine.moment stimulus) (sym plan_is) given-in)
+              (subst (λ (m : ℕ). mid.machine.moment ≤ m) given.at_is alarms.moment) (subst (λ (m : ℕ). is_due_by m mid.machine ≡ false) given.at_is alarms.quiet),
+        )
 
     pub given-plan : mid.checked.plan ≡ plan
     given-plan = ap (λ (c : CheckedView). c.plan) alarms.played.printed.served.checked_is ∙ rig_of.plan_is
@@ -190,12 +189,12 @@ module _ (plan : PlanView) (rig : RigView) (rig_of : IsRigOf plan rig) (line : L
     bound-same = ap (λ (k : CheckedView). k.bound) alarms.played.printed.served.checked_is
 
     module _ (number : ℕ) (new : RigView) (c : Option (List ℕ)) where
-      pub given-played : IsInputPlayed plan input mid new b c → IsLinePlayed plan rig.checked.bound number line rig new a c verdicts.Yes
+      pub given-played : IsPlayed plan mid.checked.bound (stimulus ∷ []) mid new b c → IsLinePlayed plan rig.checked.bound number line rig new a c verdicts.Yes
       given-played h =
-          line-played plan rig.checked.bound number line rig given.stimulus at mid new a b c given.given_is given.at_is alarms.played
-          (known-played plan rig.checked.bound input mid new b c given.stimulus bound-same given-taken h)
+          line-played plan rig.checked.bound number line rig stimulus at mid new a b c given.given_is given.at_is alarms.played
+          (subst (λ (n : ℕ). IsPlayed plan n (stimulus ∷ []) mid new b c) bound-same h)
 
-      pub given-fault : IsInputPlayedToFault plan input mid new b c → IsLinePlayedToFault plan rig.checked.bound number line rig new a c
+      pub given-fault : IsPlayedToFault plan mid.checked.bound (stimulus ∷ []) mid new b c → IsLinePlayedToFault plan rig.checked.bound number line rig new a c
       given-fault h =
-          line-fault plan rig.checked.bound number line rig given.stimulus at mid new a b c given.given_is given.at_is alarms.played
-          (known-fault plan rig.checked.bound input mid new b c given.stimulus bound-same given-taken h)
+          line-fault plan rig.checked.bound number line rig stimulus at mid new a b c given.given_is given.at_is alarms.played
+          (subst (λ (n : ℕ). IsPlayedToFault plan n (stimulus ∷ []) mid new b c) bound-same h)

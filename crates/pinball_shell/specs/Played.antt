@@ -3,13 +3,13 @@ use Rattle.std.specs.Prelude.{◌≡◌, ℕ, ◌≤◌, false, Option, Some, No
 use Rattle.std.specs.Io.KnownBytes.{Appends}
 use Rattle.plan_tables.specs.{PlanView.PlanView, declared.entries.CoilId.CoilId}
 use Rattle.coil_guard.specs.declared.command.Command.{Command}
-use Rattle.written_machine.specs.{declared.line.Line.Line, Accepted.IsAccepted, NextAlarm.is_due_by}
+use Rattle.written_machine.specs.{declared.line.Line.Line, Run.{Stimulus, moment_of}}
+use Rattle.written_machine.specs.{Accepted.IsAccepted, NextAlarm.is_due_by}
 use Rattle.written_machine.specs.declared.line.Happening.TheVariants as happenings
 use Rattle.written_machine.specs.{CheckedView.CheckedView, AlarmsBy.state_after}
-use Rattle.written_machine.specs.Run.{Stimulus, SwitchChange, Alarm, Wait, moment_of}
 use Rattle.coil_driver.specs.{Board.BoardView, ShutDown.ArePutOff}
-use Rattle.pin_rig.specs.{declared.input.Input.Input, Rig.{RigView, stimulus_at}, ShutDown.coils_to_put_off}
-use Rattle.pin_rig.specs.declared.input.Input.TheVariants as inputs
+use Rattle.machine_core.specs.{declared.stimulus.Stimulus.Stimulus as HeldStimulus, Stimuli.stimulus_view}
+use Rattle.pin_rig.specs.{Rig.RigView, ShutDown.coils_to_put_off}
 use Rattle.pinball_shell.specs.declared.{fault.Verdict.Verdict, refusal.Refusal.Refusal, play.Stop.Stop}
 use Rattle.pinball_shell.specs.declared.fault.Verdict.TheVariants as verdicts
 use Rattle.pinball_shell.specs.declared.play.Stop.TheVariants as stops
@@ -18,17 +18,11 @@ use Rattle.pinball_shell.specs.RunOfLog.{given_by_line, trace_of, all_alarms_by,
 use Rattle.trace_lines.specs.LineText.{off_texts}
 use Rattle.pinball_shell.specs.Ends.{IsServed, IsHalted, IsEnd, IsPlayOn}
 
--- what a rig is given for a stimulus: which alarm comes, it says itself
-abbrev pub input_of : Stimulus → Input
-input_of (SwitchChange at switch level) = inputs.Change at switch level
-input_of (Alarm at source) = inputs.Alarm
-input_of (Wait at) = inputs.Wait at
-
--- a stimulus that a line gives is its moment and the input
-abbrev pub GivesInput : Result (Option (ℕ × Input)) Refusal → Result (Option Stimulus) Refusal → Type 0
-GivesInput (Ok None) given = given ≡ Ok None
-GivesInput (Ok (Some timed)) given = (stimulus : Stimulus) × (given ≡ Ok (Some stimulus)) × (timed ≡ (moment_of stimulus, input_of stimulus))
-GivesInput (Err refusal) given = given ≡ Err refusal
+-- a stimulus that a line gives comes with its moment
+abbrev pub GivesTimed : Result (Option (ℕ × HeldStimulus)) Refusal → Result (Option Stimulus) Refusal → Type 0
+GivesTimed (Ok None) given = given ≡ Ok None
+GivesTimed (Ok (Some (at, stimulus))) given = (given ≡ Ok (Some (stimulus_view stimulus))) × (at ≡ moment_of (stimulus_view stimulus))
+GivesTimed (Err refusal) given = given ≡ Err refusal
 
 -- the rig is one of the plan, which was accepted, and is not halted
 pub record IsRigOf (plan : PlanView) (rig : RigView) : Type 0 where
@@ -73,21 +67,10 @@ pub record IsPlayed (plan : PlanView) (bound : ℕ) (stimuli : List Stimulus) (o
 abbrev pub IsPlayedToFault : PlanView → ℕ → List Stimulus → RigView → RigView → Option (List ℕ) → Option (List ℕ) → Type 0
 IsPlayedToFault plan bound stimuli old new = IsPrintedToFault plan (map Traced (trace_of plan bound stimuli old.machine)) old new
 
--- the stimulus that the input is was played
-pub record IsInputPlayed (plan : PlanView) (input : Input) (old new : RigView) (before after : Option (List ℕ)) : Type 0 where
-  pub stimulus : Stimulus
-  pub stimulus_is : stimulus_at old input ≡ Ok stimulus
-  pub played : IsPlayed plan old.checked.bound (stimulus ∷ []) old new before after
-
-pub record IsInputPlayedToFault (plan : PlanView) (input : Input) (old new : RigView) (before after : Option (List ℕ)) : Type 0 where
-  pub stimulus : Stimulus
-  pub stimulus_is : stimulus_at old input ≡ Ok stimulus
-  pub played : IsPlayedToFault plan old.checked.bound (stimulus ∷ []) old new before after
-
--- the input was played, or played up to a fault of the board
-abbrev pub PlaysInput : {T : Type 0} → PlanView → Input → (old new : RigView) → (before after : Option (List ℕ)) → Result T Stop → Type 0
-PlaysInput plan input old new before after result =
-    GoesOrHalts result (λ _. IsInputPlayed plan input old new before after) (IsInputPlayedToFault plan input old new before after)
+-- the stimulus was played, or played up to a fault of the board
+abbrev pub PlaysStimulus : {T : Type 0} → PlanView → Stimulus → (old new : RigView) → (before after : Option (List ℕ)) → Result T Stop → Type 0
+PlaysStimulus plan stimulus old new before after result =
+    GoesOrHalts result (λ _. IsPlayed plan old.checked.bound (stimulus ∷ []) old new before after) (IsPlayedToFault plan old.checked.bound (stimulus ∷ []) old new before after)
 
 -- the alarms that come by the moment were played, and no more is due by it
 pub record AreAlarmsPlayed (plan : PlanView) (until : ℕ) (old new : RigView) (before after : Option (List ℕ)) : Type 0 where

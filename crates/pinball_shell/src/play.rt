@@ -1,19 +1,19 @@
 //! A log is read and played.
 
-ghost use Rattle.std.specs.Prelude.{◌≡◌, ◌≢◌, ◌^◌, ◌<◌, ◌≤◌, ◌⊎◌, false, None, IfOk, IfErr, IsTrue, IsOk, OnOk, IfSome, IsErrOf, length, map};
+ghost use Rattle.std.specs.Prelude.{◌≡◌, ◌≢◌, ◌^◌, ◌<◌, ◌≤◌, ◌⊎◌, false, None, IfOk, IfErr, OnOk, IfSome, IsErrOf, length, map};
 ghost use Rattle.std.specs.Io.KnownBytes.{IsAtEnd, Keeps, append_known};
 ghost use Rattle.written_machine.specs.Machine.{initial};
-ghost use Rattle.written_machine.specs.NextAlarm.{is_due_by};
 ghost use Rattle.coil_driver.specs.Board.{board_view};
 ghost use Rattle.machine_core.specs.Fit.{IsFit};
+ghost use Rattle.machine_core.specs.Stimuli.{stimulus_view};
 ghost use Rattle.pin_rig.specs.Refused.{admitted};
-ghost use Rattle.pin_rig.specs.Rig.{stimulus_at, IsOfRun, RigStep, RigHalt};
+ghost use Rattle.pin_rig.specs.Admission.{IsAdmitted};
 ghost use Rattle.pinball_shell.specs.LogView.{given_by_said};
 ghost use Rattle.pinball_shell.specs.RunOfLog.{if_admitted};
 ghost use Rattle.pinball_shell.specs.RunGiven.{PrintsPlayOf};
 ghost use Rattle.pinball_shell.specs.Ends.{IsTextPlayedOn};
 ghost use Rattle.pinball_shell.specs.TextRead.{HasAtMost, HasMoreThan};
-ghost use Rattle.pinball_shell.specs.Played.{worse_of, GivesInput, IsRigOf, PlaysInput, PlaysAlarms, PlaysLine, IsLogPlayed, GivesBack};
+ghost use Rattle.pinball_shell.specs.Played.{worse_of, GivesTimed, IsRigOf, PlaysStimulus, PlaysAlarms, PlaysLine, IsLogPlayed, GivesBack};
 
 use crate::fault::{ShellFault, Verdict};
 use crate::log_line::{Said, first_line, read_line};
@@ -23,7 +23,7 @@ use crate::text::read_all;
 use coil_guard::Board;
 use config_checker::Checked;
 use device_objects::Device;
-use pin_rig::{Input, Rig, StepFault, check_moment};
+use pin_rig::{Rig, StepFault, Stimulus, check_moment};
 use plan_tables::Plan;
 use std::alloc::Global;
 use std::io::{Read, Write};
@@ -184,9 +184,9 @@ pub(crate) fn play_line<D: Device, B: Board, W: Write>(
 {
     match given_by(plan, rig.now(), read_line(line)) {
         Ok(None) => Ok(Verdict::Yes),
-        Ok(Some((at, input))) => {
+        Ok(Some((at, stimulus))) => {
             play_alarms(plan, rig, at, page, writer)?;
-            play_input(plan, rig, input, page, writer)?;
+            play_stimulus(plan, rig, stimulus, page, writer)?;
             Ok(Verdict::Yes)
         }
         Err(refusal) => {
@@ -196,32 +196,32 @@ pub(crate) fn play_line<D: Device, B: Board, W: Write>(
     }
 }
 
-/// What a line gives if the latest stimulus came at `now`: nothing, an input and its moment, or
-/// why it is refused.
+/// What a line gives if the latest stimulus came at `now`: nothing, a stimulus and its moment, or
+/// why it is refused. Once the alarms due by its moment have come, the rig takes it as it is.
 fn given_by(
     plan: &PrintedPlan<'_>,
     now: u64,
     line: Said<'_>,
-) -> Result<Option<(u64, Input)>, Refusal>
-    ensures { GivesInput result (given_by_said plan.now now line.entry) }
+) -> Result<Option<(u64, Stimulus)>, Refusal>
+    ensures { GivesTimed result (given_by_said plan.now now line.entry) }
 {
     match line {
         Said::Nothing => Ok(None),
         Said::Unreadable => Err(Refusal::BadLine),
-        Said::Wait(at) => given_at(now, at, Input::Wait { at }),
+        Said::Wait(at) => given_at(now, at, Stimulus::Wait(at)),
         Said::Change(at, name, level) => match plan.tables().find_switch(name) {
             None => Err(Refusal::Step(StepFault::NoSuchSwitch)),
-            Some(switch) => given_at(now, at, Input::Change { at, switch, level }),
+            Some(switch) => given_at(now, at, Stimulus::SwitchChange(at, switch, level)),
         },
     }
 }
 
-/// An input and its moment, if the moment is admitted.
-fn given_at(now: u64, at: u64, input: Input) -> Result<Option<(u64, Input)>, Refusal>
-    ensures { result ≡ if_admitted (admitted now at) (at, input) }
+/// A stimulus and its moment, if the moment is admitted.
+fn given_at(now: u64, at: u64, stimulus: Stimulus) -> Result<Option<(u64, Stimulus)>, Refusal>
+    ensures { result ≡ if_admitted (admitted now at) (at, stimulus) }
 {
     check_moment(now, at)?;
-    Ok(Some((at, input)))
+    Ok(Some((at, stimulus)))
 }
 
 /// Plays the alarms that come by a moment, until the board has not taken a command.
@@ -237,46 +237,26 @@ fn play_alarms<D: Device, B: Board, W: Write>(
     requires rig { IsRigOf plan.now rig.old }
     ensures { PlaysAlarms plan.now until rig.old rig.new (append_known (W.contents writer.old) page.old) (append_known (W.contents writer.new) page.new) result }
 {
-    while has_alarm_by(rig, until) {
-        play_input(plan, rig, Input::Alarm, page, writer)?;
+    while let Some(alarm) = rig.alarm_by(until) {
+        play_stimulus(plan, rig, alarm, page, writer)?;
     }
     Ok(())
 }
 
-/// Whether an alarm is due at or before a moment.
-fn has_alarm_by<D: Device, B: Board>(rig: &Rig<'_, D, B>, until: u64) -> bool
-    ensures due { result ≡ is_due_by until rig.now.machine }
-    ensures reached { IsOfRun rig.now }
-{
-    match rig.next_due() {
-        None => false,
-        Some(at) => at <= until,
-    }
-}
-
-/// Plays an input that the rig takes, and puts its lines on the page. If the board has not taken a command,
+/// Plays a stimulus that the rig takes, and puts its lines on the page. If the board has not taken a command,
 /// these are the lines before the line of this command.
-fn play_input<D: Device, B: Board, W: Write>(
+fn play_stimulus<D: Device, B: Board, W: Write>(
     plan: &PrintedPlan<'_>,
     rig: &mut Rig<'_, D, B>,
-    input: Input,
+    stimulus: Stimulus,
     page: &mut Page,
     writer: &mut W,
 ) -> Result<(), Stop>
-    requires taken { IsOk (stimulus_at rig.old input) }
+    requires taken { IsAdmitted rig.old (stimulus_view stimulus) }
     requires plan { rig.old.checked.plan ≡ plan.now }
-    ensures { PlaysInput plan.now input rig.old rig.new (append_known (W.contents writer.old) page.old) (append_known (W.contents writer.new) page.new) result }
+    ensures { PlaysStimulus plan.now (stimulus_view stimulus) rig.old rig.new (append_known (W.contents writer.old) page.old) (append_known (W.contents writer.new) page.new) result }
 {
-    let is_served = step(rig, input);
+    let is_served = rig.take(stimulus);
     put_trace(plan, rig.trace(), page, writer)?;
     if is_served { Ok(()) } else { Err(Stop::Board) }
-}
-
-/// One step of an input that the rig takes. Whether the board has taken all commands.
-fn step<D: Device, B: Board>(rig: &mut Rig<'_, D, B>, input: Input) -> bool
-    requires { IsOk (stimulus_at rig.old input) }
-    ensures served { IsTrue result → RigStep input rig.old rig.new }
-    ensures halted { result ≡ false → RigHalt input rig.old rig.new }
-{
-    rig.step(input).is_ok()
 }

@@ -15,26 +15,26 @@ returns-in_err-plan-clause-refused c = search (rules, err_from_is_err_and, no-pl
 
 -- ---- no weights were found
 
-pub returns-in-Err-clause-exact : goal.returns-in-Err-clause-exact
-returns-in-Err-clause-exact c =
+pub returns-in_ok-named_fault-in-Err-clause-exact : goal.returns-in_ok-named_fault-in-Err-clause-exact
+returns-in_ok-named_fault-in-Err-clause-exact c =
     let rows = rows_view c.args.config.now in
     reports-gives c.report_of.result (fault_view c.in_ok-named_fault-in-Err.field-0) (checked_at rows) c.report_of.ensures
     (unfound-checked rows c.in_ok-plan.ensures.none c.in_ok-plan.plan c.in_ok-plan.ensures.plan (rank_view c.in-Err.fault) (fault_view c.in_ok-named_fault-in-Err.field-0) c.in_ok-named_fault-in-Err.ensures c.in-Err.ensures.exact)
 
-pub returns-in-Err-clause-refused : goal.returns-in-Err-clause-refused
-returns-in-Err-clause-refused c =
+pub returns-in_ok-named_fault-in-Err-clause-refused : goal.returns-in_ok-named_fault-in-Err-clause-refused
+returns-in_ok-named_fault-in-Err-clause-refused c =
     let rows = rows_view c.args.config.now in
     reports-there rows (IsFaultOf rows) c.report_of.result (fault_view c.in_ok-named_fault-in-Err.field-0) c.in_ok-plan.ensures.none c.report_of.ensures
     (unfound-fault rows c.in_ok-plan.ensures.none c.in_ok-plan.plan c.in_ok-plan.ensures.plan (rank_view c.in-Err.fault) (fault_view c.in_ok-named_fault-in-Err.field-0) c.in_ok-named_fault-in-Err.ensures c.in-Err.ensures.refused)
 
 -- ---- accepted
 
-pub returns-clause-exact : goal.returns-clause-exact
-returns-clause-exact c =
-    found-accepted (rows_view c.args.config.now) c.in_ok-plan.ensures.none c.in_ok-plan.plan c.in_ok-plan.ensures.plan c.in-Ok.weights c.in-Ok-verify.bound.0 c.in-Ok.ensures.exact c.in-Ok-verify.ensures.verified.bound_is ∙ ap Ok (sym c.new.ensures)
-
-pub returns-clause-good : goal.returns-clause-good
-returns-clause-good c = subst IsGood (sym c.new.ensures) (every_run_is_good _ (plan_accepted (rows_view c.args.config.now) c.args.config.now.lists_short c.args.config.now.have_states c.args.config.now.few_modes c.in_ok-plan.ensures.none _ c.in_ok-plan.ensures.plan c.in-Ok-verify.ensures.verified))
-
 pub new-requires : goal.new-requires
-new-requires c = plan_accepted (rows_view c.args.config.now) c.args.config.now.lists_short c.args.config.now.have_states c.args.config.now.few_modes c.in_ok-plan.ensures.none _ c.in_ok-plan.ensures.plan c.in-Ok-verify.ensures.verified
+new-requires c = plan_accepted (rows_view c.args.config.now) c.args.config.now.lists_short c.args.config.now.have_states c.args.config.now.few_modes c.in_ok-plan.ensures.none _ c.in_ok-plan.ensures.plan c.in-Ok.ensures.verified
+
+pub returns-in-Ok-clause-exact : goal.returns-in-Ok-clause-exact
+returns-in-Ok-clause-exact c =
+    found-accepted (rows_view c.args.config.now) c.in_ok-plan.ensures.none c.in_ok-plan.plan c.in_ok-plan.ensures.plan c.in-Ok.weights c.in-Ok.bound.0 c.in-Ok.ensures.exact c.in-Ok.ensures.verified.bound_is ∙ ap Ok (sym c.new.ensures)
+
+pub returns-in-Ok-clause-good : goal.returns-in-Ok-clause-good
+returns-in-Ok-clause-good c = subst IsGood (sym c.new.ensures) (every_run_is_good _ (plan_accepted (rows_view c.args.config.now) c.args.config.now.lists_short c.args.config.now.have_states c.args.config.now.few_modes c.in_ok-plan.ensures.none _ c.in_ok-plan.ensures.plan c.in-Ok.ensures.verified))

@@ -1,8 +1,8 @@
-use Rattle.std.proofs.Common.{rules, ◌≡◌, ◌+◌, ◌≤◌, ℕ, true, false, Option, is_none, List, ◌++◌, length, take, ap, sym, ◌∙◌, subst, arith}
+use Rattle.std.proofs.Common.{rules, ◌≡◌, ◌+◌, true, false, is_none, List, length, take, ap, sym, ◌∙◌, subst, arith}
 use Rattle.std.{specs.List.All, proofs.lemmas.List.length-append}
 use Rattle.written_machine.specs.declared.line.Line.{Line}
 use Rattle.machine_core.proofs.Settling.{now-stays, advanced-smaller}
-use Rattle.coil_driver.specs.Driver.{DriverView, HasSent, IsServed, IsSendable}
+use Rattle.coil_driver.specs.Driver.{HasSent, IsServed, IsSendable}
 use Rattle.pin_rig.proofs.Cascading.{first-all, whole-sent, served-more, lines-are, steps-join, lines-more, settled-join}
 use Rattle.pin_rig.proofs.cascade.run_cascade.Goals as goal
 

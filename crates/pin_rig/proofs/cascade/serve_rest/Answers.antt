@@ -1,4 +1,4 @@
-use Rattle.std.proofs.Common.{◌≡◌, ◌+◌, ◌-◌, ◌<◌, List, length, take, drop, ap, sym, ◌∙◌, subst, arith}
+use Rattle.std.proofs.Common.{◌≡◌, ◌+◌, ◌-◌, ◌<◌, List, length, take, drop, ap, subst, arith}
 use Rattle.std.proofs.lemmas.{Option.slice_get_within, List.{take_all, length-drop}}
 use Rattle.written_machine.specs.declared.line.Line.{Line}
 use Rattle.coil_driver.specs.Driver.{HasSent, HasStopped}

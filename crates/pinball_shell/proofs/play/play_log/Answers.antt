@@ -1,4 +1,4 @@
-use Rattle.std.proofs.Common.{◌≡◌, ◌⊎◌, Option, List, ℕ, Err, IfErr, IsErrOf, inl, inr, ap, sym, ◌∙◌, map, subst}
+use Rattle.std.proofs.Common.{Option, List, ℕ, Err, IsErrOf, ap, sym, ◌∙◌, map, subst}
 use Rattle.std.proofs.lemmas.Result.{err_from_is_err_and}
 use Rattle.plan_tables.specs.PlanView.{PlanView}
 use Rattle.coil_driver.specs.Board.{BoardView, board_view}

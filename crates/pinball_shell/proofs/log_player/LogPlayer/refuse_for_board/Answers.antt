@@ -1,4 +1,4 @@
-use Rattle.std.proofs.Common.{Option, List, ℕ, ap, subst}
+use Rattle.std.proofs.Common.{ap, subst}
 use Rattle.trace_lines.specs.Pages.{Puts}
 use Rattle.pinball_shell.specs.{TraceText.refused_text, LogPlayers.{PlayerView, with_page, board_refusal}}
 use Rattle.pinball_shell.proofs.log_player.LogPlayer.refuse_for_board.Goals as goal

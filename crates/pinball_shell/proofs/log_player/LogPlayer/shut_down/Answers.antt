@@ -1,4 +1,4 @@
-use Rattle.std.proofs.Common.{rules, Option, List, ℕ, subst}
+use Rattle.std.proofs.Common.{rules, subst}
 use Rattle.coil_driver.specs.Board.{BoardView, board_view}
 use Rattle.pinball_shell.specs.{Played.IsShutDown, LogPlayers.PlayerView}
 use Rattle.pinball_shell.proofs.log_player.LogPlayer.shut_down.Goals as goal

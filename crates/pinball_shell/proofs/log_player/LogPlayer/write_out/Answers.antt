@@ -1,4 +1,4 @@
-use Rattle.std.{proofs.Common.{Option, List, ℕ, [], ap, ◌∙◌, subst}, specs.{Result.OnOk, Io.KnownBytes.Appends}}
+use Rattle.std.{proofs.Common.{List, ℕ, [], ap, ◌∙◌, subst}, specs.{Result.OnOk, Io.KnownBytes.Appends}}
 use Rattle.pinball_shell.specs.LogPlayers.{PlayerView, with_page}
 use Rattle.pinball_shell.proofs.log_player.LogPlayer.write_out.Goals as goal
 

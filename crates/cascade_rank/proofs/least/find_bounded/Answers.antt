@@ -1,10 +1,11 @@
-use Rattle.std.proofs.Common.{rules, List, ℕ, nat_lt, Option, position, Err, Ok, ap, ◌∙◌, sym, subst}
+use Rattle.std.proofs.Common.{rules, ◌≡◌, List, ℕ, nat_lt, Option, position, Err, Ok, ap, ◌∙◌, sym, subst}
 use Rattle.std.specs.Option.{option_map}
 use Rattle.plan_tables.specs.declared.entries.EventId.{EventId}
-use Rattle.cascade_rank.specs.{Weights.IsWithinLimit, Finding.{cycle, found_past}}
+use Rattle.cascade_rank.specs.{Events.weight_of, Verified.IsVerified}
+use Rattle.cascade_rank.specs.{Weights.{bound_of, IsWithinLimit}, Finding.{cycle, found_past}}
 use Rattle.cascade_rank.proofs.{Events.event, Limits.events-few, Cycles.cycle-no_fit}
 use Rattle.cascade_rank.proofs.Finds.{left_is_open, found_past_is, first_is_open, all_grounded, whole_order, found_within, least_within, found_above, too_dear}
-use Rattle.cascade_rank.proofs.least.find.Goals as goal
+use Rattle.cascade_rank.proofs.least.find_bounded.Goals as goal
 
 pub overflow_cast-start : goal.overflow_cast-start
 overflow_cast-start c = search (rules, nat_lt, first_is_open, events-few)
@@ -64,3 +65,15 @@ returns-clause-exact c =
 
 pub returns-clause-least : goal.returns-clause-least
 returns-clause-least c = search (rules, nat_lt, all_grounded, least_within)
+
+pub returns-clause-verified : goal.returns-clause-verified
+returns-clause-verified c =
+    let g = c.in_ok-grounding.ensures in
+    let is = c.first_left.ensures ∙ ap (position (λ n. nat_lt 0 n)) c.deref.ensures.value in
+    let all = all_grounded c.args.plan.now g.valid.entries c.in_ok-grounding.grounding.left.items c.in_ok-grounding.grounding.order.items g.order c.first_left.result is c.in_default.is in
+    let bound = c.in-Some-limited_bound.bound.0 in
+    let (here, bound_here) = c.in-Some-limited_bound.ensures.within in
+    let within = subst (IsWithinLimit c.args.plan.now) c.deref-3.ensures.value here in
+    let bound_is = subst (λ (ws : List ℕ). bound ≡ bound_of c.args.plan.now (weight_of ws)) c.deref-3.ensures.value bound_here in
+    let least = least_within c.args.plan.now g.valid.entries all c.in_ok-weights.weights.items c.in_ok-weights.ensures within in
+    subst (λ (ws : List ℕ). IsVerified c.args.plan.now ws bound) (sym c.of.ensures) (record { count = least.count; fits = least.fits; limit = within; bound_is = bound_is })
