@@ -1,14 +1,18 @@
 -- What a ledger says follows from what it has booked.
-use Rattle.std.specs.List.{count_by}
-use Rattle.std.proofs.Common.{rules, ◌≡◌, ℕ, ◌+◌, ◌-◌, ◌<◌, ◌==◌, nat_lt, Bool, cond, List, [], ◌∷◌, ◌++◌, length, slice_index_or, slice_set, refl, ap, ap₂, sym, subst, ◌∙◌, inl, inr, append-nil, append_assoc, arith}
-use Rattle.std.proofs.lemmas.{Bool.{cases_eq, cases_lt, eq-eqb, ne_eqb, lt-ltb, le-ltb}, List.Sums.sum_by_push}
-use Rattle.std.proofs.lemmas.List.{length-set, length-replicate, get_or_past, get_or-set_same, get_or-set_other, get_or-replicate}
+use Rattle.std.{specs.List.count_by, proofs.lemmas.Bool.{cases_eq, cases_lt, eq-eqb, ne_eqb, lt-ltb, le-ltb}}
+use Rattle.std.proofs.Common.{rules, ◌≡◌, ℕ, ◌+◌, ◌-◌, ◌<◌, ◌==◌, nat_lt, Bool, cond, List, [], ◌∷◌, ◌++◌, length}
+use Rattle.std.proofs.Common.{slice_index_or, slice_set, refl, ap, ap₂, sym, subst, ◌∙◌, inl, inr, append-nil}
+use Rattle.std.proofs.{Common.{append_assoc, arith}, lemmas.List.{get_or-replicate, Sums.sum_by_push}}
+use Rattle.std.proofs.lemmas.List.{length-set, length-replicate, get_or_past, get_or-set_same, get_or-set_other}
 use Rattle.plan_tables.specs.declared.devices.{RowId.RowId, BallTarget.{BallTarget, TheVariants.{Playfield, Device}}}
 use Rattle.plan_tables.specs.{PlanView.{PlanView, is_target}, Valid.IsTargetThere}
 use Rattle.ball_devices.specs.declared.booking.Origin.{Origin, TheVariants.{Awaited, Found, New}}
 use Rattle.ball_devices.specs.declared.booking.Booking.{Booking, TheVariants.{Entered, Left, Lost, Arrived}}
-use Rattle.ball_devices.specs.Ledger.{Ledger, no_balls, counted_in, transit_to, set_counted, origin_of, taken, left, lost, arrived, IsLedger}
-use Rattle.ball_devices.specs.Bookings.{LedgerCall, Enter, Leave, Lose, Arrive, after_call, booked, MayBook, after_calls, booked_by, MayBookAll, is_new_entry, is_found_entry, is_entry_into, is_exit_from, is_start_for, is_end_for, is_loose, HasBooked, origin_after, Says, one}
+use Rattle.ball_devices.specs.Ledger.{Ledger, no_balls, counted_in, transit_to, set_counted, origin_of, take_ball, left}
+use Rattle.ball_devices.specs.Ledger.{lost, arrived, IsLedger}
+use Rattle.ball_devices.specs.Bookings.{LedgerCall, Enter, Leave, Lose, Arrive, after_call, booking_of, MayBook, one}
+use Rattle.ball_devices.specs.Bookings.{after_calls, booked_by, MayBookAll, is_new_entry, is_found_entry, is_entry_into}
+use Rattle.ball_devices.specs.Bookings.{is_exit_from, is_start_for, is_end_for, is_loose, HasBooked, origin_after, Says}
 use Rattle.ball_devices.specs.Laws.{BallsAreSomewhere, LedgersFollowBookings, OriginsFollowBookings}
 use Rattle.ball_devices.proofs.Ledgers.{origin-says, new-is, call-is, calls-are}
 
@@ -22,11 +26,13 @@ one-other i j other = ap one (ne_eqb i j other)
 
 read-more : (xs : List ℕ) (i j : ℕ) → j < length xs
     → slice_index_or (slice_set xs j (slice_index_or xs j 0 + 1)) i 0 ≡ slice_index_or xs i 0 + one (i == j)
-read-more xs i j within = search (rules, cases_eq, get_or-set_same, slice_index_or, one-same, get_or-set_other, one-other)
+read-more xs i j within =
+    search (rules, cases_eq, get_or-set_same, slice_index_or, one-same, get_or-set_other, one-other)
 
 read-less : (xs : List ℕ) (i j : ℕ) → j < length xs → 0 < slice_index_or xs j 0
     → slice_index_or (slice_set xs j (slice_index_or xs j 0 - 1)) i 0 + one (i == j) ≡ slice_index_or xs i 0
-read-less xs i j within some = search (rules, cases_eq, get_or-set_same, slice_index_or, one-same, get_or-set_other, one-other)
+read-less xs i j within some =
+    search (rules, cases_eq, get_or-set_same, slice_index_or, one-same, get_or-set_other, one-other)
 
 -- ---- one booking more
 
@@ -40,7 +46,8 @@ pub record Tells (b : Booking) (old new : Ledger) : Type 0 where
       → transit_to new target + one (is_end_for target b) ≡ transit_to old target + one (is_start_for target b)
   pub playfield : new.playfield + one (is_found_entry b) ≡ old.playfield + one (is_loose b)
 
-count-more : (p : Booking → Bool) (bs : List Booking) (b : Booking) → count_by p (bs ++ b ∷ []) ≡ count_by p bs + one (p b)
+count-more : (p : Booking → Bool) (bs : List Booking) (b : Booking)
+    → count_by p (bs ++ b ∷ []) ≡ count_by p bs + one (p b)
 count-more p bs b = sum_by_push (λ x. cond (p x) 1 0) bs b
 
 there-in : (n m : ℕ) (target : BallTarget) → n ≡ m → IsTargetThere n target → IsTargetThere m target
@@ -52,7 +59,13 @@ booked-more bs b old new has tells = record {
   known = omega (arith, has.known, tells.known, count-more is_new_entry bs b);
   counted = λ d within.
       let was : d.0 < length old.counted = omega (arith, tells.rows) in
-      omega (arith, has.counted d was, tells.counted d was, count-more (is_entry_into d) bs b, count-more (is_exit_from d) bs b);
+      omega (
+        arith,
+        has.counted d was,
+        tells.counted d was,
+        count-more (is_entry_into d) bs b,
+        count-more (is_exit_from d) bs b,
+      );
   transit = λ target there.
       let was = there-in (length new.counted) (length old.counted) target tells.rows there in
       omega (
@@ -82,7 +95,7 @@ module _ (l : Ledger) (rows : length l.to_devices ≡ length l.counted) where
     entered-counted e = omega (arith, read-more l.counted e.0 d.0 within)
 
     entered-told : (o : Origin) → Says o (transit_to l (Device d)) l.playfield
-        → Tells (Entered d o) l (set_counted d (counted_in l d + 1) (taken d o l))
+        → Tells (Entered d o) l (set_counted d (counted_in l d + 1) (take_ball d o l))
     entered-told Awaited some = record {
       rows = entered-rows;
       known = omega arith;
@@ -92,7 +105,8 @@ module _ (l : Ledger) (rows : length l.to_devices ≡ length l.counted) where
     }
       where
         on_way : (target : BallTarget)
-            → transit_to (taken d Awaited l) target + one (is_end_for target (Entered d Awaited)) ≡ transit_to l target + 0
+            → transit_to (take_ball d Awaited l) target + one (is_end_for target (Entered d Awaited))
+            ≡ transit_to l target + 0
         on_way x1 = search (rules, read-less, to_devices)
     entered-told Found says = record {
       rows = entered-rows;
@@ -179,7 +193,7 @@ module _ (l : Ledger) (rows : length l.to_devices ≡ length l.counted) where
           → transit_to (arrived (Device to) l) target + one (is_target target (Device to)) ≡ transit_to l target + 0
       on_way x1 = search (rules, read-less, to_devices)
 
-  pub call-told : (c : LedgerCall) → MayBook c l → Tells (booked c l) l (after_call c l)
+  pub call-told : (c : LedgerCall) → MayBook c l → Tells (booking_of c l) l (after_call c l)
   call-told (Enter d) may = entered-told d may.0 (origin_of d l) (origin-says d l)
   call-told (Leave d to) may = left-told d may.0 may.2 to may.1
   call-told (Lose d) may = lost-told d may.0 may.1
@@ -201,13 +215,13 @@ calls-followed [] bs l is may has = record {
 calls-followed (c ∷ cs) bs l is may has =
     let next = after_call c l in
     let tells = call-told l is.rows c may.0 in
-    let more = booked-more bs (booked c l) l next has tells in
-    let rest = calls-followed cs (bs ++ booked c l ∷ []) next (call-is c l is may.0) may.1 more in
+    let more = booked-more bs (booking_of c l) l next has tells in
+    let rest = calls-followed cs (bs ++ booking_of c l ∷ []) next (call-is c l is may.0) may.1 more in
     record {
       rows = rest.rows ∙ tells.rows;
       has =
           subst (λ (xs : List Booking). HasBooked xs (after_calls cs next))
-          (append_assoc bs (booked c l ∷ []) (booked_by cs next)) rest.has;
+          (append_assoc bs (booking_of c l ∷ []) (booked_by cs next)) rest.has;
     }
 
 -- at first nothing is booked
@@ -223,7 +237,8 @@ none-booked plan = record {
     none k =
         elim (cases_lt k (length plan.rows)) [
           | inl within ↦ get_or-replicate (length plan.rows) k 0 0 within
-          | inr past ↦ get_or_past (no_balls plan).counted k 0 (omega (arith, length-replicate {A = ℕ} (length plan.rows) 0))
+          | inr past ↦ get_or_past (no_balls plan).counted k 0
+              (omega (arith, length-replicate {A = ℕ} (length plan.rows) 0))
         ]
 
     on_way : (target : BallTarget) → ◌≡◌ {A = ℕ} 0 (transit_to (no_balls plan) target + 0)
@@ -234,7 +249,7 @@ module _ (plan : PlanView) (calls : List LedgerCall) (may : MayBookAll calls (no
   from_new = calls-followed calls [] (no_balls plan) (new-is plan) may (none-booked plan)
 
 pub balls_are_somewhere : BallsAreSomewhere
-balls_are_somewhere plan calls may = let is = calls-are calls (no_balls plan) (new-is plan) may in is.balanced
+balls_are_somewhere plan calls may = let is = calls-are calls (no_balls plan) (new-is plan) may in is.balance
 
 pub ledgers_follow_bookings : LedgersFollowBookings
 ledgers_follow_bookings plan calls may = let followed = from_new plan calls may in followed.has

@@ -1,7 +1,7 @@
 -- Ball switches at which nothing is due any more, one after the other.
-use Rattle.std.proofs.Common.{◌≡◌, ℕ, ◌+◌, ◌<◌, List, [], ◌∷◌, ◌++◌, length, map, take, drop, get_or, slice_set, ap, ap₂, sym, ◌∙◌, arith}
+use Rattle.std.proofs.Common.{◌≡◌, ℕ, ◌+◌, ◌<◌, List, [], ◌∷◌, ◌++◌, length, map, take, drop, get_or, slice_set, ap}
+use Rattle.std.proofs.{Common.{ap₂, sym, ◌∙◌, arith}, lemmas.Grind.drop_more_same}
 use Rattle.std.proofs.lemmas.List.{length-drop, get_or-drop, drop-set-lt, map_more, take_more_set}
-use Rattle.std.proofs.lemmas.Grind.{drop_more_same}
 use Rattle.device_objects.specs.{declared.state.BallSwitch.BallSwitch, BallDevice.not_due}
 
 -- so many are not due, and those that are left are as they were
@@ -9,7 +9,8 @@ pub record IsCalmBelow (old new : List BallSwitch) (i : ℕ) : Type 0 where
   pub before : take i new ≡ map not_due (take i old)
   pub left : drop i new ≡ drop i old
 
-module _ (old new : List BallSwitch) (i : ℕ) (b : BallSwitch) (within : i < length new) (is : IsCalmBelow old new i) where
+module _ (old new : List BallSwitch) (i : ℕ) (b : BallSwitch) (within : i < length new)
+    (is : IsCalmBelow old new i) where
   within-old : i < length old
   within-old = omega (arith, length-drop i new, length-drop i old, ap length is.left)
 

@@ -1,6 +1,7 @@
 -- The ball switch that is due first, as a loop finds it.
-use Rattle.std.proofs.{Common.rules, lemmas.{Bool.{cases_lt, cond_both, le-leb, lt-leb}, List.{drop_more, drop_all}}}
-use Rattle.std.proofs.Common.{◌≡◌, ℕ, suc, ◌+◌, ◌<◌, ◌≤◌, nat_le, Option, IfSome, option_map, List, [], ◌∷◌, length, drop, get_or, arith}
+use Rattle.std.proofs.Common.{rules, drop, get_or, arith}
+use Rattle.std.proofs.lemmas.{Bool.{cases_lt, cond_both, le-leb, lt-leb}, List.{drop_more, drop_all}}
+use Rattle.std.proofs.Common.{◌≡◌, ℕ, suc, ◌+◌, ◌<◌, ◌≤◌, nat_le, Option, IfSome, option_map, List, [], ◌∷◌, length}
 use Rattle.device_objects.specs.{declared.state.BallSwitch.BallSwitch, BallDevice.first_due_from}
 use Rattle.plan_tables.specs.Due.{sooner}
 

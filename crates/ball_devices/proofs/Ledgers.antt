@@ -23,7 +23,8 @@ pub new-is : (plan : PlanView) → IsLedger (no_balls plan)
 new-is plan = search (rules, sum_by-replicate)
 
 module _ (l : Ledger) (is : IsLedger l) where
-  pub arrived-is : (target : BallTarget) → IsTargetThere (length l.counted) target → 0 < transit_to l target → IsLedger (arrived target l)
+  pub arrived-is : (target : BallTarget) → IsTargetThere (length l.counted) target → 0 < transit_to l target
+      → IsLedger (arrived target l)
   arrived-is x1 there some = search (rules, sum_by-set, length-set, slice_index_or)
 
 -- ---- all calls

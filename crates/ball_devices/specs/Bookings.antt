@@ -1,11 +1,11 @@
 -- What the ledger has booked, and what follows from that alone.
-use Rattle.std.specs.Prelude.{◌≡◌, ℕ, ◌+◌, ◌==◌, ◌<◌, ◌^◌, nat_lt, Bool, true, false, ◌&&◌, cond, if◌then◌else◌, List, [], ◌∷◌, length}
-use Rattle.std.specs.List.{count_by}
+use Rattle.std.specs.Prelude.{◌≡◌, ℕ, ◌+◌, ◌==◌, ◌<◌, ◌^◌, nat_lt, Bool, true, false, ◌&&◌, cond, if◌then◌else◌, List}
+use Rattle.std.specs.{Prelude.{[], ◌∷◌, length}, List.count_by}
 use Rattle.plan_tables.specs.declared.devices.{RowId.RowId, BallTarget.{BallTarget, TheVariants.{Playfield, Device}}}
 use Rattle.plan_tables.specs.{PlanView.is_target, Valid.IsTargetThere}
 use Rattle.ball_devices.specs.declared.booking.Origin.{Origin, TheVariants.{Awaited, Found, New}}
 use Rattle.ball_devices.specs.declared.booking.Booking.{Booking, TheVariants.{Entered, Left, Lost, Arrived}}
-use Rattle.ball_devices.specs.Ledger.{Ledger, counted_in, transit_to, origin_of, entered, left, lost, arrived}
+use Rattle.ball_devices.specs.Ledger.{Ledger, counted_in, transit_to, origin_of, after_entry, left, lost, arrived}
 
 -- ---- the calls of a ledger
 
@@ -17,17 +17,17 @@ pub data LedgerCall : Type 0 where
   Arrive : (target : BallTarget) → LedgerCall
 
 abbrev pub after_call : LedgerCall → Ledger → Ledger
-after_call (Enter d) l = entered d l
+after_call (Enter d) l = after_entry d l
 after_call (Leave d target) l = left d target l
 after_call (Lose d) l = lost d l
 after_call (Arrive target) l = arrived target l
 
 -- what it books then
-abbrev pub booked : LedgerCall → Ledger → Booking
-booked (Enter d) l = Entered d (origin_of d l)
-booked (Leave d target) l = Left d target
-booked (Lose d) l = Lost d
-booked (Arrive target) l = Arrived target
+abbrev pub booking_of : LedgerCall → Ledger → Booking
+booking_of (Enter d) l = Entered d (origin_of d l)
+booking_of (Leave d target) l = Left d target
+booking_of (Lose d) l = Lost d
+booking_of (Arrive target) l = Arrived target
 
 -- the call may come: its device and target are there, and a ball that leaves or arrives is there to do so. A ball may
 -- enter if fewer than 2^32 balls are known.
@@ -55,7 +55,7 @@ after_calls (c ∷ cs) l = after_calls cs (after_call c l)
 
 abbrev pub booked_by : List LedgerCall → Ledger → List Booking
 booked_by [] l = []
-booked_by (c ∷ cs) l = booked c l ∷ booked_by cs (after_call c l)
+booked_by (c ∷ cs) l = booking_of c l ∷ booked_by cs (after_call c l)
 
 -- each call may come when it does
 abbrev pub MayBookAll : List LedgerCall → Ledger → Type 0

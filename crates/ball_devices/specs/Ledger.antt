@@ -1,6 +1,6 @@
 -- The ledger of balls: where each known ball is, and what each booking does.
-use Rattle.std.specs.Prelude.{◌≡◌, ℕ, ◌+◌, ◌-◌, ◌≤◌, ◌^◌, nat_lt, if◌then◌else◌, List, length, replicate, slice_index_or, slice_set}
-use Rattle.std.specs.List.{sum_by}
+use Rattle.std.specs.Prelude.{◌≡◌, ℕ, ◌+◌, ◌-◌, ◌≤◌, ◌^◌, nat_lt, if◌then◌else◌, List, length, replicate}
+use Rattle.std.specs.{Prelude.{slice_index_or, slice_set}, List.sum_by}
 use Rattle.plan_tables.specs.declared.devices.{RowId.RowId, BallTarget.{BallTarget, TheVariants.{Playfield, Device}}}
 use Rattle.plan_tables.specs.PlanView.{PlanView}
 use Rattle.ball_devices.specs.declared.booking.Origin.{Origin, TheVariants.{Awaited, Found, New}}
@@ -69,14 +69,14 @@ abbrev pub origin_of : RowId → Ledger → Origin
 origin_of d l = if nat_lt 0 (transit_to l (Device d)) then Awaited else (if nat_lt 0 l.playfield then Found else New)
 
 -- The ball is taken from where it was; a new one becomes known.
-abbrev pub taken : RowId → Origin → Ledger → Ledger
-taken d Awaited l = set_transit (Device d) (transit_to l (Device d) - 1) l
-taken d Found l = record l { playfield = l.playfield - 1 }
-taken d New l = record l { known = l.known + 1 }
+abbrev pub take_ball : RowId → Origin → Ledger → Ledger
+take_ball d Awaited l = set_transit (Device d) (transit_to l (Device d) - 1) l
+take_ball d Found l = record l { playfield = l.playfield - 1 }
+take_ball d New l = record l { known = l.known + 1 }
 
 -- a ball enters a device
-abbrev pub entered : RowId → Ledger → Ledger
-entered d l = set_counted d (counted_in l d + 1) (taken d (origin_of d l) l)
+abbrev pub after_entry : RowId → Ledger → Ledger
+after_entry d l = set_counted d (counted_in l d + 1) (take_ball d (origin_of d l) l)
 
 -- a ball leaves a device for a target
 abbrev pub left : RowId → BallTarget → Ledger → Ledger
@@ -97,6 +97,6 @@ abbrev pub IsBalanced : Ledger → Type 0
 IsBalanced l = l.known ≡ all_counted l + all_in_transit l + l.playfield
 
 pub record IsLedger (l : Ledger) : Type 0 where
-  pub balanced : IsBalanced l
+  pub balance : IsBalanced l
   pub few : l.known ≤ 2 ^ 32
   pub rows : length l.to_devices ≡ length l.counted

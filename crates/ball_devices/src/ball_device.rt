@@ -2,10 +2,11 @@
 
 ghost use Rattle.std.specs.Prelude.{◌≡◌, ◌<◌, ◌^◌, map};
 ghost use Rattle.plan_tables.specs.declared.devices.Settings.TheVariants as kinds;
-ghost use Rattle.device_objects.specs.BallDevice.{act_step, count, empty, fire, first_state as first_balls, halted, is_timeout_first, not_due};
+ghost use Rattle.device_objects.specs.BallDevice.{act_step, count, empty, fire, first_state as first_balls, halt};
+ghost use Rattle.device_objects.specs.BallDevice.{is_timeout_first, not_due};
 
-use crate::ejects::{ENTERED, answer, begin, confirm, gone, request, time_out};
-use crate::switches::{Due, due_of, first_due, switch_to, timeout_of, turned};
+use crate::ejects::{ENTRY_LIST, answer, begin, confirm, lose_sight, request, time_out};
+use crate::switches::{Due, due_of, first_due, switch_to, timeout_of, turn_over};
 use device_objects::{BallState, BallSwitch, Device, DeviceState, Eject, Outcome, World};
 use plan_tables::{Act, BallSettings, DeviceRow, Settings};
 
@@ -105,7 +106,7 @@ fn calm(switches: &mut [BallSwitch])
 
 /// The device is taken out of the machine: nothing is due any more, and nothing is ejected.
 fn halt(state: &mut BallState)
-    ensures { state.new ≡ halted state.old }
+    ensures { state.new ≡ halt state.old }
 {
     calm(&mut state.switches);
     state.eject = Eject::Idle;
@@ -120,11 +121,11 @@ fn count(settings: &BallSettings, state: &mut BallState, number: usize, now: u64
     ensures lists { result.items ≡ (count settings.now now number state.old).1 }
 {
     let before = state.switches[number];
-    state.switches[number] = turned(before);
+    state.switches[number] = turn_over(before);
     if before.counted {
-        gone(settings, state, now)
+        lose_sight(settings, state, now)
     } else {
-        begin(settings, state, now, answer(&[ENTERED]))
+        begin(settings, state, now, answer(&[ENTRY_LIST]))
     }
 }
 

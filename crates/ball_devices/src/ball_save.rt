@@ -1,7 +1,8 @@
 //! A ball save.
 
 ghost use Rattle.std.specs.Prelude.{◌≡◌, ◌<◌, ◌^◌};
-ghost use Rattle.device_objects.specs.BallSave.{act_step, disable, enable, end_of, first_state as first_save, save, saved};
+ghost use Rattle.device_objects.specs.BallSave.{act_step, disable, enable, end_of, first_state as first_save, save};
+ghost use Rattle.device_objects.specs.BallSave.{save_ball};
 ghost use Rattle.plan_tables.specs.declared.devices.Settings.TheVariants as kinds;
 
 use crate::ejects::answer;
@@ -85,7 +86,7 @@ fn first_state() -> SaveState
 {
     SaveState {
         active: false,
-        left: 0,
+        balls_left: 0,
         due: None,
     }
 }
@@ -112,7 +113,7 @@ fn enable(settings: &SaveSettings, state: &mut SaveState, now: u64) -> Outcome
         return Outcome::new();
     }
     state.active = true;
-    state.left = settings.balls;
+    state.balls_left = settings.balls;
     state.due = end_of(settings, now);
     answer(&[SAVE_ENABLED])
 }
@@ -131,11 +132,11 @@ fn disable(state: &mut SaveState) -> Outcome
 }
 
 /// It has saved a ball: after the last one it is active no more.
-fn saved(state: &mut SaveState) -> Outcome
-    ensures state { state.new ≡ (saved state.old).0 }
-    ensures lists { result.items ≡ (saved state.old).1 }
+fn save_ball(state: &mut SaveState) -> Outcome
+    ensures state { state.new ≡ (save_ball state.old).0 }
+    ensures lists { result.items ≡ (save_ball state.old).1 }
 {
-    if state.left > 0 {
+    if state.balls_left > 0 {
         return answer(&[SAVE_SAVING]);
     }
     state.active = false;
@@ -151,8 +152,8 @@ fn save(state: &mut SaveState) -> Outcome
     if !state.active {
         return Outcome::new();
     }
-    state.left = state.left.saturating_sub(1);
-    saved(state)
+    state.balls_left = state.balls_left.saturating_sub(1);
+    save_ball(state)
 }
 
 /// What an act does.

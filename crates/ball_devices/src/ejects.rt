@@ -2,26 +2,27 @@
 
 ghost use Rattle.std.specs.Prelude.{◌≡◌, ◌<◌, ◌≤◌, ◌^◌, ◌++◌, length, is_some, IfSome};
 ghost use Rattle.arrayvec.specs.ArrayVec.{array_vec_len};
-ghost use Rattle.device_objects.specs.BallDevice.{attempt, begin, can_begin, confirm, confirmed, ended, overdue, gone, may_try_again, next_number, requested, stuck, time_out};
+ghost use Rattle.device_objects.specs.BallDevice.{attempt, begin, can_begin, confirm, confirmation, end_eject, overdue};
+ghost use Rattle.device_objects.specs.BallDevice.{lose_sight, may_try_again, next_number, request, stuck, time_out};
 
 use crate::switches::has_ball;
 use device_objects::{Attempt, BallState, Eject, GREATEST_ATTEMPT, Outcome};
 use plan_tables::{BallSettings, BallTarget};
 
 /// The list of a ball that has entered.
-pub(crate) const ENTERED: u16 = 0;
+pub(crate) const ENTRY_LIST: u16 = 0;
 /// The list of an attempt to eject a ball.
-const ATTEMPTED: u16 = 1;
+const ATTEMPT_LIST: u16 = 1;
 /// The list of an ejected ball that has left.
-const LEFT: u16 = 2;
+const EXIT_LIST: u16 = 2;
 /// The list of a ball that has left and was not ejected.
-const LOST: u16 = 3;
-/// The list of an ejected ball that is where it should be.
-const SUCCEEDED: u16 = 4;
+const LOSS_LIST: u16 = 3;
+/// The list of an ejected ball that counts as being where it should be.
+const SUCCESS_LIST: u16 = 4;
 /// The list of a ball that was on its way and is on the playfield.
-const ARRIVED: u16 = 5;
+const ARRIVAL_LIST: u16 = 5;
 /// The list of an attempt that has failed.
-const FAILED: u16 = 6;
+const FAILURE_LIST: u16 = 6;
 
 /// An answer with these lists.
 pub(crate) fn answer(lists: &[u16]) -> Outcome
@@ -71,7 +72,7 @@ pub(crate) fn begin(
     let mut lists = lists;
     if can_begin(settings, state) {
         attempt(settings, state, 1, now);
-        lists.push(ATTEMPTED);
+        lists.push(ATTEMPT_LIST);
     }
     lists
 }
@@ -97,16 +98,16 @@ fn stuck(settings: &BallSettings, state: &mut BallState, now: u64, over: Attempt
 {
     if let Some(next) = next_attempt(settings, over.number) {
         attempt(settings, state, next, now);
-        return answer(&[FAILED, ATTEMPTED]);
+        return answer(&[FAILURE_LIST, ATTEMPT_LIST]);
     }
     state.eject = Eject::Idle;
     state.wanted = 0;
-    answer(&[FAILED])
+    answer(&[FAILURE_LIST])
 }
 
 /// The eject is over: a trough is to eject one ball fewer.
 fn end(state: &mut BallState)
-    ensures { state.new ≡ ended state.old }
+    ensures { state.new ≡ end_eject state.old }
 {
     state.eject = Eject::Idle;
     state.wanted = state.wanted.saturating_sub(1);
@@ -118,19 +119,19 @@ fn overdue(target: BallTarget) -> Outcome
     ensures count { array_vec_len result ≤ 2 }
 {
     match target {
-        BallTarget::Playfield => answer(&[ARRIVED, SUCCEEDED]),
-        BallTarget::Device(_) => answer(&[ARRIVED, FAILED]),
+        BallTarget::Playfield => answer(&[ARRIVAL_LIST, SUCCESS_LIST]),
+        BallTarget::Device(_) => answer(&[ARRIVAL_LIST, FAILURE_LIST]),
     }
 }
 
 /// The lists of a ball that is where it should be: in the target device, or on the playfield.
-fn confirmed(target: BallTarget) -> Outcome
-    ensures lists { result.items ≡ confirmed target }
+fn confirmation(target: BallTarget) -> Outcome
+    ensures lists { result.items ≡ confirmation target }
     ensures count { array_vec_len result ≤ 2 }
 {
     match target {
-        BallTarget::Playfield => answer(&[ARRIVED, SUCCEEDED]),
-        BallTarget::Device(_) => answer(&[SUCCEEDED]),
+        BallTarget::Playfield => answer(&[ARRIVAL_LIST, SUCCESS_LIST]),
+        BallTarget::Device(_) => answer(&[SUCCESS_LIST]),
     }
 }
 
@@ -160,28 +161,28 @@ pub(crate) fn confirm(settings: &BallSettings, state: &mut BallState, now: u64) 
         Eject::Idle | Eject::Pulsing(_) => Outcome::new(),
         Eject::Away(_) => {
             end(state);
-            begin(settings, state, now, confirmed(settings.target))
+            begin(settings, state, now, confirmation(settings.target))
         }
     }
 }
 
 /// A ball is counted no more: the one that is ejected has left, or one is lost.
-pub(crate) fn gone(settings: &BallSettings, state: &mut BallState, now: u64) -> Outcome
+pub(crate) fn lose_sight(settings: &BallSettings, state: &mut BallState, now: u64) -> Outcome
     requires { now < 2 ^ 40 }
-    ensures state { state.new ≡ (gone settings.now now state.old.eject state.old).0 }
-    ensures lists { result.items ≡ (gone settings.now now state.old.eject state.old).1 }
+    ensures state { state.new ≡ (lose_sight settings.now now state.old.eject state.old).0 }
+    ensures lists { result.items ≡ (lose_sight settings.now now state.old.eject state.old).1 }
 {
     match state.eject {
         Eject::Pulsing(attempt) => {
             state.eject = Eject::Away(attempt);
-            answer(&[LEFT])
+            answer(&[EXIT_LIST])
         }
         Eject::Idle if settings.ejects.mechanical => {
             let timeout = now + u64::from(settings.ejects.timeout);
             state.eject = Eject::Away(Attempt { number: 1, timeout });
-            answer(&[LEFT])
+            answer(&[EXIT_LIST])
         }
-        Eject::Idle | Eject::Away(_) => answer(&[LOST]),
+        Eject::Idle | Eject::Away(_) => answer(&[LOSS_LIST]),
     }
 }
 
@@ -193,8 +194,8 @@ pub(crate) fn request(
     now: u64,
 ) -> Outcome
     requires { now < 2 ^ 40 }
-    ensures state { state.new ≡ (requested settings.now balls now state.old).0 }
-    ensures lists { result.items ≡ (requested settings.now balls now state.old).1 }
+    ensures state { state.new ≡ (request settings.now balls now state.old).0 }
+    ensures lists { result.items ≡ (request settings.now balls now state.old).1 }
 {
     if !settings.trough {
         return Outcome::new();

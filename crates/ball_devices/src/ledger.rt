@@ -31,12 +31,14 @@ impl Model for BallLedger {
 
     ghost invariant = { λ l.
         IsLedger (ledger_of l.known l.counted.items l.to_devices.items l.to_playfield l.playfield)
-        × (l.in_transit ≡ all_in_transit (ledger_of l.known l.counted.items l.to_devices.items l.to_playfield l.playfield)) };
+        × (l.in_transit ≡ all_in_transit (ledger_of l.known l.counted.items l.to_devices.items l.to_playfield
+        l.playfield)) };
 }
 
 impl BallLedger {
     ghost use Rattle.std.specs.Prelude.{◌≡◌, ◌<◌, ◌^◌, length, IfOk};
-    ghost use Rattle.ball_devices.specs.Ledger.{IsLedger, no_balls, counted_in, transit_to, all_counted, all_in_transit, origin_of, entered, left, lost, arrived};
+    ghost use Rattle.ball_devices.specs.Ledger.{IsLedger, no_balls, counted_in, transit_to, all_counted};
+    ghost use Rattle.ball_devices.specs.Ledger.{all_in_transit, origin_of, after_entry, left, lost, arrived};
     ghost use Rattle.plan_tables.specs.Valid.{IsTargetThere};
 
     /// The ledger of a plan's devices. No ball is known. Only this call takes memory.
@@ -64,7 +66,7 @@ impl BallLedger {
     pub fn enter(&mut self, device: RowId) -> Origin
         requires device { device.0 < length self.old.counted }
         requires room { self.old.known < 2 ^ 32 }
-        ensures state { self.new ≡ entered device self.old }
+        ensures state { self.new ≡ after_entry device self.old }
         ensures origin { result ≡ origin_of device self.old }
         ensures ledger { IsLedger self.new }
     {

@@ -2,7 +2,8 @@
 
 ghost use Rattle.std.specs.Prelude.{◌≡◌, ◌<◌, ◌^◌, length, option_map, slice_index_or, slice_set, IfSome};
 ghost use Rattle.plan_tables.specs.Due.{sooner};
-ghost use Rattle.device_objects.specs.BallDevice.{delay, due_of, earlier, empty, first_due, first_due_from, has_ball, noted, switched, timeout_of, turned};
+ghost use Rattle.device_objects.specs.BallDevice.{delay, due_of, earlier, empty, first_due, first_due_from, has_ball};
+ghost use Rattle.device_objects.specs.BallDevice.{note_level, switch_level, timeout_of, turn_over};
 
 use device_objects::{BallState, BallSwitch, Eject};
 use plan_tables::BallSettings;
@@ -104,9 +105,9 @@ fn delay(settings: &BallSettings, active: bool) -> u32
 }
 
 /// A ball switch has become active, or inactive.
-fn noted(settings: &BallSettings, active: bool, now: u64, switch: BallSwitch) -> BallSwitch
+fn note_level(settings: &BallSettings, active: bool, now: u64, switch: BallSwitch) -> BallSwitch
     requires { now < 2 ^ 40 }
-    ensures { result ≡ noted settings.now active now switch }
+    ensures { result ≡ note_level settings.now active now switch }
 {
     let due = if switch.counted == active {
         None
@@ -120,10 +121,11 @@ fn noted(settings: &BallSettings, active: bool, now: u64, switch: BallSwitch) ->
 fn note(settings: &BallSettings, switches: &mut [BallSwitch], number: usize, active: bool, now: u64)
     requires { now < 2 ^ 40 }
     ensures { switches.new
-        ≡ slice_set switches.old number (noted settings.now active now (slice_index_or switches.old number empty)) }
+        ≡ slice_set switches.old number (note_level settings.now active now
+        (slice_index_or switches.old number empty)) }
 {
     if number < switches.len() {
-        switches[number] = noted(settings, active, now, switches[number]);
+        switches[number] = note_level(settings, active, now, switches[number]);
     }
 }
 
@@ -136,7 +138,7 @@ pub(crate) fn switch_to(
     now: u64,
 )
     requires { now < 2 ^ 40 }
-    ensures { state.new ≡ switched settings.now number active now state.old }
+    ensures { state.new ≡ switch_level settings.now number active now state.old }
 {
     if number < usize::from(settings.switches) {
         note(settings, &mut state.switches, number, active, now);
@@ -144,8 +146,8 @@ pub(crate) fn switch_to(
 }
 
 /// The opposite is counted at a ball switch from now on.
-pub(crate) fn turned(switch: BallSwitch) -> BallSwitch
-    ensures { result ≡ turned switch }
+pub(crate) fn turn_over(switch: BallSwitch) -> BallSwitch
+    ensures { result ≡ turn_over switch }
 {
     BallSwitch {
         counted: !switch.counted,

@@ -2,8 +2,8 @@
 use Rattle.std.proofs.Common.{◌≡◌, ℕ, suc, ◌<◌, ◌≤◌, nat_le, Bool, true, List, [], ◌∷◌, length, Option, rules}
 use Rattle.std.{specs.{Prelude.IfSome, List.{All, list_all}}, proofs.lemmas.Bool.{cases_lt, leb-true}}
 use Rattle.std.proofs.lemmas.List.{get_or_past, Sums.AllPass-from_list_all, Elements.{All-get_or, All-from_get_or}}
-use Rattle.plan_tables.specs.PlanView.{PlanMode, PlanView, event_of_game, game_event, which_event, work_from, work_of, work_or}
-use Rattle.plan_tables.specs.Valid.{HasEntries, IsGameWithin}
+use Rattle.plan_tables.specs.PlanView.{PlanMode, PlanView, event_of_game, game_event, which_event, work_from, work_of}
+use Rattle.plan_tables.specs.{PlanView.work_or, Valid.{HasEntries, IsGameWithin}}
 use Rattle.plan_tables.specs.declared.entries.{EventId.EventId, ModeEvent.ModeEvent, Work.Work}
 use Rattle.plan_tables.specs.declared.entries.{GameEvent.GameEvent, GameRules.GameRules}
 use Rattle.plan_tables.specs.declared.entries.Work.TheVariants as works
@@ -11,7 +11,8 @@ use Rattle.player_game.specs.Choices.{choices}
 
 -- ---- events of the game are events of the plan
 
-event_of_game-below : (n : ℕ) (game : Option GameRules) → IfSome game (IsGameWithin n) → 0 < n → (which : GameEvent) → (event_of_game game which).0 < n
+event_of_game-below : (n : ℕ) (game : Option GameRules) → IfSome game (IsGameWithin n) → 0 < n → (which : GameEvent)
+    → (event_of_game game which).0 < n
 event_of_game-below n game within some which = search (rules, cases_lt, All-get_or, get_or_past)
 
 -- ---- if there is work in the game, the plan has an event

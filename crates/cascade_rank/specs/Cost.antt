@@ -1,11 +1,14 @@
 -- What a thing costs: the lines that it prints, the steps that it takes besides, and the weights of the events that it
 -- posts, added up or compared. A step is a handler that is looked at, or a call of a device.
-use Rattle.std.specs.Prelude.{ℕ, ◌+◌, max, Bool, true, false, ◌&&◌, ◌||◌, ◌==◌, if◌then◌else◌, Option, None, Some, List, [], ◌∷◌, length, map}
-use Rattle.std.specs.List.{range_with_len}
-use Rattle.plan_tables.specs.PlanView.{PlanView, coils_enabled, act_of_listener, act_told, feeders_of, first_trough, may_hold_ball_end, listeners_of, posts_of, actions_at, bound_to, list_of_row, game_event, mode_event, multiball_rows, row_at, row_numbers, rows_of, save_rows, switch_at, work_of}
-use Rattle.plan_tables.specs.declared.entries.{EventId.EventId, Listener.Listener, ModeId.ModeId, Binding.Binding}
-use Rattle.plan_tables.specs.declared.entries.{SwitchId.SwitchId, ListId.ListId, Action.Action}
-use Rattle.plan_tables.specs.declared.entries.Action.TheVariants.{Post, Pulse, Enable, Disable, Change, Enter, Leave, Lose, Arrive, Request, AddBalls}
+use Rattle.std.specs.Prelude.{ℕ, ◌+◌, max, Bool, true, false, ◌&&◌, ◌||◌, ◌==◌, if◌then◌else◌, Option, None, Some, List}
+use Rattle.std.specs.{Prelude.{[], ◌∷◌, length, map}, List.range_with_len}
+use Rattle.plan_tables.specs.PlanView.{PlanView, coils_enabled, act_of_listener, act_told, feeders_of, first_trough}
+use Rattle.plan_tables.specs.PlanView.{may_hold_ball_end, listeners_of, posts_of, actions_at, bound_to, list_of_row}
+use Rattle.plan_tables.specs.PlanView.{game_event, mode_event, multiball_rows, row_at, row_numbers, rows_of, save_rows}
+use Rattle.plan_tables.specs.{PlanView.{switch_at, work_of}, declared.entries.{Listener.Listener, SwitchId.SwitchId}}
+use Rattle.plan_tables.specs.declared.entries.{EventId.EventId, ModeId.ModeId, Binding.Binding, ListId.ListId}
+use Rattle.plan_tables.specs.declared.entries.Action.{Action, TheVariants.{Lose, Arrive, Request, AddBalls}}
+use Rattle.plan_tables.specs.declared.entries.Action.TheVariants.{Post, Pulse, Enable, Disable, Change, Enter, Leave}
 use Rattle.plan_tables.specs.declared.entries.Target.{Target, TheVariants.{Run, Start, Stop, Act}}
 use Rattle.plan_tables.specs.declared.entries.ModeEvent.TheVariants.{WillStart, Starting, Started, Stopping, Stopped}
 use Rattle.plan_tables.specs.declared.entries.Work.{Work, TheVariants.{Nothing, Mode, Game}}
@@ -81,7 +84,8 @@ cost_of_action_by plan tell_cost (Pulse coil ms power) = Lines 1
 cost_of_action_by plan tell_cost (Enable coil power) = Lines 1
 cost_of_action_by plan tell_cost (Disable coil) = Lines 1
 cost_of_action_by plan tell_cost (Change v action n e) = Both (Lines 1) (cost_of_post e)
-cost_of_action_by plan tell_cost (Enter r e drain) = Both (Lines 1) (Both (cost_of_post e) (Greater (cost_of_drain plan drain) (tell_cost (Arrived (Device r)))))
+cost_of_action_by plan tell_cost (Enter r e drain) =
+    Both (Lines 1) (Both (cost_of_post e) (Greater (cost_of_drain plan drain) (tell_cost (Arrived (Device r)))))
 cost_of_action_by plan tell_cost (Leave r) = Lines 1
 cost_of_action_by plan tell_cost (Lose r) = Lines 1
 cost_of_action_by plan tell_cost (Arrive r) = Lines 1
@@ -98,7 +102,8 @@ cost_of_answer_by plan tell_cost r lists = each_of (λ k. cost_of_list_by plan t
 
 -- a call of a device costs a step, and the dearest of what it can answer, whatever the device's state
 abbrev pub cost_of_call_by : PlanView → (Telling → Cost) → RowId → Call → Cost
-cost_of_call_by plan tell_cost r call = Both Step (dearest_of (cost_of_answer_by plan tell_cost r) (outcomes (row_at plan r).settings call))
+cost_of_call_by plan tell_cost r call = Both Step
+    (dearest_of (cost_of_answer_by plan tell_cost r) (outcomes (row_at plan r).settings call))
 
 -- the lists of a device that is told something tell nobody
 abbrev pub cost_of_nobody : Telling → Cost
@@ -217,14 +222,16 @@ cost_of_game plan Nothing = Lines 0
 cost_of_game plan (Mode m which) = Lines 0
 cost_of_game plan (Game which) =
     Both (cost_of_scores plan which)
-    (Both (cost_of_request plan which) (Greater (cost_of_drained_ball plan which) (dearest_of (cost_of_choice plan) (choices which))))
+    (Both (cost_of_request plan which) (Greater (cost_of_drained_ball plan which)
+    (dearest_of (cost_of_choice plan) (choices which))))
 
 -- what the machine itself does at an event, before and after its handlers
 abbrev pub cost_of_work : PlanView → EventId → Cost
 cost_of_work plan e =
     Both (cost_of_starts plan (work_of plan e))
     (Both (cost_of_stops plan (work_of plan e))
-    (Both (cost_of_releases plan (work_of plan e)) (Both (cost_if_led (led_by plan (work_of plan e))) (cost_of_game plan (work_of plan e)))))
+    (Both (cost_of_releases plan (work_of plan e))
+    (Both (cost_if_led (led_by plan (work_of plan e))) (cost_of_game plan (work_of plan e)))))
 
 -- an event costs its line, all that is bound to it, and the machine's work
 abbrev pub cost_of_event : PlanView → EventId → Cost
@@ -257,4 +264,5 @@ switches_of plan = map (λ n. record { 0 = n }) (range_with_len 0 (length plan.s
 
 -- the greatest cost of a stimulus: of the acceptance of a switch, or of the alarm of a device
 abbrev pub cost_of_stimuli : PlanView → Cost
-cost_of_stimuli plan = Greater (dearest_of (cost_of_switch plan) (switches_of plan)) (dearest_of (λ r. cost_of_call plan r calls.Fire) (row_numbers plan))
+cost_of_stimuli plan = Greater (dearest_of (cost_of_switch plan) (switches_of plan))
+    (dearest_of (λ r. cost_of_call plan r calls.Fire) (row_numbers plan))

@@ -9,7 +9,8 @@ CycleHasNoFit = (plan : PlanView) (events : List EventId) → IsCycle plan event
 
 -- if an event of the plan is not grounded, there are events that lead to each other
 abbrev pub OpenHasCycle : Type 0
-OpenHasCycle = (plan : PlanView) → HasEntries plan → (e : EventId) → e.0 < length plan.events → is_open plan e ≡ true → (events : List EventId) × IsCycle plan events
+OpenHasCycle = (plan : PlanView) → HasEntries plan → (e : EventId) → e.0 < length plan.events → is_open plan e ≡ true
+    → (events : List EventId) × IsCycle plan events
 
 -- and of events that lead to each other none is grounded
 abbrev pub CycleIsOpen : Type 0
@@ -17,4 +18,5 @@ CycleIsOpen = (plan : PlanView) (events : List EventId) → IsCycle plan events 
 
 -- if all are grounded, the ranks are the least weights that fit
 abbrev pub GroundedHasLeast : Type 0
-GroundedHasLeast = (plan : PlanView) → HasEntries plan → ((e : EventId) → e.0 < length plan.events → is_open plan e ≡ false) → IsLeastFitting plan (ranks plan)
+GroundedHasLeast = (plan : PlanView) → HasEntries plan
+    → ((e : EventId) → e.0 < length plan.events → is_open plan e ≡ false) → IsLeastFitting plan (ranks plan)

@@ -16,5 +16,5 @@ pub record IsTooDear (plan : PlanView) : Type 0 where
 abbrev pub IsUnfound : PlanView → RankView → Type 0
 IsUnfound plan (cycle events) = IsCycle plan events × IsReportedCycle plan events × HasNoFit plan
 IsUnfound plan bound_too_large = IsTooDear plan
-IsUnfound plan (short event needed) = ⊥
+IsUnfound plan (short event need) = ⊥
 IsUnfound plan wrong_events = ⊥

@@ -14,12 +14,12 @@ grounded_in plan (suc k) e = all_mentioned (grounded_in plan k) (cost_of_event p
 
 -- whether each such chain ends: in a valid plan, one of more events than the plan has comes back to one of them, and so
 -- can go round for ever
-abbrev pub grounded : PlanView → EventId → Bool
-grounded plan e = grounded_in plan (length plan.events) e
+abbrev pub is_grounded : PlanView → EventId → Bool
+is_grounded plan e = grounded_in plan (length plan.events) e
 
 -- whether one can go on from e without end
 abbrev pub is_open : PlanView → EventId → Bool
-is_open plan e = not (grounded plan e)
+is_open plan e = not (is_grounded plan e)
 
 -- events that lead to each other in a ring, in this order
 pub record IsCycle (plan : PlanView) (events : List EventId) : Type 0 where

@@ -9,8 +9,8 @@ abbrev pub mark_of : List Bool → CoilId → Bool
 mark_of marks coil = slice_index_or marks coil.0 false
 
 -- the numbers of so many coils
-abbrev pub numbered : ℕ → List CoilId
-numbered count = map (λ n. record { 0 = n }) (range_with_len 0 count)
+abbrev pub coil_ids : ℕ → List CoilId
+coil_ids count = map (λ n. record { 0 = n }) (range_with_len 0 count)
 
 -- there is a mark for the coil that an action enables
 abbrev pub IsCoilMarked : Action → Type 0
@@ -20,4 +20,5 @@ IsCoilMarked _ = Unit {0}
 -- After these actions each coil is marked that was, and each that one of them enables.
 pub record AreMarked (old : List Bool) (actions : List Action) (new : List Bool) : Type 0 where
   pub count : length new ≡ length old
-  pub marks : (coil : CoilId) → coil.0 < length old → mark_of new coil ≡ (mark_of old coil || list_any (is_enable_of coil) actions)
+  pub marks : (coil : CoilId) → coil.0 < length old
+      → mark_of new coil ≡ (mark_of old coil || list_any (is_enable_of coil) actions)

@@ -10,5 +10,5 @@ pub record AreAlike (a b : Cost) : Type 0 where
   pub weights : weights_in a ≡ weights_in b
 
 -- a price, or the greatest number of 128 bits if it is above that
-abbrev pub saturated : ℕ → ℕ
-saturated n = min n (2 ^ 128 - 1)
+abbrev pub saturate : ℕ → ℕ
+saturate n = min n (2 ^ 128 - 1)

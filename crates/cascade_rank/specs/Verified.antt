@@ -12,16 +12,18 @@ pub record IsVerified (plan : PlanView) (weights : List ℕ) (bound : ℕ) : Typ
   pub bound_is : bound ≡ bound_of plan (weight_of weights)
 
 -- the lowest-numbered event that weighs less than it needs, and what it needs
-pub record IsFirstShort (plan : PlanView) (weights : List ℕ) (event : EventId) (needed : ℕ) : Type 0 where
+pub record IsFirstShort (plan : PlanView) (weights : List ℕ) (event : EventId) (least_weight : ℕ) : Type 0 where
   pub within : event.0 < length plan.events
-  pub needed_is : needed ≡ need plan (weight_of weights) event
-  pub short_is : weight_of weights event < needed
+  pub needed_is : least_weight ≡ need plan (weight_of weights) event
+  pub short_is : weight_of weights event < least_weight
   pub first : (e : EventId) → e.0 < event.0 → need plan (weight_of weights) e ≤ weight_of weights e
 
 -- another number of weights than of events is reported before an event that weighs too little, and that before the
 -- limit
 abbrev pub IsUnverified : PlanView → List ℕ → RankView → Type 0
 IsUnverified plan weights (cycle events) = ⊥
-IsUnverified plan weights bound_too_large = (length weights ≡ length plan.events) × IsFitting plan (weight_of weights) × (¬ (IsWithinLimit plan weights))
-IsUnverified plan weights (short event needed) = (length weights ≡ length plan.events) × IsFirstShort plan weights event needed
+IsUnverified plan weights bound_too_large =
+    (length weights ≡ length plan.events) × IsFitting plan (weight_of weights) × (¬ (IsWithinLimit plan weights))
+IsUnverified plan weights (short event least_weight) =
+    (length weights ≡ length plan.events) × IsFirstShort plan weights event least_weight
 IsUnverified plan weights wrong_events = length weights ≢ length plan.events

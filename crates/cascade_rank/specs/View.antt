@@ -22,15 +22,15 @@ IfRank fault P = IfReported (rank_view fault) P
 
 -- The answer is what finding gives, unless memory ran out.
 abbrev pub GivesFound : Result (List ℕ) RankFault → Result (List ℕ) RankView → Type 0
-GivesFound (Ok weights) found = found ≡ Ok weights
-GivesFound (Err fault) found = IfRank fault (λ reported. found ≡ Err reported)
+GivesFound (Ok weights) outcome = outcome ≡ Ok weights
+GivesFound (Err fault) outcome = IfRank fault (λ its_view. outcome ≡ Err its_view)
 
 -- The same, of weights with their bound.
 abbrev pub GivesBounded : Result (List ℕ × Bound) RankFault → Result (List ℕ) RankView → Type 0
-GivesBounded (Ok (weights, bound)) found = found ≡ Ok weights
-GivesBounded (Err fault) found = IfRank fault (λ reported. found ≡ Err reported)
+GivesBounded (Ok (weights, bound)) outcome = outcome ≡ Ok weights
+GivesBounded (Err fault) outcome = IfRank fault (λ its_view. outcome ≡ Err its_view)
 
 -- The answer is what verifying gives. That takes no memory.
 abbrev pub GivesBound : Result Bound RankFault → Result ℕ RankView → Type 0
-GivesBound (Ok bound) verified = verified ≡ Ok bound.0
-GivesBound (Err fault) verified = (reported : RankView) × (rank_view fault ≡ Some reported) × (verified ≡ Err reported)
+GivesBound (Ok bound) number = number ≡ Ok bound.0
+GivesBound (Err fault) number = (its_view : RankView) × (rank_view fault ≡ Some its_view) × (number ≡ Err its_view)

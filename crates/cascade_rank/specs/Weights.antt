@@ -27,7 +27,8 @@ IsFitting plan w = IsFittingAt 0 plan w
 pub record IsLeastFitting (plan : PlanView) (weights : List ℕ) : Type 0 where
   pub count : length weights ≡ length plan.events
   pub fits : IsFitting plan (weight_of weights)
-  pub least : (v : EventId → ℕ) → IsFitting plan v → (e : EventId) → e.0 < length plan.events → weight_of weights e ≤ v e
+  pub least : (v : EventId → ℕ) → IsFitting plan v → (e : EventId) → e.0 < length plan.events
+      → weight_of weights e ≤ v e
 
 -- the greatest price of a stimulus
 abbrev pub bound_at : ℕ → PlanView → (EventId → ℕ) → ℕ

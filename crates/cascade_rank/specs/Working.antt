@@ -17,4 +17,5 @@ IsBoundOf steps Beyond = 2 ^ 64 - 1 ≤ steps
 -- The answer is the bound if every event is grounded, else the cycle of the first that is not, unless memory ran out.
 abbrev pub GivesWork : PlanView → Result WorkBound RankFault → Type 0
 GivesWork plan (Ok bound) = (first_open plan ≡ None) × IsBoundOf (work_bound_of plan) bound
-GivesWork plan (Err fault) = IfRank fault (λ reported. (e : EventId) × (first_open plan ≡ Some e) × (reported ≡ cycle (cycle_of plan e)))
+GivesWork plan (Err fault) = IfRank fault (λ its_view. (e : EventId) × (first_open plan ≡ Some e)
+    × (its_view ≡ cycle (cycle_of plan e)))

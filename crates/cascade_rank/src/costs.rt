@@ -11,21 +11,29 @@
 
 ghost use Rattle.std.specs.Prelude.{◌≡◌, ◌<◌, true, length};
 ghost use Rattle.std.specs.List.{All};
-ghost use Rattle.plan_tables.specs.Valid.{HasGame, IsActionWithin, IsTargetThere, IsTargetWithin, IsBindingWithin, IsValid};
+ghost use Rattle.plan_tables.specs.Valid.{HasGame, IsActionWithin, IsTargetThere, IsTargetWithin, IsBindingWithin};
+ghost use Rattle.plan_tables.specs.Valid.{IsValid};
 ghost use Rattle.plan_tables.specs.declared.entries.Action.TheVariants.{Enter};
 ghost use Rattle.plan_tables.specs.declared.entries.Owner.TheVariants as owners;
 ghost use Rattle.plan_tables.specs.Devices.{list_count};
-ghost use Rattle.plan_tables.specs.PlanView.{bound_to, first_trough, multiball_rows, row_at, rows_of, save_rows, work_of};
+ghost use Rattle.plan_tables.specs.PlanView.{bound_to, first_trough, multiball_rows, row_at, rows_of, save_rows};
+ghost use Rattle.plan_tables.specs.PlanView.{work_of};
 ghost use Rattle.plan_tables.specs.declared.devices.Act.TheVariants.{Save, End};
 ghost use Rattle.device_objects.specs.declared.device.Call.TheVariants as calls;
 ghost use Rattle.device_objects.specs.DeviceStep.{outcomes as outcomes_of};
 ghost use Rattle.player_game.specs.Choices.{choices};
-ghost use Rattle.cascade_rank.specs.Cost.{each_of, dearest_of, cost_of_drain, cost_of_action_by, cost_of_list_by, cost_of_answer_by, cost_of_call_by, cost_of_told, cost_of_arrival, cost_of_trough, cost_of_telling, cost_of_call, cost_of_target, cost_of_binding, cost_of_devices, cost_of_starts, cost_of_stops, cost_of_releases, cost_if_led, led_by, cost_of_choice, cost_of_scores, cost_of_request, cost_of_drained_ball, cost_of_game, cost_of_work, cost_of_event};
+ghost use Rattle.cascade_rank.specs.Cost.{each_of, dearest_of, cost_of_drain, cost_of_action_by, cost_of_list_by};
+ghost use Rattle.cascade_rank.specs.Cost.{cost_of_answer_by, cost_of_call_by, cost_of_told, cost_of_arrival};
+ghost use Rattle.cascade_rank.specs.Cost.{cost_of_trough, cost_of_telling, cost_of_call, cost_of_target};
+ghost use Rattle.cascade_rank.specs.Cost.{cost_of_binding, cost_of_devices, cost_of_starts, cost_of_stops};
+ghost use Rattle.cascade_rank.specs.Cost.{cost_of_releases, cost_if_led, led_by, cost_of_choice, cost_of_scores};
+ghost use Rattle.cascade_rank.specs.Cost.{cost_of_request, cost_of_drained_ball, cost_of_game, cost_of_work};
+ghost use Rattle.cascade_rank.specs.Cost.{cost_of_event};
 ghost use Rattle.cascade_rank.specs.Tellings.{IsTellingWithin};
 
 use crate::measure::Measure;
 use crate::releases::count_enabled;
-use crate::tellings::{Tells, Told, Untold};
+use crate::tellings::{OneDevice, Tells, Untold};
 use crate::work::led_by;
 use device_objects::{Call, outcomes};
 use plan_tables::{
@@ -50,7 +58,8 @@ pub(crate) fn measure_event<M: Measure>(measure: &mut M, plan: &Plan, event: Eve
 /// All that is bound to an event.
 fn measure_bound<M: Measure>(measure: &mut M, plan: &Plan, event: EventId) -> M::Value
     requires { event.0 < length plan.now.events }
-    ensures cost { M.Measures measure.old (each_of (cost_of_binding plan.now) (bound_to plan.now event)) measure.new result }
+    ensures cost { M.Measures measure.old (each_of (cost_of_binding plan.now) (bound_to plan.now event)) measure.new
+        result }
     ensures valid { IsValid plan.now }
 {
     let mut total = measure.lines(0);
@@ -76,10 +85,10 @@ fn measure_target<M: Measure>(measure: &mut M, plan: &Plan, target: Target) -> M
     ensures { M.Measures measure.old (cost_of_target plan.now target) measure.new result }
 {
     match target {
-        Target::Run(list) => measure_list::<Told, M>(measure, plan, list),
+        Target::Run(list) => measure_list::<OneDevice, M>(measure, plan, list),
         Target::Start(mode) => measure.weight(plan.mode(mode).events.will_start),
         Target::Stop(mode) => measure.weight(plan.mode(mode).events.stopping),
-        Target::Act(row, act) => measure_call::<Told, M>(measure, plan, row, Call::Act(act)),
+        Target::Act(row, act) => measure_call::<OneDevice, M>(measure, plan, row, Call::Act(act)),
     }
 }
 
@@ -106,7 +115,8 @@ fn measure_answers<T: Tells, M: Measure>(
     call: Call,
 ) -> M::Value
     requires { row.0 < length plan.now.rows }
-    ensures { M.Measures measure.old (dearest_of (cost_of_answer_by plan.now (T.cost plan.now) row) (outcomes_of (row_at plan.now row).settings call)) measure.new result }
+    ensures { M.Measures measure.old (dearest_of (cost_of_answer_by plan.now (T.cost plan.now) row)
+        (outcomes_of (row_at plan.now row).settings call)) measure.new result }
 {
     let answers = outcomes(&plan.row(row).settings, call);
     let mut dearest = measure.lines(0);
@@ -149,7 +159,8 @@ fn measure_actions<T: Tells, M: Measure>(
     actions: &[Action],
 ) -> M::Value
     requires { All (IsActionWithin plan.now) actions.now }
-    ensures { M.Measures measure.old (each_of (cost_of_action_by plan.now (T.cost plan.now)) actions.now) measure.new result }
+    ensures { M.Measures measure.old (each_of (cost_of_action_by plan.now (T.cost plan.now)) actions.now) measure.new
+        result }
 {
     let mut total = measure.lines(0);
     for action in actions {
@@ -194,13 +205,14 @@ fn measure_entry<T: Tells, M: Measure>(
 ) -> M::Value
     requires device { device.0 < length plan.now.rows }
     requires game { drain ≡ true → HasGame plan.now }
-    ensures { M.Measures measure.old (cost_of_action_by plan.now (T.cost plan.now) (Enter device event drain)) measure.new result }
+    ensures { M.Measures measure.old (cost_of_action_by plan.now (T.cost plan.now) (Enter device event drain))
+        measure.new result }
 {
     let line = measure.lines(1);
     let post = measure.weight(event);
-    let drained = measure_drain(measure, plan, drain);
-    let told = T::measure(measure, plan, Telling::Arrived(BallTarget::Device(device)));
-    let dearer = measure.greater(drained, told);
+    let drain_cost = measure_drain(measure, plan, drain);
+    let telling_cost = T::measure(measure, plan, Telling::Arrived(BallTarget::Device(device)));
+    let dearer = measure.greater(drain_cost, telling_cost);
     let rest = measure.both(post, dearer);
     measure.both(line, rest)
 }
@@ -271,11 +283,11 @@ fn measure_work<M: Measure>(measure: &mut M, plan: &Plan, event: EventId) -> M::
     let starts = measure_starts(measure, plan, event);
     let stops = measure_stops(measure, plan, event);
     let releases = measure_releases(measure, plan, event);
-    let led = measure_led(measure, plan, event);
+    let lead_cost = measure_led(measure, plan, event);
     let game = measure_game(measure, plan, event);
-    let last = measure.both(led, game);
-    let released = measure.both(releases, last);
-    let rest = measure.both(stops, released);
+    let last = measure.both(lead_cost, game);
+    let release_cost = measure.both(releases, last);
+    let rest = measure.both(stops, release_cost);
     measure.both(starts, rest)
 }
 
@@ -312,7 +324,7 @@ fn measure_devices<M: Measure>(measure: &mut M, plan: &Plan, mode: ModeId, call:
 {
     let mut total = measure.lines(0);
     for row in plan.rows_of_mode(mode) {
-        let cost = measure_call::<Told, M>(measure, plan, *row, call);
+        let cost = measure_call::<OneDevice, M>(measure, plan, *row, call);
         total = measure.both(total, cost);
     }
     total
@@ -335,7 +347,7 @@ fn measure_led<M: Measure>(measure: &mut M, plan: &Plan, event: EventId) -> M::V
     ensures { M.Measures measure.old (cost_if_led (led_by plan.now (work_of plan.now event))) measure.new result }
 {
     match led_by(plan, event) {
-        Some(led) => measure.weight(led),
+        Some(lead_cost) => measure.weight(lead_cost),
         None => measure.lines(0),
     }
 }
@@ -350,9 +362,9 @@ fn measure_game<M: Measure>(measure: &mut M, plan: &Plan, event: EventId) -> M::
         Work::Game(which) => {
             let scores = measure_scores(measure, plan, which);
             let request = measure_request(measure, plan, which);
-            let drained = measure_drained_ball(measure, plan, which);
-            let chosen = measure_choices(measure, plan, which);
-            let dearer = measure.greater(drained, chosen);
+            let drain_cost = measure_drained_ball(measure, plan, which);
+            let dearest_choice = measure_choices(measure, plan, which);
+            let dearer = measure.greater(drain_cost, dearest_choice);
             let rest = measure.both(request, dearer);
             measure.both(scores, rest)
         }
@@ -399,13 +411,14 @@ fn measure_drained_ball<M: Measure>(measure: &mut M, plan: &Plan, which: GameEve
 
 /// The dearest of what the ball saves answer that may save a ball.
 fn measure_saves<M: Measure>(measure: &mut M, plan: &Plan) -> M::Value
-    ensures { M.Measures measure.old (dearest_of (λ r. cost_of_call plan.now r (calls.Act Save)) (save_rows plan.now)) measure.new result }
+    ensures { M.Measures measure.old (dearest_of (λ r. cost_of_call plan.now r (calls.Act Save)) (save_rows plan.now))
+        measure.new result }
 {
     let mut dearest = measure.lines(0);
     for number in 0..plan.rows().len() {
         let row = RowId(number as u16);
         if plan.row(row).settings.is_save() {
-            let cost = measure_call::<Told, M>(measure, plan, row, Call::Act(Act::Save));
+            let cost = measure_call::<OneDevice, M>(measure, plan, row, Call::Act(Act::Save));
             dearest = measure.greater(dearest, cost);
         }
     }
@@ -414,13 +427,14 @@ fn measure_saves<M: Measure>(measure: &mut M, plan: &Plan) -> M::Value
 
 /// What all multiballs answer that may end.
 fn measure_ends<M: Measure>(measure: &mut M, plan: &Plan) -> M::Value
-    ensures { M.Measures measure.old (each_of (λ r. cost_of_call plan.now r (calls.Act End)) (multiball_rows plan.now)) measure.new result }
+    ensures { M.Measures measure.old (each_of (λ r. cost_of_call plan.now r (calls.Act End)) (multiball_rows plan.now))
+        measure.new result }
 {
     let mut total = measure.lines(0);
     for number in 0..plan.rows().len() {
         let row = RowId(number as u16);
         if plan.row(row).settings.is_multiball() {
-            let cost = measure_call::<Told, M>(measure, plan, row, Call::Act(Act::End));
+            let cost = measure_call::<OneDevice, M>(measure, plan, row, Call::Act(Act::End));
             total = measure.both(total, cost);
         }
     }

@@ -14,35 +14,44 @@ pub(crate) struct Grounding {
     /// Each event comes after those to which it leads.
     pub(crate) order: Vec<EventId>,
     /// How many posts of each event are of events that are not in the order.
-    pub(crate) left: Vec<usize>,
+    pub(crate) unmet_counts: Vec<usize>,
 }
 
 /// The order is its own queue: an event joins it when all events to which it leads are done.
 pub(crate) fn ground(alloc: Global, plan: &Plan) -> Result<Grounding, AllocError>
-    ensures order { IfOk result (λ grounding. IsOrdering plan.now (length grounding.order.items) [] grounding.left.items grounding.order.items) }
+    ensures order { IfOk result (λ grounding. IsOrdering plan.now (length grounding.order.items) []
+        grounding.unmet_counts.items
+        grounding.order.items) }
     ensures valid { IfOk result (λ _. IsValid plan.now) }
 {
-    let (leaders, mut left) = count_posts(alloc, plan)?;
-    let mut order = first_grounded(alloc, plan, &left)?;
-    let mut taken = 0;
-    while taken < order.len() {
-        let event = order[taken];
-        meet(leaders.of(event), &mut left, &mut order)?;
-        taken += 1;
+    let (leaders, mut unmet_counts) = count_posts(alloc, plan)?;
+    let mut order = first_grounded(alloc, plan, &unmet_counts)?;
+    let mut next = 0;
+    while next < order.len() {
+        let event = order[next];
+        meet(leaders.of(event), &mut unmet_counts, &mut order)?;
+        next += 1;
     }
-    Ok(Grounding { order, left })
+    Ok(Grounding {
+        order,
+        unmet_counts,
+    })
 }
 
 /// The events that lead to none, in the order of their numbers.
-fn first_grounded(alloc: Global, plan: &Plan, left: &[usize]) -> Result<Vec<EventId>, AllocError>
-    requires count { length left.now ≡ length plan.now.events }
-    requires left { CountsPosts plan.now left.now }
-    ensures order { IfOk result (λ order. IsOrdering plan.now 0 [] left.now order.items) }
+fn first_grounded(
+    alloc: Global,
+    plan: &Plan,
+    unmet_counts: &[usize],
+) -> Result<Vec<EventId>, AllocError>
+    requires count { length unmet_counts.now ≡ length plan.now.events }
+    requires unmet_counts { CountsPosts plan.now unmet_counts.now }
+    ensures order { IfOk result (λ order. IsOrdering plan.now 0 [] unmet_counts.now order.items) }
     ensures valid { IfOk result (λ _. IsValid plan.now) }
 {
     let mut order = Vec::new(alloc);
     for number in 0..plan.event_count() {
-        if left[number] == 0 {
+        if unmet_counts[number] == 0 {
             order.push(EventId(number as u16))?;
         }
     }
@@ -50,14 +59,19 @@ fn first_grounded(alloc: Global, plan: &Plan, left: &[usize]) -> Result<Vec<Even
 }
 
 /// One post less is left of each of these events, and when none is left, the event goes last.
-fn meet(leaders: &[EventId], left: &mut [usize], order: &mut Vec<EventId>) -> Result<(), AllocError>
-    requires { CanMeet leaders.now left.old order.old.items }
-    ensures { IfOk result (λ _. Meets leaders.now leaders.now left.old order.old.items left.new order.new.items) }
+fn meet(
+    leaders: &[EventId],
+    unmet_counts: &mut [usize],
+    order: &mut Vec<EventId>,
+) -> Result<(), AllocError>
+    requires { CanMeet leaders.now unmet_counts.old order.old.items }
+    ensures { IfOk result (λ _. Meets leaders.now leaders.now unmet_counts.old order.old.items unmet_counts.new
+        order.new.items) }
 {
     for event in leaders {
         let place = event.0 as usize;
-        left[place] -= 1;
-        if left[place] == 0 {
+        unmet_counts[place] -= 1;
+        if unmet_counts[place] == 0 {
             order.push(*event)?;
         }
     }

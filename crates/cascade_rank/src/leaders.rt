@@ -64,15 +64,15 @@ pub(crate) fn count_posts(alloc: Global, plan: &Plan) -> Result<(Leaders, Vec<us
     ensures { IfOk result (λ counted. HasLeaders plan.now (length plan.now.events) counted.0 counted.1.items) }
 {
     let mut leaders = Leaders::new(alloc, plan.event_count())?;
-    let mut left = Vec::with_capacity(alloc, plan.event_count())?;
+    let mut open_posts = Vec::with_capacity(alloc, plan.event_count())?;
     let mut posts = Posts::new(alloc);
     for number in 0..plan.event_count() {
         let event = EventId(number as u16);
-        let led = posts.of(plan, event)?;
-        add_event(&mut leaders, event, led)?;
-        left.push(led.len())?;
+        let followers = posts.of(plan, event)?;
+        add_event(&mut leaders, event, followers)?;
+        open_posts.push(followers.len())?;
     }
-    Ok((leaders, left))
+    Ok((leaders, open_posts))
 }
 
 /// The event leads to each of these.
@@ -80,8 +80,8 @@ fn add_event(leaders: &mut Leaders, event: EventId, posts: &[EventId]) -> Result
     requires { All (IsEventWithin (length leaders.old)) posts.now }
     ensures { OnOk result (AddsLeader event (each_of cost_of_post posts.now) leaders.old leaders.new) }
 {
-    for posted in posts {
-        leaders.add(*posted, event)?;
+    for post in posts {
+        leaders.add(*post, event)?;
     }
     Ok(())
 }

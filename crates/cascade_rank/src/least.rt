@@ -55,9 +55,9 @@ pub fn find_bounded(alloc: Global, plan: &Plan) -> Result<(Weights, Bound), Rank
     ensures refused { IfErr result (λ fault. IfRank fault (IsUnfound plan.now)) }
 {
     let grounding = ground(alloc, plan)?;
-    if let Some(place) = first_left(&grounding.left) {
+    if let Some(place) = first_left(&grounding.unmet_counts) {
         let start = EventId(place as u16);
-        return Err(RankFault::Cycle(walk(alloc, plan, &grounding.left, start)?));
+        return Err(RankFault::Cycle(walk(alloc, plan, &grounding.unmet_counts, start)?));
     }
     let weights = weigh(alloc, plan, &grounding.order)?;
     match limited_bound(plan, &weights) {
@@ -74,8 +74,8 @@ fn weigh(alloc: Global, plan: &Plan, order: &[EventId]) -> Result<Vec<u32>, Allo
 {
     let mut weights = vec![in alloc; 0u32; plan.event_count()]?;
     for event in order {
-        let needed = need(plan, &weights, *event);
-        weights[event.0 as usize] = needed.min(u128::from(TOO_MUCH)) as u32;
+        let least_weight = need(plan, &weights, *event);
+        weights[event.0 as usize] = least_weight.min(u128::from(TOO_MUCH)) as u32;
     }
     Ok(weights)
 }

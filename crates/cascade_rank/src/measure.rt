@@ -31,11 +31,13 @@ pub(crate) trait Measure {
 
     /// Two costs, walked over one after the other.
     fn both(&self, one: Self::Value, other: Self::Value) -> Self::Value
-        ensures { (x y : Self) (a b : Cost) → Measures x a y one → Measures y b self.now other → Measures x (Both a b) self.now result };
+        ensures { (x y : Self) (a b : Cost) → Measures x a y one → Measures y b self.now other
+            → Measures x (Both a b) self.now result };
 
     /// The dearer of two costs, walked over one after the other.
     fn greater(&self, one: Self::Value, other: Self::Value) -> Self::Value
-        ensures { (x y : Self) (a b : Cost) → Measures x a y one → Measures y b self.now other → Measures x (Greater a b) self.now result };
+        ensures { (x y : Self) (a b : Cost) → Measures x a y one → Measures y b self.now other
+            → Measures x (Greater a b) self.now result };
 
     /// Costs that are alike have the same measure.
     ghost alike: { (x y : Self) (a b : Cost) (v : Self.Value) → AreAlike a b → Measures x a y v → Measures x b y v };

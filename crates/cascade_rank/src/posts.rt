@@ -29,7 +29,8 @@ impl Measure for Posts {
 
     type Value = ();
 
-    ghost Measures = { λ x c y v. y.is_whole ≡ true → (x.is_whole ≡ true) × (y.events.items ≡ x.events.items ++ weights_in c) };
+    ghost Measures = { λ x c y v. y.is_whole ≡ true
+        → (x.is_whole ≡ true) × (y.events.items ≡ x.events.items ++ weights_in c) };
 
     ghost alike = { λ x y a b v same are whole. Prim.search rules };
 

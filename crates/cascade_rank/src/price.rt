@@ -21,11 +21,11 @@ impl Measure for Price<'_> {
     ghost use Rattle.std.proofs.Common.{rules};
     ghost use Rattle.cascade_rank.specs.Cost.{price};
     ghost use Rattle.cascade_rank.specs.Events.{weight_of};
-    ghost use Rattle.cascade_rank.specs.Measures.{saturated};
+    ghost use Rattle.cascade_rank.specs.Measures.{saturate};
 
     type Value = u128;
 
-    ghost Measures = { λ x c y v. (y ≡ x) × (v ≡ saturated (price (weight_of x.weights.now) c)) };
+    ghost Measures = { λ x c y v. (y ≡ x) × (v ≡ saturate (price (weight_of x.weights.now) c)) };
 
     ghost alike = { λ x y a b v same is. Prim.search rules };
 

@@ -4,9 +4,10 @@ ghost use Rattle.std.specs.Prelude.{◌≡◌, ◌<◌, ◌≤◌, ◌∷◌, []
 ghost use Rattle.std.specs.List.{All, filter, flat_map, range_with_len};
 ghost use Rattle.plan_tables.specs.declared.entries.Owner.TheVariants as owners;
 ghost use Rattle.plan_tables.specs.Devices.{list_count};
-ghost use Rattle.plan_tables.specs.PlanView.{actions_at, list_of_row, row_at, actions_of_target, actions_of_binding, actions_of_row, coils_enabled, row_numbers};
+ghost use Rattle.plan_tables.specs.PlanView.{actions_at, list_of_row, row_at, actions_of_target, actions_of_binding};
+ghost use Rattle.plan_tables.specs.PlanView.{actions_of_row, coils_enabled, row_numbers};
 ghost use Rattle.plan_tables.specs.Valid.{IsTargetWithin};
-ghost use Rattle.cascade_rank.specs.Marks.{AreMarked, IsCoilMarked, mark_of, numbered};
+ghost use Rattle.cascade_rank.specs.Marks.{AreMarked, IsCoilMarked, mark_of, coil_ids};
 
 use plan_tables::{Action, ModeId, Plan, RowId, Target};
 
@@ -25,7 +26,8 @@ pub(crate) fn count_enabled(plan: &Plan, mode: ModeId) -> usize
 fn mark_bindings(plan: &Plan, mode: ModeId, marks: &mut [bool])
     requires mode { mode.0 < length plan.now.modes }
     requires marks { length marks.old ≡ 256 }
-    ensures { AreMarked marks.old (flat_map (actions_of_binding plan.now (owners.Mode mode)) plan.now.bindings) marks.new }
+    ensures { AreMarked marks.old (flat_map (actions_of_binding plan.now (owners.Mode mode)) plan.now.bindings)
+        marks.new }
 {
     for place in plan.bindings_of_mode(mode) {
         mark_target(plan, plan.binding(*place).target, marks);
@@ -46,7 +48,8 @@ fn mark_target(plan: &Plan, target: Target, marks: &mut [bool])
 fn mark_rows(plan: &Plan, mode: ModeId, marks: &mut [bool])
     requires mode { mode.0 < length plan.now.modes }
     requires marks { length marks.old ≡ 256 }
-    ensures { AreMarked marks.old (flat_map (actions_of_row plan.now (owners.Mode mode)) (row_numbers plan.now)) marks.new }
+    ensures { AreMarked marks.old (flat_map (actions_of_row plan.now (owners.Mode mode)) (row_numbers plan.now))
+        marks.new }
 {
     for row in plan.rows_of_mode(mode) {
         mark_lists(plan, *row, marks);
@@ -57,7 +60,8 @@ fn mark_rows(plan: &Plan, mode: ModeId, marks: &mut [bool])
 fn mark_lists(plan: &Plan, row: RowId, marks: &mut [bool])
     requires row { row.0 < length plan.now.rows }
     requires marks { length marks.old ≡ 256 }
-    ensures { AreMarked marks.old (flat_map (λ k. actions_at plan.now (list_of_row plan.now row k)) (range_with_len 0 (list_count (row_at plan.now row).settings))) marks.new }
+    ensures { AreMarked marks.old (flat_map (λ k. actions_at plan.now (list_of_row plan.now row k))
+        (range_with_len 0 (list_count (row_at plan.now row).settings))) marks.new }
 {
     let count = plan.row(row).settings.list_count() as u16;
     for list in 0..count {
@@ -89,7 +93,7 @@ fn mark_action(action: Action, marks: &mut [bool])
 /// How many of so many coils are marked.
 fn count_marked(marks: &[bool], count: usize) -> usize
     requires { count ≤ length marks.now }
-    ensures { result ≡ length (filter (mark_of marks.now) (numbered count)) }
+    ensures { result ≡ length (filter (mark_of marks.now) (coil_ids count)) }
 {
     let mut total = 0;
     for number in 0..count {

@@ -19,11 +19,11 @@ impl Measure for Steps<'_> {
     ghost use Rattle.std.proofs.Common.{rules};
     ghost use Rattle.cascade_rank.specs.Cost.{price_at};
     ghost use Rattle.cascade_rank.specs.Events.{weight_of};
-    ghost use Rattle.cascade_rank.specs.Measures.{saturated};
+    ghost use Rattle.cascade_rank.specs.Measures.{saturate};
 
     type Value = u128;
 
-    ghost Measures = { λ x c y v. (y ≡ x) × (v ≡ saturated (price_at 1 (weight_of x.weights.now) c)) };
+    ghost Measures = { λ x c y v. (y ≡ x) × (v ≡ saturate (price_at 1 (weight_of x.weights.now) c)) };
 
     ghost alike = { λ x y a b v same is. Prim.search rules };
 

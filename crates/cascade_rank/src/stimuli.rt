@@ -6,21 +6,23 @@ ghost use Rattle.plan_tables.specs.Valid.{IsListenerWithin};
 ghost use Rattle.plan_tables.specs.PlanView.{row_numbers};
 ghost use Rattle.device_objects.specs.declared.device.Call.TheVariants as calls;
 ghost use Rattle.cascade_rank.specs.Events.{weight_of};
-ghost use Rattle.cascade_rank.specs.Measures.{saturated};
+ghost use Rattle.cascade_rank.specs.Measures.{saturate};
 ghost use Rattle.cascade_rank.specs.Weights.{IsWithinLimit, switch_cost as cost_at};
-ghost use Rattle.cascade_rank.specs.Cost.{price, each_of, dearest_of, cost_of_post, cost_of_call, cost_of_listener, cost_of_playfield_switch, cost_of_acceptance, cost_of_switch, switches_of, cost_of_stimuli};
+ghost use Rattle.cascade_rank.specs.Cost.{price, each_of, dearest_of, cost_of_post, cost_of_call, cost_of_listener};
+ghost use Rattle.cascade_rank.specs.Cost.{cost_of_playfield_switch, cost_of_acceptance, cost_of_switch, switches_of};
+ghost use Rattle.cascade_rank.specs.Cost.{cost_of_stimuli};
 
 use crate::costs::{measure_call, measure_telling};
 use crate::measure::Measure;
 use crate::price::Price;
-use crate::tellings::Told;
+use crate::tellings::OneDevice;
 use crate::weights::Weights;
 use device_objects::Call;
 use plan_tables::{BallTarget, EventId, Listener, Plan, RowId, SwitchId, Telling};
 
 /// The greatest cost of any stimulus, or `u128::MAX` if that is less.
 pub(crate) fn bound_of(plan: &Plan, weights: &[u32]) -> u128
-    ensures { result ≡ saturated (price (weight_of weights.now) (cost_of_stimuli plan.now)) }
+    ensures { result ≡ saturate (price (weight_of weights.now) (cost_of_stimuli plan.now)) }
 {
     measure_stimuli(&mut Price { weights }, plan)
 }
@@ -64,12 +66,13 @@ fn measure_switches<M: Measure>(measure: &mut M, plan: &Plan) -> M::Value
 
 /// The dearest alarm of a device.
 fn measure_alarms<M: Measure>(measure: &mut M, plan: &Plan) -> M::Value
-    ensures { M.Measures measure.old (dearest_of (λ r. cost_of_call plan.now r calls.Fire) (row_numbers plan.now)) measure.new result }
+    ensures { M.Measures measure.old (dearest_of (λ r. cost_of_call plan.now r calls.Fire) (row_numbers plan.now))
+        measure.new result }
 {
     let mut dearest = measure.lines(0);
     for number in 0..plan.rows().len() {
         let row = RowId(number as u16);
-        let cost = measure_call::<Told, M>(measure, plan, row, Call::Fire);
+        let cost = measure_call::<OneDevice, M>(measure, plan, row, Call::Fire);
         dearest = measure.greater(dearest, cost);
     }
     dearest
@@ -118,7 +121,7 @@ fn measure_listeners<M: Measure>(
     let mut total = measure.lines(0);
     for listener in listeners {
         let act = listener.act(active);
-        let cost = measure_call::<Told, M>(measure, plan, listener.row, Call::Act(act));
+        let cost = measure_call::<OneDevice, M>(measure, plan, listener.row, Call::Act(act));
         total = measure.both(total, cost);
     }
     total

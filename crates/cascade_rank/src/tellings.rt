@@ -2,8 +2,8 @@
 //! wanted.
 //!
 //! A device that is told something answers effect lists, and these tell no further device. So the cost of an effect
-//! list has the cost of telling as a parameter. With `Told`, telling costs what the devices that may be told answer.
-//! With `Untold`, telling costs nothing.
+//! list has the cost of telling as a parameter. With `OneDevice`, telling costs what the devices that may be told
+//! answer. With `Untold`, telling costs nothing.
 
 use crate::costs::measure_telling;
 use crate::measure::Measure;
@@ -40,9 +40,9 @@ impl Tells for Untold {
 }
 
 /// One device is told: of those that eject their balls to where one has arrived, or the first trough.
-pub(crate) struct Told;
+pub(crate) struct OneDevice;
 
-impl Tells for Told {
+impl Tells for OneDevice {
     ghost use Rattle.cascade_rank.specs.Cost.{cost_of_telling};
 
     ghost cost = { cost_of_telling };

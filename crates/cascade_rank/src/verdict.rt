@@ -41,7 +41,7 @@ pub fn verify(plan: &Plan, weights: &Weights) -> Result<Bound, RankFault>
         return Err(RankFault::WrongEvents);
     }
     match first_short(plan, weights) {
-        Some((event, needed)) => Err(RankFault::Short(event, needed)),
+        Some((event, least_weight)) => Err(RankFault::Short(event, least_weight)),
         None => limited_bound(plan, weights).ok_or(RankFault::BoundTooLarge),
     }
 }
@@ -54,9 +54,9 @@ fn first_short(plan: &Plan, weights: &[u32]) -> Option<(EventId, u128)>
 {
     for number in 0..plan.event_count() {
         let event = EventId(number as u16);
-        let needed = need(plan, weights, event);
-        if u128::from(weights[number]) < needed {
-            return Some((event, needed));
+        let least_weight = need(plan, weights, event);
+        if u128::from(weights[number]) < least_weight {
+            return Some((event, least_weight));
         }
     }
     None
@@ -65,7 +65,8 @@ fn first_short(plan: &Plan, weights: &[u32]) -> Option<(EventId, u128)>
 /// The bound of weights, or none if it or a weight is above the limit.
 pub(crate) fn limited_bound(plan: &Plan, weights: &[u32]) -> Option<Bound>
     requires { length weights.now ≡ length plan.now.events }
-    ensures within { IfSome result (λ bound. IsWithinLimit plan.now weights.now × (bound.0 ≡ bound_of plan.now (weight_of weights.now))) }
+    ensures within { IfSome result (λ bound. IsWithinLimit plan.now weights.now
+        × (bound.0 ≡ bound_of plan.now (weight_of weights.now))) }
     ensures above { IfNone result (¬ (IsWithinLimit plan.now weights.now)) }
 {
     let bound = bound_of(plan, weights);

@@ -9,7 +9,7 @@ ghost use Rattle.cascade_rank.specs.Cycle.{first_open};
 ghost use Rattle.cascade_rank.specs.Order.{IsWholeOrder, AreRanks};
 ghost use Rattle.cascade_rank.specs.Events.{weight_of};
 ghost use Rattle.cascade_rank.specs.Weights.{need_at, bound_at};
-ghost use Rattle.cascade_rank.specs.Measures.{saturated};
+ghost use Rattle.cascade_rank.specs.Measures.{saturate};
 ghost use Rattle.cascade_rank.specs.Working.{GivesWork, IsBoundOf};
 
 use crate::costs::measure_event;
@@ -43,12 +43,12 @@ pub fn work_bound(alloc: Global, plan: &Plan) -> Result<WorkBound, RankFault>
     ensures { GivesWork plan.now result }
 {
     let grounding = ground(alloc, plan)?;
-    if let Some(place) = first_left(&grounding.left) {
+    if let Some(place) = first_left(&grounding.unmet_counts) {
         let start = EventId(place as u16);
-        return Err(RankFault::Cycle(walk(alloc, plan, &grounding.left, start)?));
+        return Err(RankFault::Cycle(walk(alloc, plan, &grounding.unmet_counts, start)?));
     }
     let weights = weigh_steps(alloc, plan, &grounding.order)?;
-    Ok(limited(measure_stimuli(&mut Steps { weights: &weights }, plan)))
+    Ok(limit_steps(measure_stimuli(&mut Steps { weights: &weights }, plan)))
 }
 
 /// What each event needs in lines and steps, or `u64::MAX` if it needs more: in the order, so that what an
@@ -59,14 +59,14 @@ fn weigh_steps(alloc: Global, plan: &Plan, order: &[EventId]) -> Result<Vec<u64>
 {
     let mut weights = vec![in alloc; 0u64; plan.event_count()]?;
     for event in order {
-        let needed = measure_event(&mut Steps { weights: &weights }, plan, *event);
-        weights[event.0 as usize] = needed.min(u128::from(u64::MAX)) as u64;
+        let steps_needed = measure_event(&mut Steps { weights: &weights }, plan, *event);
+        weights[event.0 as usize] = steps_needed.min(u128::from(u64::MAX)) as u64;
     }
     Ok(weights)
 }
 
 /// The bound, if it is less than 2^64 - 1.
-fn limited(steps: u128) -> WorkBound
+fn limit_steps(steps: u128) -> WorkBound
     ensures { IsBoundOf steps result }
 {
     if steps < u128::from(u64::MAX) {

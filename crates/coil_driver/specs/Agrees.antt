@@ -15,9 +15,10 @@ IsSent s owner now _ = Unit {0}
 -- each command of these lines is sent, by a guard in this state at first; and they are all of one moment
 abbrev pub AreSent : ℕ → List CoilState → List Line → Type 0
 AreSent moment s [] = Unit {0}
-AreSent moment s (l ∷ ls) = (l.moment ≡ moment) × IsSent s l.owner l.moment l.happening × AreSent moment (after_line l s) ls
+AreSent moment s (l ∷ ls) = (l.moment ≡ moment) × IsSent s l.owner l.moment l.happening
+    × AreSent moment (after_line l s) ls
 
 -- The coils are those of the start, once the commands of the lines were sent.
 pub record Agrees (start : List CoilState) (s : Machine) : Type 0 where
   pub coils : s.coils ≡ after_lines s.lines start
-  pub sent : AreSent s.moment start s.lines
+  pub commands : AreSent s.moment start s.lines

@@ -9,13 +9,14 @@ use Rattle.written_machine.specs.declared.line.Happening.TheVariants as lines
 -- what a board says of itself: the commands that it has taken, if it tells them; the count of its faults; and its
 -- answers to the commands to come, if it tells them
 pub record BoardView : Type 0 where
-  pub told : Option (List Command)
+  pub command_list : Option (List Command)
   pub fault_count : ℕ
   pub answers : Answers
 
 -- a board, by what it says of itself
 abbrev pub board_view : {B : Type 0} → (B → Option (List Command)) → (B → ℕ) → (B → Answers) → B → BoardView
-board_view told fault_count answers board = record { told = told board; fault_count = fault_count board; answers = answers board }
+board_view command_list fault_count answers board =
+    record { command_list = command_list board; fault_count = fault_count board; answers = answers board }
 
 -- ---- one command
 
@@ -23,13 +24,13 @@ board_view told fault_count answers board = record { told = told board; fault_co
 pub record HasTaken (command : Command) (old new : BoardView) : Type 0 where
   pub count : new.fault_count ≡ old.fault_count
   pub no_fault : HasFaulted old.fault_count new.fault_count → ⊥
-  pub list : IsToldAfter command (Ok tt) old.told new.told
+  pub list : IsToldAfter command (Ok tt) old.command_list new.command_list
   pub answer : IsAnswered true old.answers new.answers
 
 -- The board has not taken a command, which is a fault.
 pub record HasNotTaken (old new : BoardView) : Type 0 where
   pub count : HasFaulted old.fault_count new.fault_count
-  pub list : new.told ≡ old.told
+  pub list : new.command_list ≡ old.command_list
   pub answer : IsAnswered false old.answers new.answers
 
 -- ---- the commands of lines
@@ -64,7 +65,7 @@ after_lines (l ∷ ls) s = after_lines ls (after_line l s)
 
 -- It has grown by just these commands, or is told no more. One that is not told stays untold.
 abbrev pub TellsMore : List Command → Option (List Command) → Option (List Command) → Type 0
-TellsMore [] before told = told ≡ before
-TellsMore (command ∷ more) None told = told ≡ None
-TellsMore (command ∷ more) (Some taken) None = Unit {0}
-TellsMore (command ∷ more) (Some taken) (Some told) = told ≡ taken ++ command ∷ more
+TellsMore [] before command_list = command_list ≡ before
+TellsMore (command ∷ more) None command_list = command_list ≡ None
+TellsMore (command ∷ more) (Some list) None = Unit {0}
+TellsMore (command ∷ more) (Some list) (Some longer) = longer ≡ list ++ command ∷ more

@@ -15,5 +15,6 @@ abbrev pub ArePutOff : List CoilId → BoardView → List CoilId → ℕ → Boa
 ArePutOff [] old off faults new = (off ≡ []) × (faults ≡ 0) × (new ≡ old)
 ArePutOff (coil ∷ more) old off faults new =
     (mid : BoardView)
-    × ((HasTaken (Disable coil) old mid × ((rest : List CoilId) × (off ≡ coil ∷ rest) × ArePutOff more mid rest faults new))
+    × ((HasTaken (Disable coil) old mid × ((rest : List CoilId) × (off ≡ coil ∷ rest)
+    × ArePutOff more mid rest faults new))
     ⊎ (HasNotTaken old mid × ((others : ℕ) × (faults ≡ suc others) × ArePutOff more mid off others new)))

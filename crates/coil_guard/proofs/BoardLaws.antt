@@ -1,10 +1,12 @@
 -- What the boards of this crate do over every list of commands.
-use Rattle.std.proofs.Common.{rules, ◌≡◌, ℕ, ◌+◌, ◌-◌, ◌≤◌, ◌==◌, zero, suc, Bool, ◌&&◌, ◌||◌, List, [], ◌∷◌, ◌++◌, length, drop, min, refl, ap, sym, ◌∙◌, append-nil, append_assoc, arith}
+use Rattle.std.proofs.Common.{rules, ◌≡◌, ℕ, ◌+◌, ◌-◌, ◌≤◌, ◌==◌, zero, suc, Bool, ◌&&◌, ◌||◌, List, [], ◌∷◌, ◌++◌}
+use Rattle.std.proofs.Common.{length, drop, min, refl, ap, sym, ◌∙◌, append-nil, append_assoc, arith}
 use Rattle.std.proofs.lemmas.Bool.{le-leb, lt-leb, cases_lt}
 use Rattle.std.proofs.lemmas.List.{length-append, length-drop, drop-drop, drop-append-le}
 use Rattle.circular_buffer.specs.Buffer.{keep_last}
 use Rattle.coil_guard.specs.declared.command.Command.{Command}
-use Rattle.coil_guard.specs.Boards.{MemoryView, after_taking, after_taking_all, MemoryKeepsLatest, MemoryTellsAll, FuseView, after_sending, after_sending_many, is_fault_at, FuseFaultsFromKth}
+use Rattle.coil_guard.specs.Boards.{MemoryView, after_taking, after_taking_all, MemoryKeepsLatest, MemoryTellsAll}
+use Rattle.coil_guard.specs.Boards.{FuseView, after_sending, after_sending_many, is_fault_at, FuseFaultsFromKth}
 
 -- ---- the board in memory
 
@@ -25,13 +27,16 @@ keeps-again xs ys =
 keeps-few : (xs : List Command) → length (keep_last 1024 xs) ≤ 1024
 keeps-few xs = let size = length-drop (length xs - 1024) xs in omega arith
 
-kept-all : (commands : List Command) (b : MemoryView) → length b.kept ≤ 1024 → (after_taking_all commands b).kept ≡ keep_last 1024 (b.kept ++ commands)
-kept-all [] b few = sym (ap (λ (xs : List Command). keep_last 1024 xs) (append-nil b.kept) ∙ keeps-all b.kept few)
+kept-all : (commands : List Command) (b : MemoryView) → length b.ring ≤ 1024
+    → (after_taking_all commands b).ring ≡ keep_last 1024 (b.ring ++ commands)
+kept-all [] b few = sym (ap (λ (xs : List Command). keep_last 1024 xs) (append-nil b.ring) ∙ keeps-all b.ring few)
 kept-all (command ∷ later) b few =
-    kept-all later (after_taking command b) (keeps-few (b.kept ++ command ∷ []))
-    ∙ (keeps-again (b.kept ++ command ∷ []) later ∙ ap (λ (xs : List Command). keep_last 1024 xs) (append_assoc b.kept (command ∷ []) later))
+    kept-all later (after_taking command b) (keeps-few (b.ring ++ command ∷ []))
+    ∙ (keeps-again (b.ring ++ command ∷ []) later
+    ∙ ap (λ (xs : List Command). keep_last 1024 xs) (append_assoc b.ring (command ∷ []) later))
 
-counted-all : (commands : List Command) (b : MemoryView) → b.count ≤ 1025 → (after_taking_all commands b).count ≡ min (b.count + length commands) 1025
+counted-all : (commands : List Command) (b : MemoryView) → b.count ≤ 1025
+    → (after_taking_all commands b).count ≡ min (b.count + length commands) 1025
 counted-all [] b few = omega arith
 counted-all (command ∷ later) b few = let h = counted-all later (after_taking command b) (omega arith) in omega arith
 
@@ -43,7 +48,7 @@ memory_tells_all commands = search (rules, memory_keeps_latest, cases_lt, lt-leb
 
 -- ---- the board that faults
 
-left-after : (n : ℕ) (b : FuseView) → (after_sending_many n b).left ≡ b.left - n
+left-after : (n : ℕ) (b : FuseView) → (after_sending_many n b).countdown ≡ b.countdown - n
 left-after zero b = omega arith
 left-after (suc n) b = let h = left-after n (after_sending b) in omega arith
 

@@ -1,7 +1,7 @@
 -- One more sending: what lasts after it, and what rests after it.
-use Rattle.std.proofs.Common.{rules, ◌≡◌, ℕ, ◌≤◌, Bool, true, false, not, ◌&&◌, ◌||◌, List, [], ◌∷◌, ◌++◌, nat_lt, ap, ap₂, ◌∙◌}
-use Rattle.std.specs.List.{list_all, list_any}
-use Rattle.std.proofs.{lemmas.List.Folds.{list_all-append, list_any-append}, Math.Bool.{and-true, and-false, or-false}}
+use Rattle.std.proofs.Common.{rules, ◌≡◌, ℕ, ◌≤◌, Bool, true, false, not, ◌&&◌, ◌||◌, List, [], ◌∷◌, ◌++◌, nat_lt, ap}
+use Rattle.std.proofs.{Common.{ap₂, ◌∙◌}, Math.Bool.{and-true, and-false, or-false}}
+use Rattle.std.{specs.List.{list_all, list_any}, proofs.lemmas.List.Folds.{list_all-append, list_any-append}}
 use Rattle.coil_guard.specs.SentCommands.{Sending, lasts}
 
 -- a: the first one begins; l: none of the later ones ends it; n: the new one does not; r: one of the later ones lasts;
@@ -10,15 +10,19 @@ regroup : (a l n r b : Bool) → ((a && (l && n)) || ((r && n) || b)) ≡ ((((a 
 regroup a l n r b = search rules
 
 -- What lasted goes on unless the new one ends it, and the new one may begin it.
-pub lasts-push : (begins ends : Sending → Bool) (sent : List Sending) (s : Sending) → lasts begins ends (sent ++ s ∷ []) ≡ ((lasts begins ends sent && not (ends s)) || begins s)
+pub lasts-push : (begins ends : Sending → Bool) (sent : List Sending) (s : Sending)
+    → lasts begins ends (sent ++ s ∷ []) ≡ ((lasts begins ends sent && not (ends s)) || begins s)
 lasts-push begins ends [] s = or-false (begins s && true) ∙ and-true (begins s)
 lasts-push begins ends (p ∷ later) s =
     let stays : Sending → Bool = λ l. not (ends l) in
-    let all : list_all stays (later ++ s ∷ []) ≡ (list_all stays later && stays s) = list_all-append stays later (s ∷ []) ∙ ap (λ b. list_all stays later && b) (and-true (stays s)) in
-    ap₂ (λ a b. (begins p && a) || b) all (lasts-push begins ends later s) ∙ regroup (begins p) (list_all stays later) (stays s) (lasts begins ends later) (begins s)
+    let all : list_all stays (later ++ s ∷ []) ≡ (list_all stays later && stays s) =
+    list_all-append stays later (s ∷ []) ∙ ap (λ b. list_all stays later && b) (and-true (stays s)) in
+    ap₂ (λ a b. (begins p && a) || b) all (lasts-push begins ends later s)
+    ∙ regroup (begins p) (list_all stays later) (stays s) (lasts begins ends later) (begins s)
 
 module _ (begins ends : Sending → Bool) (sent : List Sending) (s : Sending) where
-  pub lasts-begun : (b : Bool) → begins s ≡ b → ends s ≡ false → lasts begins ends (sent ++ s ∷ []) ≡ (lasts begins ends sent || b)
+  pub lasts-begun : (b : Bool) → begins s ≡ b → ends s ≡ false
+      → lasts begins ends (sent ++ s ∷ []) ≡ (lasts begins ends sent || b)
   lasts-begun b begun stays = search (rules, lasts-push, and-true)
 
   pub lasts-kept : begins s ≡ false → ends s ≡ false → lasts begins ends (sent ++ s ∷ []) ≡ lasts begins ends sent
@@ -27,7 +31,8 @@ module _ (begins ends : Sending → Bool) (sent : List Sending) (s : Sending) wh
   pub lasts-ended : begins s ≡ false → ends s ≡ true → lasts begins ends (sent ++ s ∷ []) ≡ false
   lasts-ended none ended = search (rules, lasts-push, or-false, and-false)
 
-pub any-push : (p : Sending → Bool) (sent : List Sending) (s : Sending) (b : Bool) → p s ≡ b → list_any p (sent ++ s ∷ []) ≡ (list_any p sent || b)
+pub any-push : (p : Sending → Bool) (sent : List Sending) (s : Sending) (b : Bool) → p s ≡ b
+    → list_any p (sent ++ s ∷ []) ≡ (list_any p sent || b)
 any-push p sent s b is = list_any-append p sent (s ∷ []) ∙ ap (λ c. list_any p sent || c) (or-false (p s) ∙ is)
 
 -- before one of two moments is before the later one

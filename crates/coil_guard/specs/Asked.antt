@@ -3,7 +3,8 @@ use Rattle.std.specs.Prelude.{ℕ, List, map}
 use Rattle.plan_tables.specs.{PlanView.PlanView, declared.entries.{Owner.Owner, CoilLimits.CoilLimits}}
 use Rattle.coil_guard.specs.declared.{command.{Command.Command, Answer.Answer}, state.CoilState.CoilState}
 use Rattle.coil_guard.specs.declared.command.Command.TheVariants as commands
-use Rattle.coil_guard.specs.Coils.{after_pulse, answer_pulse, after_enable, answer_enable, after_disable, answer_disable}
+use Rattle.coil_guard.specs.Coils.{after_pulse, answer_pulse, after_enable, answer_enable, after_disable}
+use Rattle.coil_guard.specs.Coils.{answer_disable}
 
 -- the limits of a plan's coils, by number
 abbrev pub limits_of : PlanView → List CoilLimits

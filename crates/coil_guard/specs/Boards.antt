@@ -1,5 +1,7 @@
 -- What a board says of itself, and what the boards of this crate do.
-use Rattle.std.specs.Prelude.{◌≡◌, ◌⊎◌, ◌<◌, ℕ, zero, suc, ◌+◌, ◌-◌, ◌^◌, ◌==◌, Bool, true, false, not, ◌&&◌, ◌||◌, if◌then◌else◌, Option, None, Some, IfSome, Result, Ok, Err, List, [], ◌∷◌, ◌++◌, length, drop, nat_le, min}
+use Rattle.std.specs.Prelude.{◌≡◌, ◌⊎◌, ◌<◌, ℕ, zero, suc, ◌+◌, ◌-◌, ◌^◌, ◌==◌, Bool, true, false, not, ◌&&◌, ◌||◌}
+use Rattle.std.specs.Prelude.{if◌then◌else◌, Option, None, Some, IfSome, Result, Ok, Err, List, [], ◌∷◌, ◌++◌, length}
+use Rattle.std.specs.Prelude.{drop, nat_le, min}
 use Rattle.circular_buffer.specs.Buffer.{keep_last}
 use Rattle.coil_guard.specs.declared.{command.Command.Command, board.BoardFault.BoardFault}
 
@@ -12,10 +14,10 @@ HasFaulted before after = (before < after) ⊎ (before ≡ 2 ^ 64 - 1)
 -- The list that is told after a command. A fault leaves it; else it has grown by the command, or is told no more. One
 -- that is not told stays untold.
 abbrev pub IsToldAfter : Command → Result Unit BoardFault → Option (List Command) → Option (List Command) → Type 0
-IsToldAfter command result None told = told ≡ None
-IsToldAfter command (Err fault) (Some taken) told = told ≡ Some taken
-IsToldAfter command (Ok done) (Some taken) None = Unit {0}
-IsToldAfter command (Ok done) (Some taken) (Some told) = told ≡ taken ++ command ∷ []
+IsToldAfter command result None list = list ≡ None
+IsToldAfter command (Err fault) (Some taken) list = list ≡ Some taken
+IsToldAfter command (Ok unit) (Some taken) None = Unit {0}
+IsToldAfter command (Ok unit) (Some taken) (Some list) = list ≡ taken ++ command ∷ []
 
 -- A board's answers to the commands to come: whether it takes each of the next ones, and whether it takes all that come
 -- after those, if it tells.
@@ -34,26 +36,26 @@ first_answer (taken ∷ more) later = Some taken
 
 -- A board that has taken a command, or has not, has answered as it told. The answers after that stay as they were.
 pub record IsAnswered (taken : Bool) (before after : Answers) : Type 0 where
-  pub as_told : IfSome (first_answer before.next before.later) (λ told. told ≡ taken)
+  pub as_told : IfSome (first_answer before.next before.later) (λ answer. answer ≡ taken)
   pub others : after ≡ record { next = drop 1 before.next; later = before.later }
 
 -- ---- the board in memory
 
 -- the latest commands, and how many were taken
 pub record MemoryView : Type 0 where
-  pub kept : List Command
+  pub ring : List Command
   pub count : ℕ
 
 abbrev pub empty_memory : MemoryView
-empty_memory = record { kept = []; count = 0 }
+empty_memory = record { ring = []; count = 0 }
 
 -- It keeps the latest 1,024 commands, and counts up to 1,025.
 abbrev pub after_taking : Command → MemoryView → MemoryView
-after_taking command b = record { kept = keep_last 1024 (b.kept ++ command ∷ []); count = min (b.count + 1) 1025 }
+after_taking command b = record { ring = keep_last 1024 (b.ring ++ command ∷ []); count = min (b.count + 1) 1025 }
 
 -- It tells its commands while it keeps all.
 abbrev pub told_by_memory : MemoryView → Option (List Command)
-told_by_memory b = if nat_le b.count 1024 then Some b.kept else None
+told_by_memory b = if nat_le b.count 1024 then Some b.ring else None
 
 -- It takes all commands to come.
 abbrev pub takes_all : Answers
@@ -63,20 +65,20 @@ takes_all = record { next = []; later = Some true }
 
 -- how many commands come until the first fault, and with it; whether all later ones are faults; how many there were
 pub record FuseView : Type 0 where
-  pub left : ℕ
+  pub countdown : ℕ
   pub onwards : Bool
   pub faults : ℕ
 
 abbrev pub new_fuse : ℕ → Bool → FuseView
-new_fuse k onwards = record { left = k; onwards = onwards; faults = 0 }
+new_fuse k onwards = record { countdown = k; onwards = onwards; faults = 0 }
 
 -- whether the next command is a fault
 abbrev pub is_fault_next : FuseView → Bool
-is_fault_next b = (b.left == 1) || (b.onwards && (b.left == 0))
+is_fault_next b = (b.countdown == 1) || (b.onwards && (b.countdown == 0))
 
 abbrev pub after_sending : FuseView → FuseView
 after_sending b = record {
-  left = b.left - 1;
+  countdown = b.countdown - 1;
   onwards = b.onwards;
   faults = if is_fault_next b then min (b.faults + 1) (2 ^ 64 - 1) else b.faults;
 }
@@ -89,7 +91,7 @@ until_fault (suc (suc n)) = true ∷ until_fault (suc n)
 
 -- It takes all that come after, or with `onwards` none.
 abbrev pub fuse_answers : FuseView → Answers
-fuse_answers b = record { next = until_fault b.left; later = Some (not b.onwards) }
+fuse_answers b = record { next = until_fault b.countdown; later = Some (not b.onwards) }
 
 -- ---- their laws, over every list of commands
 
@@ -102,7 +104,7 @@ abbrev pub MemoryKeepsLatest : Type 0
 MemoryKeepsLatest =
     (commands : List Command)
     → after_taking_all commands empty_memory
-    ≡ record { kept = keep_last 1024 commands; count = min (length commands) 1025 }
+    ≡ record { ring = keep_last 1024 commands; count = min (length commands) 1025 }
 
 -- It tells all commands that it took while they are at most 1,024, and then none.
 abbrev pub MemoryTellsAll : Type 0
@@ -123,5 +125,5 @@ is_fault_at k onwards number = (number == k) || (onwards && nat_le k number)
 -- After any number of commands, the next one is a fault exactly if its number says so.
 abbrev pub FuseFaultsFromKth : Type 0
 FuseFaultsFromKth =
-    (k : ℕ) (onwards : Bool) (sent : ℕ)
-    → is_fault_next (after_sending_many sent (new_fuse k onwards)) ≡ is_fault_at k onwards (sent + 1)
+    (k : ℕ) (onwards : Bool) (earlier : ℕ)
+    → is_fault_next (after_sending_many earlier (new_fuse k onwards)) ≡ is_fault_at k onwards (earlier + 1)

@@ -5,7 +5,8 @@ use Rattle.coil_guard.specs.declared.command.{Command.Command, Answer.{Answer, T
 use Rattle.coil_guard.specs.declared.command.Command.TheVariants as commands
 use Rattle.coil_guard.specs.{declared.state.CoilState.CoilState, Lowest.lowest}
 use Rattle.coil_guard.specs.Limits.{limits_at, is_pulse_within, is_hold_within}
-use Rattle.coil_guard.specs.Coils.{after_pulse, answer_pulse, after_enable, answer_enable, after_disable, answer_disable, after_release, answer_release}
+use Rattle.coil_guard.specs.Coils.{after_pulse, answer_pulse, after_enable, answer_enable, after_disable}
+use Rattle.coil_guard.specs.Coils.{answer_disable, after_release, answer_release}
 use Rattle.coil_guard.specs.SentCommands.{Sending, is_on, is_held, is_held_for, is_resting}
 
 -- a call, with its moment
@@ -84,19 +85,21 @@ disables_sent (Some coil) now = disable_sent coil now ∷ []
 
 -- whether a pulse is to be sent: the coil is neither held nor resting, and the pulse is within the limits
 abbrev pub is_pulse_due : List CoilLimits → List Sending → CoilId → ℕ → ℕ → ℕ → Bool
-is_pulse_due limits sent coil ms power now =
-    not (is_held sent coil) && (not (is_resting sent coil now) && is_pulse_within (limits_at limits coil) ms power)
+is_pulse_due limits sent_commands coil ms power now =
+    not (is_held sent_commands coil) && (not (is_resting sent_commands coil now)
+    && is_pulse_within (limits_at limits coil) ms power)
 
 -- whether an enable is to be sent: the coil is not held, and may be held with this power
 abbrev pub is_enable_due : List CoilLimits → List Sending → CoilId → ℕ → Bool
-is_enable_due limits sent coil power = not (is_held sent coil) && is_hold_within (limits_at limits coil) power
+is_enable_due limits sent_commands coil power =
+    not (is_held sent_commands coil) && is_hold_within (limits_at limits coil) power
 
 -- A disable is to be sent if the coil is on, and a release to the lowest coil that is held for the owner.
 abbrev pub due_by : List CoilLimits → List Sending → CoilCall → List Sending
-due_by limits sent (Pulse coil ms power now) =
-    sent_if (is_pulse_due limits sent coil ms power now) (pulse_sent coil ms power now)
-due_by limits sent (Enable coil power owner now) =
-    sent_if (is_enable_due limits sent coil power) (enable_sent coil power owner now)
-due_by limits sent (Disable coil now) = sent_if (is_on sent coil now) (disable_sent coil now)
-due_by limits sent (Release owner now) =
-    disables_sent (lowest (λ coil. is_held_for sent owner coil) (length limits)) now
+due_by limits sent_commands (Pulse coil ms power now) =
+    sent_if (is_pulse_due limits sent_commands coil ms power now) (pulse_sent coil ms power now)
+due_by limits sent_commands (Enable coil power owner now) =
+    sent_if (is_enable_due limits sent_commands coil power) (enable_sent coil power owner now)
+due_by limits sent_commands (Disable coil now) = sent_if (is_on sent_commands coil now) (disable_sent coil now)
+due_by limits sent_commands (Release owner now) =
+    disables_sent (lowest (λ coil. is_held_for sent_commands owner coil) (length limits)) now

@@ -23,8 +23,8 @@ abbrev pub takes_pulse : ℕ → ℕ → ℕ → CoilState → Bool
 takes_pulse ms power now c = not (is_some c.holder) && (nat_le c.ready now && is_pulse_within c.limits ms power)
 
 -- It goes on for its length, and the coil is ready again after twice that.
-abbrev pub pulsed : ℕ → ℕ → CoilState → CoilState
-pulsed ms now c = record { limits = c.limits; pulse_end = now + ms; ready = now + 2 * ms; holder = c.holder }
+abbrev pub pulse_coil : ℕ → ℕ → CoilState → CoilState
+pulse_coil ms now c = record { limits = c.limits; pulse_end = now + ms; ready = now + 2 * ms; holder = c.holder }
 
 -- ---- enable
 
@@ -39,5 +39,5 @@ enabled owner c = record { limits = c.limits; pulse_end = c.pulse_end; ready = c
 -- ---- disable
 
 -- A disable ends a pulse and a hold, and leaves the moment from which the coil is ready.
-abbrev pub disabled : CoilState → CoilState
-disabled c = record { limits = c.limits; pulse_end = 0; ready = c.ready; holder = None }
+abbrev pub disable_coil : CoilState → CoilState
+disable_coil c = record { limits = c.limits; pulse_end = 0; ready = c.ready; holder = None }

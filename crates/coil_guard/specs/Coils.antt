@@ -1,10 +1,11 @@
 -- All coils, by number, and what each call does with them.
-use Rattle.std.specs.Prelude.{ℕ, if◌then◌else◌, Option, None, Some, option_map, List, length, map, slice_index_or, slice_set}
+use Rattle.std.specs.Prelude.{ℕ, if◌then◌else◌, Option, None, Some, option_map, List, length, map, slice_index_or}
+use Rattle.std.specs.Prelude.{slice_set}
 use Rattle.plan_tables.specs.declared.entries.{Owner.Owner, CoilId.CoilId, CoilLimits.CoilLimits}
 use Rattle.coil_guard.specs.declared.command.{Command.Command, Answer.{Answer, TheVariants.{Sent, Skipped}}}
 use Rattle.coil_guard.specs.declared.command.Command.TheVariants as commands
-use Rattle.coil_guard.specs.{declared.state.CoilState.CoilState, Limits.no_limits, Lowest.lowest}
-use Rattle.coil_guard.specs.CoilStep.{off, is_on_at, is_held_by, takes_pulse, pulsed, takes_enable, enabled, disabled}
+use Rattle.coil_guard.specs.{declared.state.CoilState.CoilState, Limits.no_limits, Lowest.lowest, CoilStep.disable_coil}
+use Rattle.coil_guard.specs.CoilStep.{off, is_on_at, is_held_by, takes_pulse, pulse_coil, takes_enable, enabled}
 
 -- the coil of this number; if there is none, one to which nothing is ever sent
 abbrev pub coil_at : List CoilState → CoilId → CoilState
@@ -23,7 +24,7 @@ all_off limits = map off limits
 
 abbrev pub after_pulse : CoilId → ℕ → ℕ → ℕ → List CoilState → List CoilState
 after_pulse coil ms power now s =
-    if takes_pulse ms power now (coil_at s coil) then set_coil coil (pulsed ms now (coil_at s coil)) s else s
+    if takes_pulse ms power now (coil_at s coil) then set_coil coil (pulse_coil ms now (coil_at s coil)) s else s
 
 abbrev pub answer_pulse : CoilId → ℕ → ℕ → ℕ → List CoilState → Answer
 answer_pulse coil ms power now s =
@@ -43,7 +44,7 @@ answer_enable coil power owner now s =
 
 -- It is sent if the coil is on.
 abbrev pub after_disable : CoilId → ℕ → List CoilState → List CoilState
-after_disable coil now s = if is_on_at now (coil_at s coil) then set_coil coil (disabled (coil_at s coil)) s else s
+after_disable coil now s = if is_on_at now (coil_at s coil) then set_coil coil (disable_coil (coil_at s coil)) s else s
 
 abbrev pub answer_disable : CoilId → ℕ → List CoilState → Answer
 answer_disable coil now s = if is_on_at now (coil_at s coil) then Sent (commands.Disable coil) else Skipped
@@ -57,7 +58,7 @@ next_held owner s = lowest (λ coil. is_held_by owner (coil_at s coil)) (length 
 -- the coil, if it is one, is turned off
 abbrev pub put_off : Option CoilId → List CoilState → List CoilState
 put_off None s = s
-put_off (Some coil) s = set_coil coil (disabled (coil_at s coil)) s
+put_off (Some coil) s = set_coil coil (disable_coil (coil_at s coil)) s
 
 abbrev pub after_release : Owner → ℕ → List CoilState → List CoilState
 after_release owner now s = put_off (next_held owner s) s

@@ -2,10 +2,10 @@
 use Rattle.std.specs.Prelude.{◌≡◌, ℕ, ◌≤◌, false, List, length, All}
 use Rattle.plan_tables.specs.declared.entries.{Owner.Owner, CoilId.CoilId, CoilLimits.CoilLimits}
 use Rattle.coil_guard.specs.{declared.state.CoilState.CoilState, CoilStep.{is_on_at, is_held_by}}
-use Rattle.coil_guard.specs.{Limits.{limits_at, IsWithin}, Lowest.IsLowest}
+use Rattle.coil_guard.specs.{Limits.{limits_at, IsWithin}, Lowest.IsLowest, Calls.due_by}
 use Rattle.coil_guard.specs.Coils.{coil_at, all_off, next_held, next_on}
 use Rattle.coil_guard.specs.SentCommands.{Sending, is_on, is_held_for, IsOnThroughout}
-use Rattle.coil_guard.specs.Calls.{CoilCall, moment_of, sent_by, after_calls, sent_by_calls, last_moment, AreInOrder, due_by}
+use Rattle.coil_guard.specs.Calls.{CoilCall, moment_of, sent_by, after_calls, sent_by_calls, last_moment, AreInOrder}
 
 -- what calls on a new guard send, and what they lead to
 abbrev pub sent_from_new : List CoilLimits → List CoilCall → List Sending

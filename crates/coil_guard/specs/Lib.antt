@@ -10,4 +10,4 @@ pub mod Laws
 pub mod Slower
 pub mod Follows
 pub mod Boards
-pub mod Inside
+pub mod GuardState

@@ -1,6 +1,6 @@
 -- What sent commands say of a coil: whether it is on, held, or resting. No state of the guard is looked at.
-use Rattle.std.specs.Prelude.{◌≡◌, ℕ, ◌+◌, ◌*◌, ◌<◌, ◌≤◌, ◌==◌, Bool, true, false, not, ◌&&◌, ◌||◌, Option, List, [], ◌∷◌, nat_le, nat_lt}
-use Rattle.std.specs.List.{list_all, list_any}
+use Rattle.std.specs.Prelude.{◌≡◌, ℕ, ◌+◌, ◌*◌, ◌<◌, ◌≤◌, ◌==◌, Bool, true, false, not, ◌&&◌, ◌||◌, Option, List, []}
+use Rattle.std.specs.{Prelude.{◌∷◌, nat_le, nat_lt}, List.{list_all, list_any}}
 use Rattle.plan_tables.specs.declared.entries.{Owner.Owner, CoilId.CoilId}
 use Rattle.coil_guard.specs.{declared.command.Command.{Command, TheVariants.{Pulse, Enable, Disable}}, Owners.is_holder}
 
@@ -75,21 +75,22 @@ lasts begins ends (s ∷ later) = (begins s && list_all (λ l. not (ends l)) lat
 -- The coil is on at a moment: by a pulse that goes on then, or by an enable that was sent at or before it, and after
 -- that pulse or enable no disable of the coil was sent at or before the moment.
 abbrev pub is_on : List Sending → CoilId → ℕ → Bool
-is_on sent coil moment = lasts (begins_on coil moment) (ends_on coil moment) sent
+is_on sent_commands coil moment = lasts (begins_on coil moment) (ends_on coil moment) sent_commands
 
 -- An enable of the coil was sent, and no disable of it after that.
 abbrev pub is_held : List Sending → CoilId → Bool
-is_held sent coil = lasts (begins_hold coil) (ends_hold coil) sent
+is_held sent_commands coil = lasts (begins_hold coil) (ends_hold coil) sent_commands
 
 -- An enable of the coil was sent for this owner, and no disable of it after that.
 abbrev pub is_held_for : List Sending → Owner → CoilId → Bool
-is_held_for sent owner coil = lasts (begins_hold_for owner coil) (ends_hold coil) sent
+is_held_for sent_commands owner coil = lasts (begins_hold_for owner coil) (ends_hold coil) sent_commands
 
 -- At the moment twice the length of some pulse that was sent to the coil is not over.
 abbrev pub is_resting : List Sending → CoilId → ℕ → Bool
-is_resting sent coil moment = list_any (λ s. is_to coil s.command && makes_rest moment s.at s.command) sent
+is_resting sent_commands coil moment = list_any (λ s. is_to coil s.command && makes_rest moment s.at s.command)
+    sent_commands
 
 -- At each of so many moments, from the first on, the coil is on.
 abbrev pub IsOnThroughout : List Sending → CoilId → ℕ → ℕ → Type 0
-IsOnThroughout sent coil first count =
-    (moment : ℕ) → first ≤ moment → moment < first + count → is_on sent coil moment ≡ true
+IsOnThroughout sent_commands coil first count =
+    (moment : ℕ) → first ≤ moment → moment < first + count → is_on sent_commands coil moment ≡ true

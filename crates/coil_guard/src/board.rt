@@ -19,7 +19,7 @@ pub trait Board: Drop {
     /// The count of faults.
     ghost fault_count: { Self → ℕ };
     /// The commands that were taken, first taken first, if the board reports them.
-    ghost told: { Self → Option (List Command) };
+    ghost command_list: { Self → Option (List Command) };
     /// The answers to the commands to come, if the board reports them.
     ghost answers: { Self → Answers } = { λ _. untold };
 
@@ -34,7 +34,7 @@ pub trait Board: Drop {
     fn send(&mut self, command: Command) -> Result<(), BoardFault>
         ensures fault { IsErr result ↔ HasFaulted (fault_count self.old) (fault_count self.new) }
         ensures count { OnOk result (fault_count self.new ≡ fault_count self.old) }
-        ensures list { IsToldAfter command result (told self.old) (told self.new) }
+        ensures list { IsToldAfter command result (command_list self.old) (command_list self.new) }
         ensures answer { IsAnswered (is_ok result) (answers self.old) (answers self.new) };
 
     /// How many faults there were, counted up to 2^64 - 1.

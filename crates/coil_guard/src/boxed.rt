@@ -6,7 +6,7 @@ use crate::command::Command;
 impl Board for Box<dyn Board> {
     ghost fault_count = { λ b. (Board-box b).fault_count b.value };
 
-    ghost told = { λ b. (Board-box b).told b.value };
+    ghost command_list = { λ b. (Board-box b).command_list b.value };
 
     ghost answers = { λ b. (Board-box b).answers b.value };
 

@@ -23,13 +23,14 @@ pub struct Coils {
 
 impl Model for Coils {
     ghost use Rattle.std.specs.Prelude.{List, length, ◌≤◌};
-    ghost use Rattle.coil_guard.specs.{declared.state.CoilState.{CoilState}, Inside.HoldsNone};
+    ghost use Rattle.coil_guard.specs.{declared.state.CoilState.{CoilState}, GuardState.HoldsNone};
 
     ghost Value = { List CoilState };
 
     ghost view = { λ s. s.coils.items };
 
-    ghost invariant = { λ s. (length s.coils.items ≤ 256) × (s.from ≤ length s.coils.items) × HoldsNone s.releasing s.coils.items s.from };
+    ghost invariant = { λ s. (length s.coils.items ≤ 256) × (s.from ≤ length s.coils.items)
+        × HoldsNone s.releasing s.coils.items s.from };
 }
 
 impl Coils {
@@ -37,8 +38,10 @@ impl Coils {
     ghost use Rattle.coil_guard.specs.CoilStep.{off};
     ghost use Rattle.coil_guard.specs.SentCommands.{coil_of};
     ghost use Rattle.coil_guard.specs.Asked.{limits_of, after_asking, answer_asking};
-    ghost use Rattle.coil_guard.specs.Coils.{all_off, after_pulse, answer_pulse, after_enable, answer_enable, after_disable, answer_disable, next_held, after_release, answer_release, next_on};
-    ghost use Rattle.coil_guard.specs.Inside.{HoldsNone};
+    ghost use Rattle.coil_guard.specs.Coils.{all_off, after_pulse, answer_pulse, after_enable, answer_enable};
+    ghost use Rattle.coil_guard.specs.Coils.{after_disable, answer_disable, next_held, after_release, answer_release};
+    ghost use Rattle.coil_guard.specs.Coils.{next_on};
+    ghost use Rattle.coil_guard.specs.GuardState.{HoldsNone};
 
     /// The coils of a plan, with their limits. They are off. Only this call takes memory.
     ///
@@ -93,7 +96,7 @@ impl Coils {
         if !old.takes_pulse(ms, power, now) {
             return Answer::Skipped;
         }
-        self.coils[number] = old.pulsed(ms, now);
+        self.coils[number] = old.pulse_coil(ms, now);
         Answer::Sent(Command::Pulse { coil, ms, power })
     }
 
@@ -108,7 +111,6 @@ impl Coils {
         ensures answer { result ≡ answer_enable coil power owner now self.old }
         ensures count { length self.new ≡ length self.old }
     {
-        let _now = now;
         let number = coil.0 as usize;
         let old = self.coils[number];
         if !old.takes_enable(power) {
@@ -134,7 +136,7 @@ impl Coils {
         if !old.is_on_at(now) {
             return Answer::Skipped;
         }
-        self.coils[number] = old.disabled();
+        self.coils[number] = old.disable_coil();
         Answer::Sent(Command::Disable { coil })
     }
 
@@ -146,10 +148,9 @@ impl Coils {
         ensures answer { result ≡ answer_release owner now self.old }
         ensures count { length self.new ≡ length self.old }
     {
-        let _now = now;
         let coil = self.next_held(owner)?;
         let number = coil.0 as usize;
-        self.coils[number] = self.coils[number].disabled();
+        self.coils[number] = self.coils[number].disable_coil();
         self.releasing = owner;
         self.from = number + 1;
         Some(Command::Disable { coil })

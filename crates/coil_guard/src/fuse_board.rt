@@ -8,28 +8,28 @@ use std::marker::Model;
 use std::rc::Rc;
 
 /// The commands that a `FuseBoard` took, which its test shares with it.
-pub type Taken = Rc<RefCell<ArrayVec<Command, 1024>>>;
+pub type SharedCommands = Rc<RefCell<ArrayVec<Command, 1024>>>;
 
 /// A board for tests that faults at one command, or from one command on. It reports its answers to the
 /// commands to come, and no list. It adds each command that it takes to a list that a test shares.
 #[derive(Drop)]
 pub struct FuseBoard {
     /// How many commands come until the first fault, and with it; 0 if it is past.
-    left: u64,
+    countdown: u64,
     onwards: bool,
     faults: u64,
-    taken: Taken,
+    taken: SharedCommands,
 }
 
 impl Model for FuseBoard {
     ghost use Rattle.coil_guard.specs.Boards.{FuseView};
-    ghost use Rattle.coil_guard.specs.Inside.{IsFuse};
+    ghost use Rattle.coil_guard.specs.GuardState.{IsFuse};
 
     ghost Value = { FuseView };
 
-    ghost view = { λ b. record { left = b.left; onwards = b.onwards; faults = b.faults } };
+    ghost view = { λ b. record { countdown = b.countdown; onwards = b.onwards; faults = b.faults } };
 
-    ghost invariant = { λ b. IsFuse b.left b.onwards b.faults };
+    ghost invariant = { λ b. IsFuse b.countdown b.onwards b.faults };
 }
 
 impl FuseBoard {
@@ -41,11 +41,11 @@ impl FuseBoard {
     ///
     /// It adds each command that it takes to `taken`, as long as there is room and nobody borrows
     /// it. It takes no memory.
-    pub fn new(k: u64, onwards: bool, taken: Taken) -> FuseBoard
+    pub fn new(k: u64, onwards: bool, taken: SharedCommands) -> FuseBoard
         ensures { result ≡ new_fuse k onwards }
     {
         FuseBoard {
-            left: k,
+            countdown: k,
             onwards,
             faults: 0,
             taken,
@@ -56,17 +56,18 @@ impl FuseBoard {
     fn is_fault_next(&self) -> bool
         ensures { result ≡ is_fault_next self.now }
     {
-        self.left == 1 || (self.onwards && self.left == 0)
+        self.countdown == 1 || (self.onwards && self.countdown == 0)
     }
 }
 
 impl Board for FuseBoard {
     ghost use Rattle.std.specs.Prelude.{◌≡◌, ◌↔◌, true, None, is_ok, IsErr, OnOk};
-    ghost use Rattle.coil_guard.specs.Boards.{HasFaulted, IsToldAfter, IsAnswered, is_fault_next, after_sending, fuse_answers};
+    ghost use Rattle.coil_guard.specs.Boards.{HasFaulted, IsToldAfter, IsAnswered, is_fault_next, after_sending};
+    ghost use Rattle.coil_guard.specs.Boards.{fuse_answers};
 
     ghost fault_count = { λ b. b.faults };
 
-    ghost told = { λ _. None };
+    ghost command_list = { λ _. None };
 
     ghost answers = { fuse_answers };
 
@@ -79,7 +80,7 @@ impl Board for FuseBoard {
         ensures state { self.new ≡ after_sending self.old }
     {
         let faults = self.is_fault_next();
-        self.left = self.left.saturating_sub(1);
+        self.countdown = self.countdown.saturating_sub(1);
         if faults {
             self.faults = self.faults.saturating_add(1);
             return Err(BoardFault);

@@ -1,6 +1,7 @@
 //! What holds after every list of calls, and of commands.
 
-ghost use Rattle.coil_guard.specs.Laws.{CommandsAreWithinLimits, StretchesAreWithinLimits, AnswersAreByCommands, StatesSayWhatIsOn, StatesSayWhoHolds, LowestIsOn, LowestIsReleased};
+ghost use Rattle.coil_guard.specs.Laws.{CommandsAreWithinLimits, StretchesAreWithinLimits, AnswersAreByCommands};
+ghost use Rattle.coil_guard.specs.Laws.{StatesSayWhatIsOn, StatesSayWhoHolds, LowestIsOn, LowestIsReleased};
 ghost use Rattle.coil_guard.specs.Follows.{NewFollows, CallsFollow, LaterFollows, FollowersSendWhatIsDue};
 ghost use Rattle.coil_guard.specs.Slower.{LimitsHoldOnSlowerClock};
 ghost use Rattle.coil_guard.specs.Boards.{MemoryKeepsLatest, MemoryTellsAll, FuseFaultsFromKth};

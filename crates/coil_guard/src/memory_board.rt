@@ -10,25 +10,25 @@ use std::marker::Model;
 const ROOM: usize = 1_024;
 
 /// How far the board counts: to one more than it keeps.
-const COUNTED: u16 = 1_025;
+const MOST_COUNTED: u16 = 1_025;
 
 /// A board that takes every command and keeps the latest 1,024 of them. It reports the list of its
 /// commands until it has taken more than 1,024, and reports that it takes all commands to come.
 #[derive(Drop)]
 pub struct MemoryBoard {
-    kept: HeapCircularBuffer<Command>,
-    counted: u16,
+    ring: HeapCircularBuffer<Command>,
+    commands_taken: u16,
 }
 
 impl Model for MemoryBoard {
     ghost use Rattle.coil_guard.specs.Boards.{MemoryView};
-    ghost use Rattle.coil_guard.specs.Inside.{IsMemory};
+    ghost use Rattle.coil_guard.specs.GuardState.{IsMemory};
 
     ghost Value = { MemoryView };
 
-    ghost view = { λ b. record { kept = b.kept.items; count = b.counted } };
+    ghost view = { λ b. record { ring = b.ring.items; count = b.commands_taken } };
 
-    ghost invariant = { λ b. IsMemory b.kept.items b.kept.capacity b.counted };
+    ghost invariant = { λ b. IsMemory b.ring.items b.ring.capacity b.commands_taken };
 }
 
 impl MemoryBoard {
@@ -44,8 +44,8 @@ impl MemoryBoard {
         ensures { IfOk result (λ b. b ≡ empty_memory) }
     {
         Ok(MemoryBoard {
-            kept: HeapCircularBuffer::with_capacity(alloc, ROOM)?,
-            counted: 0,
+            ring: HeapCircularBuffer::with_capacity(alloc, ROOM)?,
+            commands_taken: 0,
         })
     }
 
@@ -53,15 +53,15 @@ impl MemoryBoard {
     pub fn count(&self) -> u32
         ensures { result ≡ self.now.count }
     {
-        u32::from(self.counted)
+        u32::from(self.commands_taken)
     }
 
     /// The commands that are kept, first taken first, in two slices: the second goes on where the
     /// first ends. They are all that the board has taken, or the latest 1,024.
     pub fn taken(&self) -> (&[Command], &[Command])
-        ensures { result.0.now ++ result.1.now ≡ self.now.kept }
+        ensures { result.0.now ++ result.1.now ≡ self.now.ring }
     {
-        self.kept.as_slices()
+        self.ring.as_slices()
     }
 }
 
@@ -71,7 +71,7 @@ impl Board for MemoryBoard {
 
     ghost fault_count = { λ _. 0 };
 
-    ghost told = { λ b. told_by_memory b };
+    ghost command_list = { λ b. told_by_memory b };
 
     ghost answers = { λ _. takes_all };
 
@@ -80,8 +80,8 @@ impl Board for MemoryBoard {
         ensures never { IsOk result }
         ensures taken { self.new ≡ after_taking command self.old }
     {
-        let _oldest = self.kept.push_back(command);
-        self.counted = (self.counted + 1).min(COUNTED);
+        let _oldest = self.ring.push_back(command);
+        self.commands_taken = (self.commands_taken + 1).min(MOST_COUNTED);
         Ok(())
     }
 

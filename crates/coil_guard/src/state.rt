@@ -1,7 +1,8 @@
 //! One coil.
 
 ghost use Rattle.std.specs.Prelude.{◌≡◌, ◌<◌, ◌^◌};
-ghost use Rattle.coil_guard.specs.CoilStep.{off, is_on_at, is_held_by, takes_pulse, pulsed, takes_enable, enabled, disabled};
+ghost use Rattle.coil_guard.specs.CoilStep.{off, is_on_at, is_held_by, takes_pulse, pulse_coil, takes_enable, enabled};
+ghost use Rattle.coil_guard.specs.CoilStep.{disable_coil};
 
 use crate::limits::{is_hold_within, is_pulse_within};
 use plan_tables::{CoilLimits, Owner};
@@ -58,9 +59,9 @@ impl CoilState {
 
     /// The coil after a pulse is sent. It rests for as long as it was on, so that it is on for half
     /// of the time at most, and two pulses never join.
-    pub(crate) fn pulsed(self, ms: u32, now: u64) -> CoilState
+    pub(crate) fn pulse_coil(self, ms: u32, now: u64) -> CoilState
         requires { now < 2 ^ 40 }
-        ensures { result ≡ pulsed ms now self }
+        ensures { result ≡ pulse_coil ms now self }
     {
         CoilState {
             limits: self.limits,
@@ -90,8 +91,8 @@ impl CoilState {
     }
 
     /// The coil after a disable is sent, which ends a pulse and a hold alike.
-    pub(crate) fn disabled(self) -> CoilState
-        ensures { result ≡ disabled self }
+    pub(crate) fn disable_coil(self) -> CoilState
+        ensures { result ≡ disable_coil self }
     {
         CoilState {
             limits: self.limits,

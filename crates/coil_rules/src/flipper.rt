@@ -1,7 +1,7 @@
 //! A flipper.
 
 ghost use Rattle.std.specs.Prelude.{◌≡◌};
-ghost use Rattle.device_objects.specs.Flipper.{raised, lowered, act_step};
+ghost use Rattle.device_objects.specs.Flipper.{raise, lower, act_step};
 ghost use Rattle.plan_tables.specs.declared.devices.Settings.TheVariants as kinds;
 
 use device_objects::outcome::one_list;
@@ -89,8 +89,8 @@ impl Device for Flipper {
 
 /// The flipper goes on, if this holds.
 fn raise(state: &mut FlipperState, holds: bool) -> Outcome
-    ensures state { state.new ≡ (raised holds state.old).0 }
-    ensures outcome { result.items ≡ (raised holds state.old).1 }
+    ensures state { state.new ≡ (raise holds state.old).0 }
+    ensures outcome { result.items ≡ (raise holds state.old).1 }
 {
     if !holds {
         return Outcome::new();
@@ -101,8 +101,8 @@ fn raise(state: &mut FlipperState, holds: bool) -> Outcome
 
 /// The flipper goes off, if this holds.
 fn lower(state: &mut FlipperState, holds: bool) -> Outcome
-    ensures state { state.new ≡ (lowered holds state.old).0 }
-    ensures outcome { result.items ≡ (lowered holds state.old).1 }
+    ensures state { state.new ≡ (lower holds state.old).0 }
+    ensures outcome { result.items ≡ (lower holds state.old).1 }
 {
     if !holds {
         return Outcome::new();

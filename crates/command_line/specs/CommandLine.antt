@@ -1,8 +1,10 @@
 -- What the words of the command line ask for, as `clap` reads them.
-use Rattle.std.specs.Prelude.{◌≡◌, ◌==◌, ℕ, Bool, true, false, List, [], ◌∷◌, Option, Some, None, Result, Ok, Err, map, option_map, option_and_then, if◌then◌else◌, codes, String, string_bytes}
+use Rattle.std.specs.Prelude.{◌≡◌, ◌==◌, ℕ, Bool, true, false, List, [], ◌∷◌, Option, Some, None, Result, Ok, Err, map}
+use Rattle.std.specs.Prelude.{option_map, option_and_then, if◌then◌else◌, codes, String, string_bytes}
 use Rattle.std.specs.{Str.bytes_eq, Borrow.Bor, Global.Global}
-use Rattle.clap.specs.{Simple.on_top, declared.builder.action.ArgAction.TheVariants.Set}
-use Rattle.clap.specs.Words.{App, Kinds, Row, Rule, Text, fault_of, first_of, new_app, new_rule, subcommand_of, with_rule, with_subcommand}
+use Rattle.clap.specs.{Simple.on_top, Words.{with_rule, with_subcommand}}
+use Rattle.clap.specs.declared.builder.action.ArgAction.TheVariants.{Set}
+use Rattle.clap.specs.Words.{App, Kinds, Row, Rule, Text, fault_of, first_of, new_app, new_rule, subcommand_of}
 use Rattle.command_line.specs.declared.ask.Ask.{Ask, TheVariants.{Check, Verify, Play}}
 use Rattle.command_line.specs.declared.ask.AskFault.{AskFault, TheVariants.NoMemory}
 
@@ -31,7 +33,8 @@ play_app = path_app (new_app (codes "play"))
 
 -- no word is the program's name, what is to be done has to be named, and the program has a version
 abbrev pub program_app : App
-program_app = on_top (λ s. record s { no_binary_name = true; subcommand_required = true; has_version = true }) (new_app (codes "pinball"))
+program_app = on_top (λ s. record s { no_binary_name = true; subcommand_required = true; has_version = true })
+    (new_app (codes "pinball"))
 
 -- `check`, `verify` and the path of a certificate, or `play` and the path of a log; and then a folder, if there is one
 unfoldable pub pinball_app : App
@@ -60,12 +63,13 @@ asked_by name path folder =
 
 -- what a subcommand and what was found for its arguments ask for
 abbrev pub asked_of : Option (Text × List Row) → Option AskView
-asked_of met = option_and_then (λ p. asked_by p.0 (first_of (codes "path") p.1) (first_of (codes "folder") p.1)) met
+asked_of matches = option_and_then (λ p. asked_by p.0 (first_of (codes "path") p.1) (first_of (codes "folder") p.1))
+    matches
 
 -- this, if nothing is wrong with the words
 abbrev pub where_no_fault : Kinds → Option AskView → Option AskView
-where_no_fault [] asked = asked
-where_no_fault (kind ∷ more) asked = None
+where_no_fault [] wish = wish
+where_no_fault (kind ∷ more) wish = None
 
 -- what the words ask for: nothing if `clap` finds a fault in them, such as a word too many
 unfoldable pub asked_at : List Text → Option AskView
@@ -90,7 +94,7 @@ given_text text = option_map (λ s. s.now) text
 
 -- this is what is asked for
 abbrev pub IsAsked : Option AskView → Ask → Type 0
-IsAsked asked ask = asked ≡ Some (ask_view ask)
+IsAsked wish ask = wish ≡ Some (ask_view ask)
 
 -- the answer is this, unless memory ran out
 abbrev pub Asks : AskView → Result Ask AskFault → Type 0

@@ -1,6 +1,6 @@
 -- What the words of `pinball_live` ask for, as `clap` reads them.
-use Rattle.std.specs.Prelude.{◌≡◌, Bool, if◌then◌else◌, codes, true, false, List, [], ◌∷◌, Option, Some, None, Result, Ok, Err, option_map, string_bytes}
-use Rattle.std.specs.{Option.option_map_or, Str.bytes_eq}
+use Rattle.std.specs.Prelude.{◌≡◌, Bool, if◌then◌else◌, codes, true, false, List, [], ◌∷◌, Option, Some, None, Result}
+use Rattle.std.specs.{Prelude.{Ok, Err, option_map, string_bytes}, Option.option_map_or, Str.bytes_eq}
 use Rattle.clap.specs.{Simple.on_top, declared.builder.action.ArgAction.TheVariants.SetTrue}
 use Rattle.clap.specs.Words.{App, Kinds, Row, Rule, Text, fault_of, new_app, new_rule, with_rule, first_of, matches_of}
 use Rattle.command_line.specs.{declared.ask.AskFault.{AskFault, TheVariants.NoMemory}, CommandLine.path_rule}
@@ -18,7 +18,8 @@ flag_rule name = record (new_rule name) { long = Some name; action = Some SetTru
 
 -- the path of a folder, and two flags
 unfoldable pub live_app : App
-live_app = with_rule (with_rule (with_rule live_program_app path_rule) (flag_rule (codes "work"))) (flag_rule (codes "any-work"))
+live_app = with_rule (with_rule (with_rule live_program_app path_rule) (flag_rule (codes "work")))
+    (flag_rule (codes "any-work"))
 
 -- ---- what is asked for
 
@@ -45,12 +46,13 @@ asked_of folder works any_work = option_map (λ path. if works then work path el
 
 -- what was found for the arguments asks for
 abbrev pub asked_in : List Row → Option LiveAskView
-asked_in rows = asked_of (first_of (codes "path") rows) (is_true (first_of (codes "work") rows)) (is_true (first_of (codes "any-work") rows))
+asked_in rows = asked_of (first_of (codes "path") rows) (is_true (first_of (codes "work") rows))
+    (is_true (first_of (codes "any-work") rows))
 
 -- this, if nothing is wrong with the words
 abbrev pub asked_if : Kinds → Option LiveAskView → Option LiveAskView
-asked_if [] asked = asked
-asked_if (kind ∷ more) asked = None
+asked_if [] wish = wish
+asked_if (kind ∷ more) wish = None
 
 -- what the words ask for: nothing if `clap` finds a fault in them, such as a word too many
 unfoldable pub live_asked_at : List Text → Option LiveAskView
@@ -58,7 +60,7 @@ live_asked_at words = asked_if (fault_of live_app words) (asked_in (matches_of l
 
 -- this is what is asked for
 abbrev pub IsLiveAsked : Option LiveAskView → LiveAsk → Type 0
-IsLiveAsked asked ask = asked ≡ Some (view_of ask)
+IsLiveAsked wish ask = wish ≡ Some (view_of ask)
 
 -- the answer is this, unless memory ran out
 abbrev pub AsksLive : LiveAskView → Result LiveAsk AskFault → Type 0

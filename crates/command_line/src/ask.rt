@@ -1,9 +1,12 @@
 //! What the words after the program's name ask for.
 
-ghost use Rattle.std.specs.Prelude.{◌≡◌, ℕ, List, [], ◌∷◌, Some, true, false, IfOk, IfErr, IsSome, option_map, None, codes, string_bytes};
+ghost use Rattle.std.specs.Prelude.{◌≡◌, ℕ, List, [], ◌∷◌, Some, true, false, IfOk, IfErr, IsSome, option_map, None};
+ghost use Rattle.std.specs.Prelude.{codes, string_bytes};
 ghost use Rattle.clap.specs.declared.builder.command.Command.{out-Command};
 ghost use Rattle.clap.specs.Words.{app_of, kind_of, new_app, rule_of, subcommand_rows_of};
-ghost use Rattle.command_line.specs.CommandLine.{path_rule, folder_rule, check_app, path_app, program_app, pinball_app, check, verify, play, asked_by, asked_of, asked_at, IsNoFlag, given_words, given_text, IsAsked, Asks};
+ghost use Rattle.command_line.specs.CommandLine.{path_rule, folder_rule, check_app, path_app, program_app, pinball_app};
+ghost use Rattle.command_line.specs.CommandLine.{check, verify, play, asked_by, asked_of, asked_at, IsNoFlag};
+ghost use Rattle.command_line.specs.CommandLine.{given_words, given_text, IsAsked, Asks};
 ghost use Rattle.command_line.specs.declared.ask.AskFault.TheVariants.{NoMemory};
 
 use clap::error::ErrorKind;
@@ -77,11 +80,16 @@ impl From<AllocError> for AskFault {
 pub fn command(alloc: Global, words: Vec<String>) -> Result<Ask, AskFault>
     ensures asked { IfOk result (IsAsked (asked_at (given_words words.items))) }
     ensures checks { given_words words.items ≡ codes "check" ∷ [] → Asks (check None) result }
-    ensures checks_folder { (folder : List ℕ) → IsNoFlag folder → given_words words.items ≡ codes "check" ∷ folder ∷ [] → Asks (check (Some folder)) result }
-    ensures verifies { (path : List ℕ) → IsNoFlag path → given_words words.items ≡ codes "verify" ∷ path ∷ [] → Asks (verify path None) result }
-    ensures verifies_folder { (path folder : List ℕ) → IsNoFlag path → IsNoFlag folder → given_words words.items ≡ codes "verify" ∷ path ∷ folder ∷ [] → Asks (verify path (Some folder)) result }
-    ensures plays { (log : List ℕ) → IsNoFlag log → given_words words.items ≡ codes "play" ∷ log ∷ [] → Asks (play log None) result }
-    ensures plays_folder { (log folder : List ℕ) → IsNoFlag log → IsNoFlag folder → given_words words.items ≡ codes "play" ∷ log ∷ folder ∷ [] → Asks (play log (Some folder)) result }
+    ensures checks_folder { (folder : List ℕ) → IsNoFlag folder → given_words words.items ≡ codes "check" ∷ folder ∷ []
+        → Asks (check (Some folder)) result }
+    ensures verifies { (path : List ℕ) → IsNoFlag path → given_words words.items ≡ codes "verify" ∷ path ∷ []
+        → Asks (verify path None) result }
+    ensures verifies_folder { (path folder : List ℕ) → IsNoFlag path → IsNoFlag folder
+        → given_words words.items ≡ codes "verify" ∷ path ∷ folder ∷ [] → Asks (verify path (Some folder)) result }
+    ensures plays { (log : List ℕ) → IsNoFlag log → given_words words.items ≡ codes "play" ∷ log ∷ []
+        → Asks (play log None) result }
+    ensures plays_folder { (log folder : List ℕ) → IsNoFlag log → IsNoFlag folder
+        → given_words words.items ≡ codes "play" ∷ log ∷ folder ∷ [] → Asks (play log (Some folder)) result }
     ensures only { IfErr result (λ fault. IsSome (asked_at (given_words words.items)) → fault ≡ AskFault.NoMemory) }
 {
     read_words(alloc, &words)
@@ -184,7 +192,8 @@ pub(crate) fn path_argument<'a>(alloc: Global, value_name: &'a str, help: &'a st
 
 fn ask_of(alloc: Global, matches: &ArgMatches<'_>) -> Result<Ask, AskFault>
     ensures asked { IfOk result (IsAsked (asked_of (subcommand_rows_of matches.now))) }
-    ensures only { IfErr result (λ fault. IsSome (asked_of (subcommand_rows_of matches.now)) → fault ≡ AskFault.NoMemory) }
+    ensures only { IfErr result (λ fault. IsSome (asked_of (subcommand_rows_of matches.now))
+        → fault ≡ AskFault.NoMemory) }
 {
     match matches.subcommand() {
         Some((name, found)) => {
@@ -204,9 +213,10 @@ fn ask_by(
     folder: Option<&str>,
 ) -> Result<Ask, AskFault>
     ensures asked { IfOk result (IsAsked (asked_by name.now (given_text path.entry) (given_text folder.entry))) }
-    ensures only { IfErr result (λ fault. IsSome (asked_by name.now (given_text path.entry) (given_text folder.entry)) → fault ≡ AskFault.NoMemory) }
+    ensures only { IfErr result (λ fault. IsSome (asked_by name.now (given_text path.entry) (given_text folder.entry))
+        → fault ≡ AskFault.NoMemory) }
 {
-    let folder = copied(alloc, folder)?;
+    let folder = copy_of(alloc, folder)?;
     if name == "check" {
         return Ok(Ask::Check { folder });
     }
@@ -223,7 +233,7 @@ fn ask_by(
     }
 }
 
-fn copied(alloc: Global, text: Option<&str>) -> Result<Option<String>, AllocError>
+fn copy_of(alloc: Global, text: Option<&str>) -> Result<Option<String>, AllocError>
     ensures { IfOk result (λ copy. option_map string_bytes copy ≡ given_text text.entry) }
 {
     match text {

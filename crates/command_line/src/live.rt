@@ -2,7 +2,9 @@
 
 ghost use Rattle.std.specs.Prelude.{◌≡◌, ℕ, Bool, List, [], ◌∷◌, Some, false, IfOk, IfErr, IsSome, string_bytes};
 ghost use Rattle.clap.specs.Words.{app_of, first_of, found_of, rows_of, rule_of, with_rule};
-ghost use Rattle.command_line.specs.{CommandLine.{IsNoFlag, given_text, given_words, path_rule}, LiveCommand.{live_app, live_program_app, flag_rule, view_of, is_true, run, asked_in, asked_of, live_asked_at, IsLiveAsked, AsksLive}};
+ghost use Rattle.command_line.specs.CommandLine.{IsNoFlag, given_text, given_words, path_rule};
+ghost use Rattle.command_line.specs.LiveCommand.{live_app, live_program_app, flag_rule, view_of, is_true, run};
+ghost use Rattle.command_line.specs.LiveCommand.{asked_in, asked_of, live_asked_at, IsLiveAsked, AsksLive};
 
 use crate::ask::{AskFault, VERSION, fault_of, not_understood, path_argument};
 use clap::{Arg, ArgAction, ArgMatches, Command};
@@ -62,8 +64,10 @@ impl LiveAsk {
 /// - `NoMemory`: memory ran out.
 pub fn live_command(alloc: Global, words: Vec<String>) -> Result<LiveAsk, AskFault>
     ensures asked { IfOk result (IsLiveAsked (live_asked_at (given_words words.items))) }
-    ensures runs { (folder : List ℕ) → IsNoFlag folder → given_words words.items ≡ folder ∷ [] → AsksLive (run folder false) result }
-    ensures only { IfErr result (λ fault. IsSome (live_asked_at (given_words words.items)) → fault ≡ AskFault.NoMemory) }
+    ensures runs { (folder : List ℕ) → IsNoFlag folder → given_words words.items ≡ folder ∷ []
+        → AsksLive (run folder false) result }
+    ensures only { IfErr result (λ fault. IsSome (live_asked_at (given_words words.items))
+        → fault ≡ AskFault.NoMemory) }
 {
     read_live(alloc, &words)
 }
@@ -132,7 +136,8 @@ fn live_program<'a>(alloc: Global) -> Result<Command<'a>, AllocError>
 
 fn asked_of(alloc: Global, matches: &ArgMatches<'_>) -> Result<LiveAsk, AskFault>
     ensures asked { IfOk result (IsLiveAsked (asked_in (rows_of (found_of matches.now)))) }
-    ensures only { IfErr result (λ fault. IsSome (asked_in (rows_of (found_of matches.now))) → fault ≡ AskFault.NoMemory) }
+    ensures only { IfErr result (λ fault. IsSome (asked_in (rows_of (found_of matches.now)))
+        → fault ≡ AskFault.NoMemory) }
 {
     let work = is_true(value_of(matches, "work"));
     let any_work = is_true(value_of(matches, "any-work"));
@@ -164,7 +169,8 @@ fn ask_by(
     any_work: bool,
 ) -> Result<LiveAsk, AskFault>
     ensures asked { IfOk result (IsLiveAsked (asked_of (given_text folder.entry) work any_work)) }
-    ensures only { IfErr result (λ fault. IsSome (asked_of (given_text folder.entry) work any_work) → fault ≡ AskFault.NoMemory) }
+    ensures only { IfErr result (λ fault. IsSome (asked_of (given_text folder.entry) work any_work)
+        → fault ≡ AskFault.NoMemory) }
 {
     match folder {
         Some(folder) => {

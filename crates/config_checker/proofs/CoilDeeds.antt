@@ -18,15 +18,21 @@ module _ (machine : List SectionRows) where
   IsDeedSound name deed = IsCoilSuch machine name (IsDeedWithin deed)
 
   -- what the coil of a name says, if it is defined
-  named : (name : List ℕ) (c : Coil) → coil_called machine name ≡ Some c → defaults_called machine name ≡ defaults_of_coil c
+  named : (name : List ℕ) (c : Coil) → coil_called machine name ≡ Some c
+      → defaults_called machine name ≡ defaults_of_coil c
   named name c is = ap (λ o. defaults_of_coil (unwrap_or o no_coil)) is
 
   -- what is done by what the coil says is sound, if it is so for that coil
-  sound : (name : List ℕ) (P : Coil → Type 0) (deed : Defaults → Deed) → ((c : Coil) → P c → IsDeedWithin (deed (defaults_of_coil c)) c) → IsCoilSuch machine name P → IsDeedSound name (deed (defaults_called machine name))
+  sound : (name : List ℕ) (P : Coil → Type 0) (deed : Defaults → Deed)
+      → ((c : Coil) → P c → IsDeedWithin (deed (defaults_of_coil c)) c) → IsCoilSuch machine name P
+      → IsDeedSound name (deed (defaults_called machine name))
   sound name P deed gives h = search (rules, named)
 
-  action_within : (i : CoilItem) (action : CoilAction) (c : Coil) → IsActionWithin c i action → IsDeedWithin (deed_by (defaults_of_coil c) i action) c
+  action_within : (i : CoilItem) (action : CoilAction) (c : Coil) → IsActionWithin c i action
+      → IsDeedWithin (deed_by (defaults_of_coil c) i action) c
   action_within i x2 c h = search rules
 
-  pub item_deed : (i : CoilItem) → IsItemSound machine i → IsDeedSound i.coil.text (deed_by (defaults_called machine i.coil.text) i i.action)
-  item_deed i h = sound i.coil.text (λ c. IsActionWithin c i i.action) (λ d. deed_by d i i.action) (λ c within. action_within i i.action c within) h
+  pub item_deed : (i : CoilItem) → IsItemSound machine i
+      → IsDeedSound i.coil.text (deed_by (defaults_called machine i.coil.text) i i.action)
+  item_deed i h = sound i.coil.text (λ c. IsActionWithin c i i.action) (λ d. deed_by d i i.action)
+      (λ c within. action_within i i.action c within) h

@@ -1,8 +1,8 @@
 -- The events that switches, blocks, timers, ball devices, ball saves, multiballs, shots and groups of shots post by
 -- their own names are not reserved.
-use Rattle.std.proofs.Common.{rules, ◌≡◌, ℕ, ◌+◌, ◌*◌, ◌==◌, Bool, false, ◌||◌, List, [], ◌∷◌, ◌++◌, slice_index, codes, refl}
+use Rattle.std.proofs.Common.{rules, ◌≡◌, ℕ, ◌+◌, ◌*◌, ◌==◌, Bool, false, ◌||◌, List, [], ◌∷◌, ◌++◌, slice_index, codes}
+use Rattle.std.proofs.{Common.refl, lemmas.{Bool.eq-eqb, List.Elements.All-from_recursion, Slice.Eq.bytes_eq-Decides}}
 use Rattle.std.specs.{List.{All, list_any}, Str.bytes_eq}
-use Rattle.std.proofs.lemmas.{Bool.eq-eqb, List.Elements.All-from_recursion, Slice.Eq.bytes_eq-Decides}
 use Rattle.yaml_subset.specs.Keys.{is_among}
 use Rattle.mpf_config.specs.Rows.{Rows}
 use Rattle.plan_parts.specs.{DeviceEntries.{block_event, timer_event}, SaveEntries.{save_event, multiball_event}}
@@ -31,24 +31,33 @@ last_two-is [] x y v w ws = refl
 last_two-is (z ∷ front) x y v w ws = last_two-is front y z v w ws
 
 -- bytes that no event has there
-not_among : (bytes_of : List ℕ → ℕ) (name : List ℕ) (events : List (List ℕ)) → list_any (λ e. bytes_of e == bytes_of name) events ≡ false → is_among events name ≡ false
+not_among : (bytes_of : List ℕ → ℕ) (name : List ℕ) (events : List (List ℕ))
+    → list_any (λ e. bytes_of e == bytes_of name) events ≡ false → is_among events name ≡ false
 not_among bytes_of name [] h = refl
-not_among bytes_of name (e ∷ es) h = by (bytes_of e == bytes_of name) (bytes_eq e name) refl refl (not_among bytes_of name es) h
+not_among bytes_of name (e ∷ es) h = by (bytes_of e == bytes_of name) (bytes_eq e name) refl refl
+    (not_among bytes_of name es) h
   where
-    by : (same equal : Bool) → bytes_of e == bytes_of name ≡ same → bytes_eq e name ≡ equal → (list_any (λ x. bytes_of x == bytes_of name) es ≡ false → is_among es name ≡ false) → (same || list_any (λ x. bytes_of x == bytes_of name) es) ≡ false → (equal || is_among es name) ≡ false
+    by : (same equal : Bool) → bytes_of e == bytes_of name ≡ same → bytes_eq e name ≡ equal
+        → (list_any (λ x. bytes_of x == bytes_of name) es ≡ false → is_among es name ≡ false)
+        → (same || list_any (λ x. bytes_of x == bytes_of name) es) ≡ false → (equal || is_among es name) ≡ false
     by x1 x2 p q rest r = search (rules, eq-eqb, bytes_eq-Decides)
 
 -- ---- names with a first byte of their own
 
 -- a name that begins with a byte with which no event of a game begins, nor one of a mode
-first-other : (byte : ℕ) → (109 == byte) ≡ false → (ws : List (List ℕ)) → list_any (λ e. first_of e == byte) (events_of_modes ws) ≡ false
+first-other : (byte : ℕ) → (109 == byte) ≡ false → (ws : List (List ℕ))
+    → list_any (λ e. first_of e == byte) (events_of_modes ws) ≡ false
 first-other byte other [] = refl
 first-other byte other (w ∷ ws) = rw other (first-other byte other ws)
 
-begins-free : (rows : Rows) (byte : ℕ) (rest : List ℕ) → list_any (λ e. first_of e == byte) reserved_game_events ≡ false → (109 == byte) ≡ false → is_reserved rows (byte ∷ rest) ≡ false
+begins-free : (rows : Rows) (byte : ℕ) (rest : List ℕ) → list_any (λ e. first_of e == byte) reserved_game_events ≡ false
+    → (109 == byte) ≡ false → is_reserved rows (byte ∷ rest) ≡ false
 begins-free rows byte rest no_game no_mode =
-    let game : is_among reserved_game_events (byte ∷ rest) ≡ false = not_among first_of (byte ∷ rest) reserved_game_events no_game in
-    let mode : is_among (events_of_modes (mode_names rows)) (byte ∷ rest) ≡ false = not_among first_of (byte ∷ rest) (events_of_modes (mode_names rows)) (first-other byte no_mode (mode_names rows)) in
+    let game : is_among reserved_game_events (byte ∷ rest) ≡ false =
+    not_among first_of (byte ∷ rest) reserved_game_events no_game in
+    let mode : is_among (events_of_modes (mode_names rows)) (byte ∷ rest) ≡ false =
+    not_among first_of (byte ∷ rest) (events_of_modes (mode_names rows))
+    (first-other byte no_mode (mode_names rows)) in
     λ i. game i || mode i
 
 -- the events of blocks, of timers and of tags
@@ -76,7 +85,8 @@ pub ball-free : (name ending : List ℕ) (rows : Rows) → is_reserved rows (bal
 ball-free name ending rows =
     let event = ball_event name ending in
     let game : is_among reserved_game_events event ≡ false = not_among fifth_of event reserved_game_events refl in
-    let mode : is_among (events_of_modes (mode_names rows)) event ≡ false = not_among fifth_of event (events_of_modes (mode_names rows)) (fifth-other (mode_names rows)) in
+    let mode : is_among (events_of_modes (mode_names rows)) event ≡ false =
+    not_among fifth_of event (events_of_modes (mode_names rows)) (fifth-other (mode_names rows)) in
     λ i. game i || mode i
 
 -- ---- names with a seventh or a second byte of their own
@@ -97,7 +107,8 @@ pub save-free : (name ending : List ℕ) (rows : Rows) → is_reserved rows (sav
 save-free name ending rows =
     let event = save_event name ending in
     let game : is_among reserved_game_events event ≡ false = not_among seventh_of event reserved_game_events refl in
-    let mode : is_among (events_of_modes (mode_names rows)) event ≡ false = not_among first_of event (events_of_modes (mode_names rows)) (first-other 98 refl (mode_names rows)) in
+    let mode : is_among (events_of_modes (mode_names rows)) event ≡ false =
+    not_among first_of event (events_of_modes (mode_names rows)) (first-other 98 refl (mode_names rows)) in
     λ i. game i || mode i
 
 -- the events of multiballs
@@ -105,40 +116,50 @@ pub multiball-free : (name ending : List ℕ) (rows : Rows) → is_reserved rows
 multiball-free name ending rows =
     let event = multiball_event name ending in
     let game : is_among reserved_game_events event ≡ false = not_among second_of event reserved_game_events refl in
-    let mode : is_among (events_of_modes (mode_names rows)) event ≡ false = not_among second_of event (events_of_modes (mode_names rows)) (second-other (mode_names rows)) in
+    let mode : is_among (events_of_modes (mode_names rows)) event ≡ false =
+    not_among second_of event (events_of_modes (mode_names rows)) (second-other (mode_names rows)) in
     λ i. game i || mode i
 
 -- ---- names with last bytes of their own
 
 -- the events of modes end with `rt`, `ng` or `ed`
-module _ (two : ℕ) (no_start : (end_of (codes "rt") == two) ≡ false) (no_ing : (end_of (codes "ng") == two) ≡ false) (no_ed : (end_of (codes "ed") == two) ≡ false) where
+module _ (two : ℕ) (no_start : (end_of (codes "rt") == two) ≡ false) (no_ing : (end_of (codes "ng") == two) ≡ false)
+    (no_ed : (end_of (codes "ed") == two) ≡ false) where
   last-other : (ws : List (List ℕ)) → list_any (λ e. end_of e == two) (events_of_modes ws) ≡ false
   last-other [] = refl
   last-other (w ∷ ws) = search (rules, last_two-is, last-other ws)
 
 -- a name that ends with two bytes with which no event of a game ends, nor one of a mode
-ends-free : (rows : Rows) (name ending : List ℕ) → end_of name ≡ end_of ending → list_any (λ e. end_of e == end_of ending) reserved_game_events ≡ false
-    → (end_of (codes "rt") == end_of ending) ≡ false → (end_of (codes "ng") == end_of ending) ≡ false → (end_of (codes "ed") == end_of ending) ≡ false → is_reserved rows name ≡ false
+ends-free : (rows : Rows) (name ending : List ℕ) → end_of name ≡ end_of ending
+    → list_any (λ e. end_of e == end_of ending) reserved_game_events ≡ false
+    → (end_of (codes "rt") == end_of ending) ≡ false → (end_of (codes "ng") == end_of ending) ≡ false
+    → (end_of (codes "ed") == end_of ending) ≡ false → is_reserved rows name ≡ false
 ends-free rows name ending is no_game no_start no_ing no_ed =
-    let game : is_among reserved_game_events name ≡ false = not_among end_of name reserved_game_events (rw is no_game) in
+    let game : is_among reserved_game_events name ≡ false = not_among end_of name reserved_game_events (rw is no_game)
+    in
     let mode : is_among (events_of_modes (mode_names rows)) name ≡ false =
-    not_among end_of name (events_of_modes (mode_names rows)) (rw is (last-other (end_of ending) no_start no_ing no_ed (mode_names rows))) in
+    not_among end_of name (events_of_modes (mode_names rows))
+    (rw is (last-other (end_of ending) no_start no_ing no_ed (mode_names rows))) in
     λ i. game i || mode i
 
 module _ (front : List ℕ) (rows : Rows) where
   -- the event of a switch that becomes active, or inactive
   pub active-free : is_reserved rows (front ++ codes "_active") ≡ false
-  active-free = ends-free rows (front ++ codes "_active") (codes "ve") (last_two-is front 0 0 95 97 (codes "ctive")) refl refl refl refl
+  active-free = ends-free rows (front ++ codes "_active") (codes "ve") (last_two-is front 0 0 95 97 (codes "ctive"))
+      refl refl refl refl
 
   pub inactive-free : is_reserved rows (front ++ codes "_inactive") ≡ false
-  inactive-free = ends-free rows (front ++ codes "_inactive") (codes "ve") (last_two-is front 0 0 95 105 (codes "nactive")) refl refl refl refl
+  inactive-free = ends-free rows (front ++ codes "_inactive") (codes "ve")
+      (last_two-is front 0 0 95 105 (codes "nactive")) refl refl refl refl
 
   -- the events of shots, and of groups of them
   pub hit-free : is_reserved rows (front ++ codes "_hit") ≡ false
-  hit-free = ends-free rows (front ++ codes "_hit") (codes "it") (last_two-is front 0 0 95 104 (codes "it")) refl refl refl refl
+  hit-free = ends-free rows (front ++ codes "_hit") (codes "it") (last_two-is front 0 0 95 104 (codes "it")) refl refl
+      refl refl
 
   pub complete-free : is_reserved rows (front ++ codes "_complete") ≡ false
-  complete-free = ends-free rows (front ++ codes "_complete") (codes "te") (last_two-is front 0 0 95 99 (codes "omplete")) refl refl refl refl
+  complete-free = ends-free rows (front ++ codes "_complete") (codes "te")
+      (last_two-is front 0 0 95 99 (codes "omplete")) refl refl refl refl
 
 -- all that a shot posts in a state, and a group
 module _ (rows : Rows) where
@@ -149,7 +170,8 @@ module _ (rows : Rows) where
   shot-free name profile state = search (rules, All-from_recursion, hit-free)
 
   pub group_hit-free : (name state : List ℕ) → All IsFreeName (group_events (codes "_hit") name state)
-  group_hit-free name state = All-from_recursion IsFreeName (group_events (codes "_hit") name state) (hit-free name rows, (hit-free (name ++ codes "_" ++ state) rows, tt))
+  group_hit-free name state = All-from_recursion IsFreeName (group_events (codes "_hit") name state)
+      (hit-free name rows, (hit-free (name ++ codes "_" ++ state) rows, tt))
 
   pub group_complete-free : (name state : List ℕ) → All IsFreeName (group_events (codes "_complete") name state)
   group_complete-free name state = search (rules, All-from_recursion, complete-free)

@@ -1,8 +1,10 @@
 -- The certificate that a text is.
-use Rattle.std.specs.Prelude.{◌≡◌, ◌≢◌, ℕ, ◌+◌, ◌<◌, ◌^◌, nat_lt, ◌==◌, Bool, true, false, ◌&&◌, ◌||◌, not, if◌then◌else◌, Option, Some, None, IfSome, option_map, option_and_then, Result, Ok, Err, List, [], ◌∷◌, length, slice_index, codes}
+use Rattle.std.specs.Prelude.{◌≡◌, ◌≢◌, ℕ, ◌+◌, ◌<◌, ◌^◌, nat_lt, ◌==◌, Bool, true, false, ◌&&◌, ◌||◌, not}
+use Rattle.std.specs.Prelude.{if◌then◌else◌, Option, Some, None, IfSome, option_map, option_and_then, Result, Ok, Err}
+use Rattle.std.specs.Prelude.{List, [], ◌∷◌, length, slice_index, codes}
 use Rattle.std.specs.{List.{All, list_all, slice_split}, Str.bytes_eq}
 use Rattle.yaml_bytes.specs.{Bytes.is_blank, Numbers.number_at}
-use Rattle.config_checker.specs.CertificateText.{Numbered, Certificate, text_of}
+use Rattle.config_checker.specs.CertificateText.{NumberedName, Certificate, text_of}
 
 -- ---- what it is
 
@@ -16,7 +18,7 @@ pub record IsWord (word : List ℕ) : Type 0 where
   pub letters : All (λ b. is_in_word b ≡ true) word
 
 -- each is a word with a number below 2^32
-pub record AreWritable (all : Numbered) : Type 0 where
+pub record AreWritable (all : NumberedName) : Type 0 where
   pub names : All (λ s. IsWord s.0) all
   pub numbers : All (λ s. s.1 < 2 ^ 32) all
 
@@ -72,11 +74,13 @@ abbrev pub bound_in : List ℕ → Option ℕ
 bound_in line = bound_by (certificate_words line)
 
 -- `WORD NAME NUMBER`
-abbrev pub named : List ℕ → Option ℕ → Option (List ℕ × ℕ)
-named name number = if nat_lt 0 (length name) && list_all is_in_word name then option_map (λ n. (name, n)) number else None
+abbrev pub named_number : List ℕ → Option ℕ → Option (List ℕ × ℕ)
+named_number name number = if nat_lt 0 (length name)
+    && list_all is_in_word name then option_map (λ n. (name, n)) number else None
 
 abbrev pub numbered_by : List ℕ → List (List ℕ) → Option (List ℕ × ℕ)
-numbered_by word (first ∷ name ∷ number ∷ []) = if bytes_eq first word then named name (number_in number) else None
+numbered_by word (first ∷ name ∷ number ∷ []) =
+    if bytes_eq first word then named_number name (number_in number) else None
 numbered_by word other = None
 
 abbrev pub numbered_in : List ℕ → List ℕ → Option (List ℕ × ℕ)
@@ -84,11 +88,11 @@ numbered_in word line = numbered_by word (certificate_words line)
 
 -- The lines `WORD NAME NUMBER` with this word at the front, and all that comes after them. What is after the last line
 -- end is never one of them.
-abbrev pub with_line : Option (List ℕ × ℕ) → List (List ℕ) → Numbered × List (List ℕ) → Numbered × List (List ℕ)
+abbrev pub with_line : Option (List ℕ × ℕ) → List (List ℕ) → NumberedName × List (List ℕ) → NumberedName × List (List ℕ)
 with_line None lines rest = ([], lines)
 with_line (Some s) lines rest = (s ∷ rest.0, rest.1)
 
-abbrev pub front : List ℕ → List (List ℕ) → Numbered × List (List ℕ)
+abbrev pub front : List ℕ → List (List ℕ) → NumberedName × List (List ℕ)
 front word [] = ([], [])
 front word (last ∷ []) = ([], last ∷ [])
 front word (line ∷ next ∷ more) = with_line (numbered_in word line) (line ∷ next ∷ more) (front word (next ∷ more))
@@ -99,38 +103,39 @@ is_end (last ∷ []) = length last == 0
 is_end other = false
 
 -- events begin at line 3, or after the switches
-abbrev pub first_event : Option Numbered → ℕ
+abbrev pub first_event : Option NumberedName → ℕ
 first_event None = 3
 first_event (Some switches) = 3 + length switches
 
 -- Each function below gives the number of the first bad line, if there is one.
 
 -- the certificate, if nothing comes after the events
-abbrev pub ended : ℕ → Option Numbered → Numbered × List (List ℕ) → Result Certificate ℕ
-ended bound switches x =
-    if is_end x.1 then Ok (record { bound = bound; switches = switches; events = x.0 }) else Err (first_event switches + length x.0)
+abbrev pub end_of_lines : ℕ → Option NumberedName → NumberedName × List (List ℕ) → Result Certificate ℕ
+end_of_lines bound switches x =
+    if is_end x.1 then Ok (record { bound = bound; switches = switches; events = x.0 }) else Err
+    (first_event switches + length x.0)
 
 -- the events come after the switches
-abbrev pub after_switches : ℕ → Numbered × List (List ℕ) → Result Certificate ℕ
-after_switches bound x = ended bound (Some x.0) (front (codes "event") x.1)
+abbrev pub after_switches : ℕ → NumberedName × List (List ℕ) → Result Certificate ℕ
+after_switches bound x = end_of_lines bound (Some x.0) (front (codes "event") x.1)
 
 -- all from line 3 on
-abbrev pub body_at : (switched : Bool) → ℕ → List (List ℕ) → Result Certificate ℕ
-body_at false bound lines = ended bound None (front (codes "event") lines)
+abbrev pub body_at : (lists_switches : Bool) → ℕ → List (List ℕ) → Result Certificate ℕ
+body_at false bound lines = end_of_lines bound None (front (codes "event") lines)
 body_at true bound lines = after_switches bound (front (codes "switch") lines)
 
-abbrev pub with_bound : (switched : Bool) → Option ℕ → List (List ℕ) → Result Certificate ℕ
-with_bound switched None rest = Err 2
-with_bound switched (Some bound) rest = body_at switched bound rest
+abbrev pub with_bound : (lists_switches : Bool) → Option ℕ → List (List ℕ) → Result Certificate ℕ
+with_bound lists_switches None rest = Err 2
+with_bound lists_switches (Some bound) rest = body_at lists_switches bound rest
 
 -- all from line 2 on
-abbrev pub bound_at : (switched : Bool) → List (List ℕ) → Result Certificate ℕ
-bound_at switched (line ∷ next ∷ more) = with_bound switched (bound_in line) (next ∷ more)
-bound_at switched other = Err 2
+abbrev pub bound_at : (lists_switches : Bool) → List (List ℕ) → Result Certificate ℕ
+bound_at lists_switches (line ∷ next ∷ more) = with_bound lists_switches (bound_in line) (next ∷ more)
+bound_at lists_switches other = Err 2
 
 abbrev pub with_heading : Option Bool → List (List ℕ) → Result Certificate ℕ
 with_heading None rest = Err 1
-with_heading (Some switched) rest = bound_at switched rest
+with_heading (Some lists_switches) rest = bound_at lists_switches rest
 
 abbrev pub heading_at : List (List ℕ) → Result Certificate ℕ
 heading_at (line ∷ next ∷ more) = with_heading (has_switches line) (next ∷ more)

@@ -12,7 +12,7 @@ pub data CertificateFaultView : Type 0 where
   -- its switches are not those of the plan
   other_switches : CertificateFaultView
   -- the event weighs less than it needs
-  short : (name : List ℕ) (needed : ℕ) → CertificateFaultView
+  short : (name : List ℕ) (least_weight : ℕ) → CertificateFaultView
   -- it states another bound than its weights have; theirs is this one
   other_bound : (bound : ℕ) → CertificateFaultView
   -- it states another cost of this switch than its weights give; the right cost is this one

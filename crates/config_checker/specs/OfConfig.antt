@@ -30,7 +30,8 @@ ReportsFaultsOf config report = Reports (IsFaultOf (rows_view config)) (rows_vie
 
 -- the same of a configuration with this certificate
 abbrev pub ReportsFaultsWith : (certificate : List ℕ) → Config → Report → Type 0
-ReportsFaultsWith certificate config report = Reports (IsFaultWith (rows_view config) certificate) (rows_view config) report
+ReportsFaultsWith certificate config report =
+    Reports (IsFaultWith (rows_view config) certificate) (rows_view config) report
 
 -- the report says why the configuration has no plan
 abbrev pub ReportsWithoutPlan : Config → Report → Type 0

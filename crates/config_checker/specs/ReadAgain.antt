@@ -10,11 +10,13 @@ IsReadAgain rows c = checked_with_at rows (certificate_text c) ≡ Ok c
 
 -- So it is for every configuration with the weights that `check` finds.
 abbrev pub FoundIsReadAgain : Type 0
-FoundIsReadAgain = (config : Config) (c : CheckedView) → checked_at (rows_view config) ≡ Ok c → IsReadAgain (rows_view config) c
+FoundIsReadAgain = (config : Config) (c : CheckedView)
+    → checked_at (rows_view config) ≡ Ok c → IsReadAgain (rows_view config) c
 
 -- So it is for every configuration with the weights of a certificate of either version.
 abbrev pub GivenIsReadAgain : Type 0
-GivenIsReadAgain = (config : Config) (text : List ℕ) (c : CheckedView) → checked_with_at (rows_view config) text ≡ Ok c → IsReadAgain (rows_view config) c
+GivenIsReadAgain = (config : Config) (text : List ℕ) (c : CheckedView)
+    → checked_with_at (rows_view config) text ≡ Ok c → IsReadAgain (rows_view config) c
 
 -- it is accepted with the weights that were found, or with those of some certificate
 abbrev pub IsAcceptedOf : Rows → CheckedView → Type 0
@@ -22,4 +24,5 @@ IsAcceptedOf rows c = (checked_at rows ≡ Ok c) ⊎ ((text : List ℕ) × (chec
 
 -- So it is for the rows of every bundle, however they were accepted.
 abbrev pub ReadIsReadAgain : Type 0
-ReadIsReadAgain = (bundle : List ℕ) (rows : Rows) (c : CheckedView) → rows_at bundle ≡ Ok rows → IsAcceptedOf rows c → IsReadAgain rows c
+ReadIsReadAgain = (bundle : List ℕ) (rows : Rows) (c : CheckedView) → rows_at bundle ≡ Ok rows → IsAcceptedOf rows c
+    → IsReadAgain rows c

@@ -9,8 +9,10 @@ use Rattle.cascade_rank.specs.Finding as ranks
 use Rattle.cascade_rank.specs.Verified.{IsVerified, IsFirstShort, IsUnverified}
 use Rattle.config_checker.specs.{declared.report.Report.Report, CertificateOf.IsTextOf, View.fault_view}
 use Rattle.config_checker.specs.declared.report.Report.TheVariants as reports
-use Rattle.config_checker.specs.CertificateText.{Numbered, Certificate}
-use Rattle.config_checker.specs.Checking.{CertificateFaultView, bad_line, other_events, other_switches, short, other_bound, other_cost, FaultView, row, limit, cycle, bound, certificate, names_of, numbers_of, faults_of_rows}
+use Rattle.config_checker.specs.CertificateText.{NumberedName, Certificate}
+use Rattle.config_checker.specs.Checking.{CertificateFaultView, bad_line, other_events, other_switches, short}
+use Rattle.config_checker.specs.Checking.{other_bound, other_cost, FaultView, row, limit, cycle, bound, certificate}
+use Rattle.config_checker.specs.Checking.{names_of, numbers_of, faults_of_rows}
 
 -- the names are those of events that lead to each other: of the cycle that is reported
 pub record IsCycleOf (plan : PlanView) (names : List (List ℕ)) : Type 0 where
@@ -40,7 +42,7 @@ IsFaultOf rows (certificate fault) = ⊥
 -- ---- with a certificate
 
 -- the switches are those of the plan, if they are stated
-abbrev pub HasItsSwitches : PlanView → Option Numbered → Type 0
+abbrev pub HasItsSwitches : PlanView → Option NumberedName → Type 0
 HasItsSwitches plan None = Unit {0}
 HasItsSwitches plan (Some switches) = names_of switches ≡ entry_names plan Switches
 
@@ -67,31 +69,31 @@ pub record HasOtherSwitches (plan : PlanView) (text : List ℕ) : Type 0 where
   pub other : ¬ (HasItsSwitches plan certificate.switches)
 
 -- of the events that weigh too little the first has this name, and needs so much
-pub record HasShortEvent (plan : PlanView) (text name : List ℕ) (needed : ℕ) : Type 0 where
+pub record HasShortEvent (plan : PlanView) (text name : List ℕ) (least_weight : ℕ) : Type 0 where
   pub certificate : Certificate
   pub of_plan : IsCertificateOf plan text certificate
   pub event : EventId
-  pub first : IsFirstShort plan (numbers_of certificate.events) event needed
+  pub first : IsFirstShort plan (numbers_of certificate.events) event least_weight
   pub name_is : name ≡ name_of_event plan event
 
 -- the weights serve, and have another bound
 pub record HasOtherBound (plan : PlanView) (text : List ℕ) (right : ℕ) : Type 0 where
   pub certificate : Certificate
   pub of_plan : IsCertificateOf plan text certificate
-  pub verified : IsVerified plan (numbers_of certificate.events) right
+  pub verification : IsVerified plan (numbers_of certificate.events) right
   pub other : certificate.bound ≢ right
 
 -- the stated cost of the switch of this number is right
-abbrev pub IsRightAt : PlanView → (EventId → ℕ) → Numbered → ℕ → Type 0
+abbrev pub IsRightAt : PlanView → (EventId → ℕ) → NumberedName → ℕ → Type 0
 IsRightAt plan w switches n = slice_index (numbers_of switches) n ≡ switch_cost plan w (record { 0 = n })
 
 -- the first switch whose stated cost is wrong has this name, and this is its right cost
 pub record HasOtherCost (plan : PlanView) (text name : List ℕ) (right : ℕ) : Type 0 where
   pub certificate : Certificate
   pub of_plan : IsCertificateOf plan text certificate
-  pub verified : IsVerified plan (numbers_of certificate.events) certificate.bound
-  pub switches : Numbered
-  pub stated : certificate.switches ≡ Some switches
+  pub verification : IsVerified plan (numbers_of certificate.events) certificate.bound
+  pub switches : NumberedName
+  pub switches_are : certificate.switches ≡ Some switches
   pub number : ℕ
   pub within : number < length plan.switches
   pub other : ¬ (IsRightAt plan (weight_of (numbers_of certificate.events)) switches number)
@@ -109,7 +111,7 @@ abbrev pub IsCertificateFault : PlanView → List ℕ → CertificateFaultView �
 IsCertificateFault plan text (bad_line number) = IsNoCertificate text
 IsCertificateFault plan text other_events = HasOtherEvents plan text
 IsCertificateFault plan text other_switches = HasOtherSwitches plan text
-IsCertificateFault plan text (short name needed) = HasShortEvent plan text name needed
+IsCertificateFault plan text (short name least_weight) = HasShortEvent plan text name least_weight
 IsCertificateFault plan text (other_bound right) = HasOtherBound plan text right
 IsCertificateFault plan text (other_cost name right) = HasOtherCost plan text name right
 
@@ -150,4 +152,5 @@ ReportsOwn rows (reports.Faults faults) = AreOwn (faults_of_rows rows) (map faul
 abbrev pub ReportsNoPlan : Rows → Report → Type 0
 ReportsNoPlan rows reports.NoMemory = Unit {0}
 ReportsNoPlan rows (reports.Faults faults) =
-    ReportsOwn rows (reports.Faults faults) ⊎ ((faults_of_rows rows ≡ []) × ReportsOne (IsLimitFault rows) (reports.Faults faults))
+    ReportsOwn rows (reports.Faults faults)
+    ⊎ ((faults_of_rows rows ≡ []) × ReportsOne (IsLimitFault rows) (reports.Faults faults))

@@ -5,12 +5,14 @@ use Rattle.row_faults.specs.{declared.fault.RowFault.RowFault, View.{row_fault_v
 use Rattle.plan_tables.specs.PlanView.{PlanView}
 use Rattle.cascade_rank.specs.{declared.fault.RankFault.RankFault, View.rank_view, Finding.RankView}
 use Rattle.cascade_rank.specs.Finding as ranks
-use Rattle.config_checker.specs.declared.report.{CertificateFault.CertificateFault, Fault.Fault, Report.Report}
+use Rattle.config_checker.specs.{declared.report.CertificateFault.CertificateFault, Checking.named_fault}
+use Rattle.config_checker.specs.declared.report.{CheckFault.CheckFault, Report.Report}
 use Rattle.config_checker.specs.declared.report.CertificateFault.TheVariants as certificates
-use Rattle.config_checker.specs.declared.report.Fault.TheVariants as faults
+use Rattle.config_checker.specs.declared.report.CheckFault.TheVariants as faults
 use Rattle.config_checker.specs.declared.report.Report.TheVariants as reports
 use Rattle.written_machine.specs.CheckedView.{CheckedView}
-use Rattle.config_checker.specs.Checking.{CertificateFaultView, bad_line, other_events, other_switches, short, other_bound, other_cost, FaultView, row, limit, cycle, bound, certificate, named_fault}
+use Rattle.config_checker.specs.Checking.{CertificateFaultView, bad_line, other_events, other_switches, short}
+use Rattle.config_checker.specs.Checking.{other_bound, other_cost, FaultView, row, limit, cycle, bound, certificate}
 use Rattle.config_checker.specs.ReportText.{certificate_fault_text, report_line, report_text}
 
 abbrev pub certificate_fault_view : CertificateFault → CertificateFaultView
@@ -21,7 +23,7 @@ certificate_fault_view (certificates.Short event needed) = short event.items nee
 certificate_fault_view (certificates.Bound stated) = other_bound stated
 certificate_fault_view (certificates.Switch switch cost) = other_cost switch.items cost
 
-abbrev pub fault_view : Fault → FaultView
+abbrev pub fault_view : CheckFault → FaultView
 fault_view (faults.Row f) = row (row_fault_view f)
 fault_view (faults.Limit t) = limit t
 fault_view (faults.Cycle names) = cycle (map (λ v. v.items) names.items)
@@ -46,20 +48,20 @@ HasEvents plan ranks.bound_too_large = Unit {0}
 HasEvents plan (ranks.short event needed) = event.0 < length plan.events
 HasEvents plan ranks.wrong_events = Unit {0}
 
-abbrev pub faults_view : List Fault → List FaultView
+abbrev pub faults_view : List CheckFault → List FaultView
 faults_view faults = map fault_view faults
 
 -- the report lists this fault alone, unless memory ran out
-abbrev pub ReportsAlone : Report → Fault → Type 0
+abbrev pub ReportsAlone : Report → CheckFault → Type 0
 ReportsAlone report fault = ReportsFault report (fault_view fault)
 
 -- these are the faults of rows, each as a fault of the configuration
-abbrev pub AreOfRows : List RowFault → List Fault → Type 0
+abbrev pub AreOfRows : List RowFault → List CheckFault → Type 0
 AreOfRows own faults = faults_view faults ≡ map row (row_faults_view own)
 
 -- the fault is the one that is wrong with the weights, by the names of the plan's events
-abbrev pub IsWeightsFault : PlanView → RankFault → Fault → Type 0
-IsWeightsFault plan fault named = option_map (named_fault plan) (rank_view fault) ≡ Some (fault_view named)
+abbrev pub IsWeightsFault : PlanView → RankFault → CheckFault → Type 0
+IsWeightsFault plan fault its_view = option_map (named_fault plan) (rank_view fault) ≡ Some (fault_view its_view)
 
 -- the fault of the certificate, if there is one, is this
 abbrev pub FindsWrong : Option CertificateFault → Option CertificateFaultView → Type 0
@@ -68,11 +70,11 @@ FindsWrong fault wrong = option_map certificate_fault_view fault ≡ wrong
 -- ---- as text
 
 -- the lines of faults
-abbrev pub text_of_faults : List Fault → List ℕ
+abbrev pub text_of_faults : List CheckFault → List ℕ
 text_of_faults faults = report_text (map fault_view faults)
 
 -- the line of a fault
-abbrev pub text_of_fault : Fault → List ℕ
+abbrev pub text_of_fault : CheckFault → List ℕ
 text_of_fault fault = report_line (fault_view fault)
 
 -- what the line of a fault says of a certificate

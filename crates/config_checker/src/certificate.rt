@@ -56,7 +56,8 @@ fn write_events<W: Write>(checked: &Checked, writer: &mut W) -> io::Result<()>
 
 /// Writes the line `WORD NAME NUMBER`.
 fn write_line<W: Write>(word: &[u8], name: &[u8], number: u32, writer: &mut W) -> io::Result<()>
-    ensures { OnOk result (Appends (W.contents writer.old) (W.contents writer.new) (numbered_line word.now (name.now, number))) }
+    ensures { OnOk result (Appends (W.contents writer.old) (W.contents writer.new)
+        (numbered_line word.now (name.now, number))) }
 {
     writer.write_all(word)?;
     writer.write_all(b" ")?;

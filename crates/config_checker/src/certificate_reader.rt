@@ -1,9 +1,15 @@
 //! The reader of a certificate's text.
 
-ghost use Rattle.std.specs.Prelude.{◌≡◌, ◌<◌, ◌≤◌, ◌+◌, ◌==◌, ◌&&◌, ◌^◌, not, [], ◌∷◌, IfOk, IfSome, MatchOption, length, nat_lt, position, codes};
+ghost use Rattle.std.specs.Prelude.{◌≡◌, ◌<◌, ◌≤◌, ◌+◌, ◌==◌, ◌&&◌, ◌^◌, not, [], ◌∷◌, IfOk, IfSome, MatchOption};
+ghost use Rattle.std.specs.Prelude.{length, nat_lt, position, codes};
 ghost use Rattle.std.specs.List.{list_all};
-ghost use Rattle.config_checker.specs.CertificateOf.{is_in_word as in_word, is_plain, number_in, parts, lines, certificate_words, has_switches as has_switches_of, bound_in, numbered_in, front as front_of, first_event as first_event_of, ended, certificate_at};
-ghost use Rattle.config_checker.specs.CertificateRead.{GivesCertificate, ReadsHeading, ReadsBound, States, HasNoLeadingLine, HasLeadingLine, AreLeadingLines, stated_switches};
+ghost use Rattle.config_checker.specs.CertificateOf.{is_in_word as in_word, is_plain, number_in, parts, lines};
+ghost use Rattle.config_checker.specs.CertificateOf.{certificate_words, has_switches as has_switches_of, bound_in};
+ghost use Rattle.config_checker.specs.CertificateOf.{numbered_in, front as front_of, first_event as first_event_of};
+ghost use Rattle.config_checker.specs.CertificateOf.{end_of_lines, certificate_at};
+ghost use Rattle.config_checker.specs.CertificateRead.{GivesCertificate, ReadsHeading, ReadsBound, States};
+ghost use Rattle.config_checker.specs.CertificateRead.{HasNoLeadingLine, HasLeadingLine, AreLeadingLines};
+ghost use Rattle.config_checker.specs.CertificateRead.{stated_switches};
 ghost use Rattle.config_checker.specs.declared.certificate_reader.ReadFault.TheVariants.{NoMemory};
 
 use std::alloc::{AllocError, Global};
@@ -27,14 +33,14 @@ const BODY: usize = 3;
 pub(crate) struct CertificateLines<'a> {
     pub(crate) bound: u32,
     /// The switches with their costs; none in version 1.
-    pub(crate) switches: Option<Vec<Line<'a>>>,
+    pub(crate) switches: Option<Vec<CertificateLine<'a>>>,
     /// The events with their weights.
-    pub(crate) events: Vec<Line<'a>>,
+    pub(crate) events: Vec<CertificateLine<'a>>,
 }
 
 /// What a line `WORD NAME NUMBER` states.
 #[derive(Clone, Copy)]
-pub(crate) struct Line<'a> {
+pub(crate) struct CertificateLine<'a> {
     pub(crate) name: &'a [u8],
     pub(crate) number: u32,
 }
@@ -63,9 +69,9 @@ pub(crate) fn read_certificate<'a>(
 ) -> Result<CertificateLines<'a>, ReadFault>
     ensures { GivesCertificate result (certificate_at text.now) }
 {
-    let (switched, rest) = after_heading(text).ok_or(ReadFault::Line(1))?;
+    let (lists_switches, rest) = after_heading(text).ok_or(ReadFault::Line(1))?;
     let (bound, rest) = next_bound(rest).ok_or(ReadFault::Line(2))?;
-    if !switched {
+    if !lists_switches {
         return read_events(alloc, bound, None, rest);
     }
     let (switches, rest) = front(alloc, rest, SWITCH)?;
@@ -77,11 +83,12 @@ pub(crate) fn read_certificate<'a>(
 fn read_events<'a>(
     alloc: Global,
     bound: u32,
-    switches: Option<Vec<Line<'a>>>,
+    switches: Option<Vec<CertificateLine<'a>>>,
     text: &'a [u8],
 ) -> Result<CertificateLines<'a>, ReadFault>
     requires { IfSome switches (λ v. length v.items + length text.now < 2 ^ 63) }
-    ensures { GivesCertificate result (ended bound (stated_switches switches.entry) (front_of (codes "event") (lines text.now))) }
+    ensures { GivesCertificate result (end_of_lines bound (stated_switches switches.entry)
+        (front_of (codes "event") (lines text.now))) }
 {
     let (events, rest) = front(alloc, text, EVENT)?;
     if !rest.is_empty() {
@@ -95,7 +102,7 @@ fn read_events<'a>(
 }
 
 /// The number of the line where the events begin.
-fn first_event(switches: &Option<Vec<Line<'_>>>) -> usize
+fn first_event(switches: &Option<Vec<CertificateLine<'_>>>) -> usize
     ensures { result ≡ first_event_of (stated_switches switches.now) }
 {
     match switches {
@@ -109,17 +116,17 @@ fn front<'a>(
     alloc: Global,
     text: &'a [u8],
     word: &[u8],
-) -> Result<(Vec<Line<'a>>, &'a [u8]), AllocError>
+) -> Result<(Vec<CertificateLine<'a>>, &'a [u8]), AllocError>
     ensures lines { IfOk result (AreLeadingLines word.now text.now) }
     ensures shorter { IfOk result (λ x. length x.0.items + length x.1.now ≤ length text.now) }
 {
-    let mut found = Vec::new(alloc);
+    let mut front_lines = Vec::new(alloc);
     let mut rest = text;
     while let Some((line, after)) = next_line(rest, word) {
-        found.push(line)?;
+        front_lines.push(line)?;
         rest = after;
     }
-    Ok((found, rest))
+    Ok((front_lines, rest))
 }
 
 /// Whether a certificate with this first line states switches, and the text after that line.
@@ -127,8 +134,8 @@ fn after_heading(text: &[u8]) -> Option<(bool, &[u8])>
     ensures { ReadsHeading text.now result }
 {
     let (line, rest) = first_line(text)?;
-    let switched = has_switches(line)?;
-    Some((switched, rest))
+    let lists_switches = has_switches(line)?;
+    Some((lists_switches, rest))
 }
 
 /// Whether a certificate with this first line states switches; none if no certificate begins so.
@@ -154,7 +161,7 @@ fn next_bound(text: &[u8]) -> Option<(u32, &[u8])>
 }
 
 /// The first line, if it is `WORD NAME NUMBER` with this word, and the text after it.
-fn next_line<'a>(text: &'a [u8], word: &[u8]) -> Option<(Line<'a>, &'a [u8])>
+fn next_line<'a>(text: &'a [u8], word: &[u8]) -> Option<(CertificateLine<'a>, &'a [u8])>
     ensures line { MatchOption result (HasNoLeadingLine word.now text.now) (HasLeadingLine word.now text.now) }
     ensures shorter { IfSome result (λ x. length x.1.now < length text.now) }
 {
@@ -176,7 +183,7 @@ fn read_bound(line: &[u8]) -> Option<u32>
 }
 
 /// The number that a line states for a name by this word: `WORD NAME NUMBER`.
-fn read_line<'a>(line: &'a [u8], word: &[u8]) -> Option<Line<'a>>
+fn read_line<'a>(line: &'a [u8], word: &[u8]) -> Option<CertificateLine<'a>>
     ensures { States result (numbered_in word.now line.now) }
 {
     let (first, rest) = first_word(line)?;
@@ -185,12 +192,13 @@ fn read_line<'a>(line: &'a [u8], word: &[u8]) -> Option<Line<'a>>
         return None;
     }
     let number = read_number(number)?;
-    Some(Line { name, number })
+    Some(CertificateLine { name, number })
 }
 
 /// The first line of a text and what is after its line end, if it has one.
 fn first_line(text: &[u8]) -> Option<(&[u8], &[u8])>
-    ensures lines { MatchOption result (lines text.now ≡ text.now ∷ []) (λ x. lines text.now ≡ x.0.now ∷ lines x.1.now) }
+    ensures lines { MatchOption result (lines text.now ≡ text.now ∷ [])
+        (λ x. lines text.now ≡ x.0.now ∷ lines x.1.now) }
     ensures shorter { IfSome result (λ x. length x.1.now < length text.now) }
 {
     cut(text, b'\n')
@@ -198,14 +206,16 @@ fn first_line(text: &[u8]) -> Option<(&[u8], &[u8])>
 
 /// The first word of a line and what is after its blank, if one follows.
 fn first_word(line: &[u8]) -> Option<(&[u8], &[u8])>
-    ensures { MatchOption result (certificate_words line.now ≡ line.now ∷ []) (λ x. certificate_words line.now ≡ x.0.now ∷ certificate_words x.1.now) }
+    ensures { MatchOption result (certificate_words line.now ≡ line.now ∷ [])
+        (λ x. certificate_words line.now ≡ x.0.now ∷ certificate_words x.1.now) }
 {
     cut(line, b' ')
 }
 
 /// What is before the first of these bytes and what is after it, if there is one.
 fn cut(text: &[u8], end: u8) -> Option<(&[u8], &[u8])>
-    ensures parts { MatchOption result (parts end text.now ≡ text.now ∷ []) (λ x. parts end text.now ≡ x.0.now ∷ parts end x.1.now) }
+    ensures parts { MatchOption result (parts end text.now ≡ text.now ∷ [])
+        (λ x. parts end text.now ≡ x.0.now ∷ parts end x.1.now) }
     ensures shorter { IfSome result (λ x. length x.1.now < length text.now) }
 {
     let place = place_of(text, end)?;

@@ -4,20 +4,23 @@ ghost use Rattle.std.specs.Prelude.{◌≡◌, None, IfOk, IfSome, length};
 ghost use Rattle.plan_tables.specs.declared.table.Table.TheVariants.{Switches};
 ghost use Rattle.plan_tables.specs.Limits.{entry_names};
 ghost use Rattle.cascade_rank.specs.Weights.{IsWithinLimit};
-ghost use Rattle.config_checker.specs.CertificateRead.{stated_names, stated_numbers, stated_switches, wrong_stated_names, wrong_stated_cost, FindsNamedCost, judged_lines};
+ghost use Rattle.config_checker.specs.CertificateRead.{stated_names, stated_numbers, stated_switches};
+ghost use Rattle.config_checker.specs.CertificateRead.{wrong_stated_names, wrong_stated_cost, FindsNamedCost};
+ghost use Rattle.config_checker.specs.CertificateRead.{judged_lines};
 ghost use Rattle.config_checker.specs.Certified.{as_checked};
-ghost use Rattle.config_checker.specs.Checking.{same_names, wrong_cost as wrong_cost_of, certified_plan, reported_alone};
+ghost use Rattle.config_checker.specs.Checking.{same_names, wrong_cost as wrong_cost_of, certified_plan};
+ghost use Rattle.config_checker.specs.Checking.{reported_alone};
 ghost use Rattle.config_checker.specs.View.{GivesChecked, ReportsAlone, FindsWrong};
 
-use crate::certificate_reader::{CertificateLines, Line, ReadFault, read_certificate};
-use crate::report::{CertificateFault, Fault, Report};
+use crate::certificate_reader::{CertificateLine, CertificateLines, ReadFault, read_certificate};
+use crate::report::{CertificateFault, CheckFault, Report};
 use crate::reporting::{named_fault, report_of};
 use cascade_rank::{Bound, Weights, switch_cost, verify};
 use plan_tables::{EventId, Plan, SwitchId};
 use std::alloc::{AllocError, Global};
 
 /// The weights and the bound of a certificate, if it is one of the plan; or what is wrong with it.
-pub(crate) fn certified(alloc: Global, plan: &Plan, text: &[u8]) -> Result<(Weights, Bound), Report>
+pub(crate) fn certify(alloc: Global, plan: &Plan, text: &[u8]) -> Result<(Weights, Bound), Report>
     ensures { GivesChecked (as_checked plan.now result) (reported_alone (certified_plan text.now plan.now)) }
 {
     let lines = match read_certificate(alloc, text) {
@@ -27,13 +30,13 @@ pub(crate) fn certified(alloc: Global, plan: &Plan, text: &[u8]) -> Result<(Weig
     };
     match wrong_names(plan, &lines) {
         Some(fault) => Err(refusal(alloc, fault)),
-        None => judged(alloc, plan, &lines),
+        None => judge(alloc, plan, &lines),
     }
 }
 
 /// The weights and the bound of a certificate with the names of the plan, if they serve and are
 /// right; or what is wrong with them.
-fn judged(
+fn judge(
     alloc: Global,
     plan: &Plan,
     lines: &CertificateLines<'_>,
@@ -60,9 +63,9 @@ fn judged(
 
 /// The report of what is wrong with a certificate.
 fn refusal(alloc: Global, fault: CertificateFault) -> Report
-    ensures { ReportsAlone result (Fault.Certificate fault) }
+    ensures { ReportsAlone result (CheckFault.Certificate fault) }
 {
-    report_of(alloc, Fault::Certificate(fault))
+    report_of(alloc, CheckFault::Certificate(fault))
 }
 
 /// What is wrong with the names of a certificate: other events than those of the plan, or else
@@ -84,7 +87,7 @@ fn wrong_names(plan: &Plan, lines: &CertificateLines<'_>) -> Option<CertificateF
 }
 
 /// Whether these are the plan's events, in the order of their numbers.
-fn are_events(plan: &Plan, lines: &[Line<'_>]) -> bool
+fn are_events(plan: &Plan, lines: &[CertificateLine<'_>]) -> bool
     ensures { result ≡ same_names plan.now.events (stated_names lines.now) }
 {
     if lines.len() != plan.event_count() {
@@ -99,7 +102,7 @@ fn are_events(plan: &Plan, lines: &[Line<'_>]) -> bool
 }
 
 /// Whether these are the plan's switches, in the order of their numbers.
-fn are_switches(plan: &Plan, lines: &[Line<'_>]) -> bool
+fn are_switches(plan: &Plan, lines: &[CertificateLine<'_>]) -> bool
     ensures { result ≡ same_names (entry_names plan.now Switches) (stated_names lines.now) }
 {
     if lines.len() != plan.switch_count() {
@@ -114,7 +117,7 @@ fn are_switches(plan: &Plan, lines: &[Line<'_>]) -> bool
 }
 
 /// The numbers of the lines, as weights.
-fn weights_of(alloc: Global, lines: &[Line<'_>]) -> Result<Weights, AllocError>
+fn weights_of(alloc: Global, lines: &[CertificateLine<'_>]) -> Result<Weights, AllocError>
     ensures { IfOk result (λ weights. weights ≡ stated_numbers lines.now) }
 {
     let mut weights = Vec::with_capacity(alloc, lines.len())?;
@@ -128,7 +131,7 @@ fn weights_of(alloc: Global, lines: &[Line<'_>]) -> Result<Weights, AllocError>
 fn wrong_cost<'a>(
     plan: &Plan,
     weights: &Weights,
-    switches: &Option<Vec<Line<'a>>>,
+    switches: &Option<Vec<CertificateLine<'a>>>,
 ) -> Option<(&'a [u8], u32)>
     requires weights { length weights.now ≡ length plan.now.events }
     requires limit { IsWithinLimit plan.now weights.now }
@@ -143,7 +146,11 @@ fn wrong_cost<'a>(
 
 /// The first of the plan's switches whose stated cost is wrong at these weights, by its name, and
 /// its right cost.
-fn first_other<'a>(plan: &Plan, weights: &Weights, switches: &[Line<'a>]) -> Option<(&'a [u8], u32)>
+fn first_other<'a>(
+    plan: &Plan,
+    weights: &Weights,
+    switches: &[CertificateLine<'a>],
+) -> Option<(&'a [u8], u32)>
     requires weights { length weights.now ≡ length plan.now.events }
     requires limit { IsWithinLimit plan.now weights.now }
     requires switches { length switches.now ≡ length plan.now.switches }

@@ -9,11 +9,12 @@ ghost use Rattle.config_checker.specs.CertificateText.{IsCertificateText};
 ghost use Rattle.config_checker.specs.View.{AreOfRows};
 ghost use Rattle.config_checker.specs.Checking.{faults_of_rows};
 ghost use Rattle.config_checker.specs.Refused.{IsLimitFault, ReportsNoPlan, ReportsOne, ReportsOwn};
-ghost use Rattle.config_checker.specs.OfConfig.{ChecksConfig, ChecksConfigWith, IsPlanOf, HasNoFaults, ReportsFaultsOf, ReportsFaultsWith, ReportsWithoutPlan};
+ghost use Rattle.config_checker.specs.OfConfig.{ChecksConfig, ChecksConfigWith, IsPlanOf, HasNoFaults, ReportsFaultsOf};
+ghost use Rattle.config_checker.specs.OfConfig.{ReportsFaultsWith, ReportsWithoutPlan};
 
-use crate::certified::certified;
+use crate::certified::certify;
 use crate::checked::Checked;
-use crate::report::{Fault, Report};
+use crate::report::{CheckFault, Report};
 use crate::reporting::{named_fault, report_of};
 use cascade_rank::find_bounded;
 use machine_definitions::Definitions;
@@ -88,7 +89,7 @@ pub fn check_with(alloc: Global, config: &Config, certificate: &[u8]) -> Result<
     ensures refused { IfErr result (ReportsFaultsWith certificate.now config.now) }
 {
     let plan = plan_of(alloc, config)?;
-    let (weights, bound) = certified(alloc, &plan, certificate)?;
+    let (weights, bound) = certify(alloc, &plan, certificate)?;
     Ok(Checked::new(plan, weights, bound.0))
 }
 
@@ -130,16 +131,16 @@ const AT_ONCE: usize = 16_384;
 
 /// Faults of rows as faults of a configuration. Both lists may be very long, so the first one gives
 /// its room back as the other one grows.
-fn faults_of(alloc: Global, own: Vec<RowFault>) -> Result<Vec<Fault>, AllocError>
+fn faults_of(alloc: Global, own: Vec<RowFault>) -> Result<Vec<CheckFault>, AllocError>
     ensures { IfOk result (λ faults. AreOfRows own.items faults.items) }
 {
     let mut faults = Vec::with_capacity(alloc, own.len())?;
-    let mut left = own;
-    left.reverse();
-    while let Some(fault) = left.pop() {
-        faults.push(Fault::Row(fault))?;
-        if left.len() % AT_ONCE == 0 {
-            left.shrink_to_fit();
+    let mut rest = own;
+    rest.reverse();
+    while let Some(fault) = rest.pop() {
+        faults.push(CheckFault::Row(fault))?;
+        if rest.len() % AT_ONCE == 0 {
+            rest.shrink_to_fit();
         }
     }
     Ok(faults)
@@ -156,6 +157,6 @@ fn plan_within(alloc: Global, definitions: &Definitions<'_>) -> Result<Plan, Rep
         Ok(plan) => Ok(plan),
         Err(PlanFault::NoMemory) => Err(Report::NoMemory),
         Err(PlanFault::NoSuchName) => unreachable!(),
-        Err(PlanFault::Limit(table)) => Err(report_of(alloc, Fault::Limit(table))),
+        Err(PlanFault::Limit(table)) => Err(report_of(alloc, CheckFault::Limit(table))),
     }
 }

@@ -15,5 +15,5 @@ pub use certificate::write_certificate;
 pub use checked::Checked;
 pub use checker::{check, check_with};
 pub use law::certificate_is_read_again;
-pub use report::{CertificateFault, Fault, Report};
+pub use report::{CertificateFault, CheckFault, Report};
 pub use report_text::write_report;

@@ -33,7 +33,7 @@ pub enum CertificateFault {
 
 /// A fault of a configuration.
 #[derive(Debug, Drop, Error)]
-pub enum Fault {
+pub enum CheckFault {
     /// Something is wrong with the rows of a text.
     #[error("{} {}", .0.kind.name(), .0.line)]
     Row(RowFault),
@@ -59,7 +59,7 @@ pub enum Report {
     NoMemory,
     /// The faults, in the order in which they are reported.
     #[error("refused")]
-    Faults(Vec<Fault>),
+    Faults(Vec<CheckFault>),
 }
 
 impl From<AllocError> for Report {

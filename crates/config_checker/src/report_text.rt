@@ -6,7 +6,7 @@ ghost use Rattle.config_checker.specs.View.{text_of_faults, text_of_fault, text_
 ghost use Rattle.config_checker.specs.FaultView.{cycle};
 ghost use Rattle.config_checker.specs.ReportText.{report_line};
 
-use crate::report::{CertificateFault, Fault};
+use crate::report::{CertificateFault, CheckFault};
 use row_faults::write_row_fault;
 use std::io::{self, Write};
 
@@ -15,7 +15,7 @@ use std::io::{self, Write};
 /// # Errors
 ///
 /// The writer's error. Any part of the text may have been written then.
-pub fn write_report<W: Write>(faults: &[Fault], writer: &mut W) -> io::Result<()>
+pub fn write_report<W: Write>(faults: &[CheckFault], writer: &mut W) -> io::Result<()>
     ensures { OnOk result (Appends (W.contents writer.old) (W.contents writer.new) (text_of_faults faults.now)) }
 {
     for fault in faults {
@@ -29,15 +29,15 @@ pub fn write_report<W: Write>(faults: &[Fault], writer: &mut W) -> io::Result<()
 /// # Errors
 ///
 /// The writer's error. Any part of the line may have been written then.
-pub(crate) fn write_fault<W: Write>(fault: &Fault, writer: &mut W) -> io::Result<()>
+pub(crate) fn write_fault<W: Write>(fault: &CheckFault, writer: &mut W) -> io::Result<()>
     ensures { OnOk result (Appends (W.contents writer.old) (W.contents writer.new) (text_of_fault fault.now)) }
 {
     match fault {
-        Fault::Row(fault) => write_row_fault(fault, writer),
-        Fault::Limit(table) => writeln!(writer, "fault 7 Limit {}", table.name()),
-        Fault::Cycle(events) => write_cycle(events, writer),
-        Fault::Bound => writeln!(writer, "fault 9 Bound"),
-        Fault::Certificate(fault) => {
+        CheckFault::Row(fault) => write_row_fault(fault, writer),
+        CheckFault::Limit(table) => writeln!(writer, "fault 7 Limit {}", table.name()),
+        CheckFault::Cycle(events) => write_cycle(events, writer),
+        CheckFault::Bound => writeln!(writer, "fault 9 Bound"),
+        CheckFault::Certificate(fault) => {
             writer.write_all(b"fault 10 Certificate ")?;
             write_certificate_fault(fault, writer)?;
             writer.write_all(b"\n")
@@ -46,7 +46,8 @@ pub(crate) fn write_fault<W: Write>(fault: &Fault, writer: &mut W) -> io::Result
 }
 
 fn write_cycle<W: Write>(events: &[Vec<u8>], writer: &mut W) -> io::Result<()>
-    ensures { OnOk result (Appends (W.contents writer.old) (W.contents writer.new) (report_line (cycle (map (λ v. v.items) events.now)))) }
+    ensures { OnOk result (Appends (W.contents writer.old) (W.contents writer.new)
+        (report_line (cycle (map (λ v. v.items) events.now)))) }
 {
     writer.write_all(b"fault 8 Cycle")?;
     for event in events {
@@ -57,7 +58,8 @@ fn write_cycle<W: Write>(events: &[Vec<u8>], writer: &mut W) -> io::Result<()>
 }
 
 fn write_certificate_fault<W: Write>(fault: &CertificateFault, writer: &mut W) -> io::Result<()>
-    ensures { OnOk result (Appends (W.contents writer.old) (W.contents writer.new) (text_of_certificate_fault fault.now)) }
+    ensures { OnOk result (Appends (W.contents writer.old) (W.contents writer.new)
+        (text_of_certificate_fault fault.now)) }
 {
     match fault {
         CertificateFault::Line(number) => write!(writer, "Line {number}"),

@@ -7,13 +7,13 @@ ghost use Rattle.plan_tables.specs.Valid.{IsEventWithin};
 ghost use Rattle.cascade_rank.specs.View.{IfRank};
 ghost use Rattle.config_checker.specs.View.{HasEvents, ReportsAlone, IsWeightsFault};
 
-use crate::report::{CertificateFault, Fault, Report};
+use crate::report::{CertificateFault, CheckFault, Report};
 use cascade_rank::RankFault;
 use plan_tables::{EventId, Plan};
 use std::alloc::{AllocError, Global};
 
 /// The report of one fault.
-pub(crate) fn report_of(alloc: Global, fault: Fault) -> Report
+pub(crate) fn report_of(alloc: Global, fault: CheckFault) -> Report
     ensures { ReportsAlone result fault }
 {
     let mut faults = Vec::new(alloc);
@@ -24,19 +24,23 @@ pub(crate) fn report_of(alloc: Global, fault: Fault) -> Report
 }
 
 /// What is wrong with weights, by the names of the events.
-pub(crate) fn named_fault(alloc: Global, plan: &Plan, fault: RankFault) -> Result<Fault, AllocError>
+pub(crate) fn named_fault(
+    alloc: Global,
+    plan: &Plan,
+    fault: RankFault,
+) -> Result<CheckFault, AllocError>
     requires { IfRank fault (HasEvents plan.now) }
     ensures { IfOk result (IsWeightsFault plan.now fault) }
 {
     match fault {
         RankFault::NoMemory => Err(AllocError),
-        RankFault::Cycle(events) => Ok(Fault::Cycle(names_of(alloc, plan, &events)?)),
-        RankFault::BoundTooLarge => Ok(Fault::Bound),
+        RankFault::Cycle(events) => Ok(CheckFault::Cycle(names_of(alloc, plan, &events)?)),
+        RankFault::BoundTooLarge => Ok(CheckFault::Bound),
         RankFault::Short(event, needed) => {
             let name = plan.event_name(event).to_vec(alloc)?;
-            Ok(Fault::Certificate(CertificateFault::Short(name, needed)))
+            Ok(CheckFault::Certificate(CertificateFault::Short(name, needed)))
         }
-        RankFault::WrongEvents => Ok(Fault::Certificate(CertificateFault::Events)),
+        RankFault::WrongEvents => Ok(CheckFault::Certificate(CertificateFault::Events)),
     }
 }
 

@@ -1,12 +1,13 @@
 -- What a fault is, where it is, and what a result with one says.
 use Rattle.std.specs.Prelude.{◌≡◌, ℕ, List, Result, Ok, Err}
-use Rattle.config_faults.specs.declared.fault.{Fault.Fault, FaultKind.FaultKind, ConfigFault.ConfigFault}
+use Rattle.config_faults.specs.declared.fault.{BundleFault.BundleFault, ConfigFault.ConfigFault}
+use Rattle.config_faults.specs.declared.fault.BundleFaultKind.{BundleFaultKind}
 use Rattle.config_faults.specs.declared.fault.ConfigFault.TheVariants as faults
 use Rattle.config_faults.specs.declared.spot.Spot as spots
 
 -- what is wrong, in which text, at which line, and with which key
 pub record RowsFault : Type 0 where
-  pub kind : FaultKind
+  pub kind : BundleFaultKind
   pub text : List ℕ
   pub line : ℕ
   pub key : List ℕ
@@ -17,18 +18,18 @@ pub record Spot : Type 0 where
   pub line : ℕ
   pub key : List ℕ
 
-abbrev pub rows_fault_at : FaultKind → Spot → RowsFault
+abbrev pub rows_fault_at : BundleFaultKind → Spot → RowsFault
 rows_fault_at kind spot = record { kind = kind; text = spot.text; line = spot.line; key = spot.key }
 
-abbrev pub refused : {A : Type 0} → FaultKind → Spot → Result A RowsFault
-refused kind spot = Err (rows_fault_at kind spot)
+abbrev pub refuse : {A : Type 0} → BundleFaultKind → Spot → Result A RowsFault
+refuse kind spot = Err (rows_fault_at kind spot)
 
 -- ---- what contracts see
 
 abbrev pub spot_view : spots.Spot → Spot
 spot_view s = record { text = s.text.now; line = s.line; key = s.key.now }
 
-abbrev pub rows_fault_view : Fault → RowsFault
+abbrev pub rows_fault_view : BundleFault → RowsFault
 rows_fault_view f = record { kind = f.kind; text = f.text.items; line = f.line; key = f.key.items }
 
 -- An answer, seen by view, is what reading gives, unless memory ran out.
@@ -41,5 +42,5 @@ GivesRows view (Ok x) read = read ≡ Ok (view x)
 GivesRows view (Err e) read = FailsRows e read
 
 -- a fault of this kind that stands here
-abbrev pub IsFaultAt : FaultKind → spots.Spot → Fault → Type 0
+abbrev pub IsFaultAt : BundleFaultKind → spots.Spot → BundleFault → Type 0
 IsFaultAt kind spot fault = rows_fault_view fault ≡ rows_fault_at kind (spot_view spot)

@@ -6,11 +6,11 @@ ghost use Rattle.config_faults.specs.declared.fault.ConfigFault.TheVariants.{NoM
 
 use std::alloc::{AllocError, AllocFailed};
 use thiserror::Error;
-use yaml_subset::fault::FaultKind as YamlKind;
+use yaml_subset::fault::TextFaultKind as YamlKind;
 
 /// What is wrong.
 #[derive(Clone, Copy, Debug)]
-pub enum FaultKind {
+pub enum BundleFaultKind {
     /// The bundle does not begin with a line `@ NAME`, has a bad `@` line, or has no machine text.
     Bundle,
     /// The text does not begin with `#config_version=6`.
@@ -31,21 +31,21 @@ pub enum FaultKind {
     Limit,
 }
 
-impl FaultKind {
+impl BundleFaultKind {
     /// The number that the kind is printed with, 1 to 9.
     pub fn number(&self) -> u32
         ensures { result ≡ number_of self.now }
     {
         match self {
-            FaultKind::Bundle => 1,
-            FaultKind::Version => 2,
-            FaultKind::Yaml(_) => 3,
-            FaultKind::UnknownSection => 4,
-            FaultKind::UnknownSetting => 5,
-            FaultKind::BadValue => 6,
-            FaultKind::Missing => 7,
-            FaultKind::Duplicate => 8,
-            FaultKind::Limit => 9,
+            BundleFaultKind::Bundle => 1,
+            BundleFaultKind::Version => 2,
+            BundleFaultKind::Yaml(_) => 3,
+            BundleFaultKind::UnknownSection => 4,
+            BundleFaultKind::UnknownSetting => 5,
+            BundleFaultKind::BadValue => 6,
+            BundleFaultKind::Missing => 7,
+            BundleFaultKind::Duplicate => 8,
+            BundleFaultKind::Limit => 9,
         }
     }
 
@@ -54,15 +54,15 @@ impl FaultKind {
         ensures { result.now ≡ kind_name self.now }
     {
         match self {
-            FaultKind::Bundle => "Bundle",
-            FaultKind::Version => "Version",
-            FaultKind::Yaml(_) => "Yaml",
-            FaultKind::UnknownSection => "UnknownSection",
-            FaultKind::UnknownSetting => "UnknownSetting",
-            FaultKind::BadValue => "BadValue",
-            FaultKind::Missing => "Missing",
-            FaultKind::Duplicate => "Duplicate",
-            FaultKind::Limit => "Limit",
+            BundleFaultKind::Bundle => "Bundle",
+            BundleFaultKind::Version => "Version",
+            BundleFaultKind::Yaml(_) => "Yaml",
+            BundleFaultKind::UnknownSection => "UnknownSection",
+            BundleFaultKind::UnknownSetting => "UnknownSetting",
+            BundleFaultKind::BadValue => "BadValue",
+            BundleFaultKind::Missing => "Missing",
+            BundleFaultKind::Duplicate => "Duplicate",
+            BundleFaultKind::Limit => "Limit",
         }
     }
 }
@@ -71,8 +71,8 @@ impl FaultKind {
 /// of `-` means none. For a fault of the YAML reader the key is the name of its kind.
 #[derive(Debug, Drop, Error)]
 #[error("{} at line {}", .kind.name(), .line)]
-pub struct Fault {
-    pub kind: FaultKind,
+pub struct BundleFault {
+    pub kind: BundleFaultKind,
     pub text: Vec<u8>,
     pub line: u32,
     pub key: Vec<u8>,
@@ -86,7 +86,7 @@ pub enum ConfigFault {
     NoMemory,
     /// The bundle has a fault: the first one.
     #[error(transparent)]
-    Bundle(Fault),
+    Bundle(BundleFault),
 }
 
 impl From<AllocError> for ConfigFault {

@@ -4,7 +4,7 @@ ghost use Rattle.std.specs.Prelude.{◌≡◌, IfOk};
 ghost use Rattle.std.specs.Cow.{cow_slice_items};
 ghost use Rattle.config_faults.specs.Faults.{spot_view, IsFaultAt};
 
-use crate::fault::{Fault, FaultKind};
+use crate::fault::{BundleFault, BundleFaultKind};
 use std::alloc::{AllocError, Global};
 use yaml_subset::tree::Key;
 
@@ -19,10 +19,10 @@ pub struct Spot<'a> {
 
 impl Spot<'_> {
     /// A fault that stands here.
-    pub fn fault(self, alloc: Global, kind: FaultKind) -> Result<Fault, AllocError>
+    pub fn fault(self, alloc: Global, kind: BundleFaultKind) -> Result<BundleFault, AllocError>
         ensures { IfOk result (λ fault. IsFaultAt kind self.entry fault) }
     {
-        Ok(Fault {
+        Ok(BundleFault {
             kind,
             text: Vec::from_slice(alloc, self.text)?,
             line: self.line,

@@ -1,23 +1,27 @@
 -- Accruals are lawful.
-use Rattle.std.proofs.Common.{rules, ◌≡◌, inl, ℕ, zero, suc, nat_lt, ◌<◌, ◌≤◌, Bool, true, false, ◌&&◌, Some, List, [], ◌∷◌, ◌++◌, length, replicate, take, slice_get, slice_set, refl, sym, ap, ◌∙◌, arith}
+use Rattle.std.proofs.Common.{rules, ◌≡◌, inl, ℕ, zero, suc, nat_lt, ◌<◌, ◌≤◌, Bool, true, false, ◌&&◌, Some, List, []}
+use Rattle.std.proofs.Common.{◌∷◌, ◌++◌, length, replicate, take, slice_get, slice_set, refl, sym, ap, ◌∙◌, arith}
 use Rattle.std.{specs.List.{All, list_all}, proofs.lemmas.Bool.{and_from, and_parts, false≢true, ltb-true, true≢false}}
 use Rattle.std.proofs.lemmas.List.{length-set, set-set, take-replicate, Elements.{All-nil, All-cons, All-append}}
 use Rattle.plan_tables.specs.declared.devices.{Act.Act, Settings.TheVariants.Accrual}
 use Rattle.plan_tables.specs.Devices.{IsWithinLimits, list_count}
 use Rattle.plan_tables.specs.declared.devices.Act.TheVariants as acts
 use Rattle.machine_settings.specs.declared.settings.StepSettings.{StepSettings}
-use Rattle.device_objects.specs.{declared.state.AccrualSlot.AccrualSlot, Blocks.{updated, completing, going_on}}
+use Rattle.device_objects.specs.{declared.state.AccrualSlot.AccrualSlot, Blocks.{update, completing, going_on}}
 use Rattle.device_objects.specs.{Outcomes.only_if, Kinds.moments_of, Laws.IsLawful}
-use Rattle.device_objects.specs.Accrual.{HasMarks, accrual_slots, accruals, are_all_done, completed, is_open, is_step_open, none_done, of_accrual, slot_step, slots, stepped}
+use Rattle.device_objects.specs.Accrual.{HasMarks, accrual_slots, accruals, are_all_done, after_completion, is_open}
+use Rattle.device_objects.specs.Accrual.{is_step_open, none_done, of_accrual, slot_step, slots, step_once}
 use Rattle.device_objects.proofs.Among.{In, here, there, at_last, if_holds, either, one, all_if, if_true, if_false}
-use Rattle.device_objects.proofs.{BlockLaws.{reset-in, no_player-in, resets}, SlotLaws.{Comes, slotted-lawful}}
-use Rattle.device_objects.proofs.Replicas.{nat_lt-not_zero, not_below_one, one_below, set-replicate, slice_get-replicate}
+use Rattle.device_objects.proofs.BlockLaws.{reset-in, no_player-in, resets}
+use Rattle.device_objects.proofs.{SlotLaws.{Comes, slotted-lawful}, Replicas.slice_get-replicate}
+use Rattle.device_objects.proofs.Replicas.{nat_lt-not_zero, not_below_one, one_below, set-replicate}
 use Rattle.device_objects.specs.declared.state.DeviceState.TheVariants as states
 
 -- ---- marks
 
 -- if there is but one step, it completes the accrual
-alone : (steps i : ℕ) (done : List Bool) → nat_lt i steps ≡ true → nat_lt 1 steps ≡ false → is_open (slice_get done i) ≡ true
+alone : (steps i : ℕ) (done : List Bool) → nat_lt i steps ≡ true → nat_lt 1 steps ≡ false
+    → is_open (slice_get done i) ≡ true
     → list_all (λ d. d) (take steps (slice_set done i true)) ≡ true
 alone zero i done within one opens = absurd (nat_lt-not_zero i within)
 alone (suc zero) zero [] within one opens = absurd (false≢true opens)
@@ -47,16 +51,19 @@ module _ (a : StepSettings) where
   -- ---- answers
 
   step-in : (i : ℕ) (slot : AccrualSlot) → nat_lt i a.steps ≡ true → is_open (slice_get slot.done i) ≡ true
-      → In (stepped a (record slot { done = slice_set slot.done i true })).1 (of_accrual a (acts.Step i))
+      → In (step_once a (record slot { done = slice_set slot.done i true })).1 (of_accrual a (acts.Step i))
   step-in i slot within opens =
       let next : AccrualSlot = record slot { done = slice_set slot.done i true } in
-      there (if_holds (nat_lt i a.steps) within (either (are_all_done a next.done) (completed a next, completing) (next, going_on)
+      there (if_holds (nat_lt i a.steps) within
+      (either (are_all_done a next.done) (after_completion a next, completing) (next, going_on)
       (λ all. at_last (only_if (nat_lt 1 a.steps) (going_on ∷ [])))
-      (λ some. goes_on-in (nat_lt 1 a.steps) (λ one. true≢false (sym (alone a.steps i slot.done within one opens) ∙ some)))))
+      (λ some. goes_on-in (nat_lt 1 a.steps)
+      (λ one. true≢false (sym (alone a.steps i slot.done within one opens) ∙ some)))))
 
   answer-in : (act : Act) (now : ℕ) (slot : AccrualSlot) → In (slot_step a act slot).1 (of_accrual a act)
   answer-in (acts.Step i) now slot =
-      either (slot.enabled && is_step_open a i slot.done) (stepped a (record slot { done = slice_set slot.done i true })) (slot, [])
+      either (slot.enabled && is_step_open a i slot.done)
+      (step_once a (record slot { done = slice_set slot.done i true })) (slot, [])
       (λ is. let parts = and_parts slot.enabled (is_step_open a i slot.done) is in
       let at = and_parts (nat_lt i a.steps) (is_open (slice_get slot.done i)) parts.1 in
       step-in i slot at.0 at.1)
@@ -81,16 +88,20 @@ module _ (a : StepSettings) where
   answered act lists enabled done marks answers =
       inl (record { now = 0; slot = slot_with enabled done; shape = marks; answer = answers })
 
-  opens_at : (i : ℕ) (done : List Bool) → nat_lt i a.steps ≡ true → slice_get done i ≡ Some false → is_step_open a i done ≡ true
+  opens_at : (i : ℕ) (done : List Bool) → nat_lt i a.steps ≡ true → slice_get done i ≡ Some false
+      → is_step_open a i done ≡ true
   opens_at i done below at = and_from (nat_lt i a.steps) (is_open (slice_get done i)) below (ap is_open at)
 
-  goes_on : (i : ℕ) → a.steps ≤ 16 → nat_lt i a.steps ≡ true → nat_lt 1 a.steps ≡ true → Comes (slots a) (acts.Step i) going_on
+  goes_on : (i : ℕ) → a.steps ≤ 16 → nat_lt i a.steps ≡ true → nat_lt 1 a.steps ≡ true
+      → Comes (slots a) (acts.Step i) going_on
   goes_on i within below several =
       let small : i < a.steps = ltb-true i a.steps below in
       let next : AccrualSlot = slot_with true (slice_set none_done i true) in
       answered (acts.Step i) going_on true none_done refl
-      (if_true (is_step_open a i none_done) (stepped a next) (slot_with true none_done, []) (opens_at i none_done below (slice_get-replicate 16 i false (omega (arith, small, within))))
-      ∙ if_false (are_all_done a next.done) (completed a next, completing) (next, going_on) (some_left a.steps i several))
+      (if_true (is_step_open a i none_done) (step_once a next) (slot_with true none_done, [])
+      (opens_at i none_done below (slice_get-replicate 16 i false (omega (arith, small, within))))
+      ∙ if_false (are_all_done a next.done) (after_completion a next, completing) (next, going_on)
+      (some_left a.steps i several))
 
   completes : (i : ℕ) → a.steps ≤ 16 → nat_lt i a.steps ≡ true → Comes (slots a) (acts.Step i) completing
   completes i within below =
@@ -98,19 +109,27 @@ module _ (a : StepSettings) where
       let done : List Bool = slice_set (replicate 16 true) i false in
       let next : AccrualSlot = slot_with true (slice_set done i true) in
       answered (acts.Step i) completing true done (length-set (replicate 16 true) i false)
-      (if_true (is_step_open a i done) (stepped a next) (slot_with true done, []) (opens_at i done below (hole_at 16 i (omega (arith, small, within))))
-      ∙ if_true (are_all_done a next.done) (completed a next, completing) (next, going_on)
-      (ap (λ marks. list_all (λ d. d) (take a.steps marks)) (set-set (replicate 16 true) i false true ∙ set-replicate 16 i true) ∙ ap (list_all (λ d. d)) (take-replicate a.steps 16 true within) ∙ all_set a.steps))
+      (if_true (is_step_open a i done) (step_once a next) (slot_with true done, [])
+      (opens_at i done below (hole_at 16 i (omega (arith, small, within))))
+      ∙ if_true (are_all_done a next.done) (after_completion a next, completing) (next, going_on)
+      (ap (λ marks. list_all (λ d. d) (take a.steps marks))
+      (set-set (replicate 16 true) i false true ∙ set-replicate 16 i true)
+      ∙ ap (list_all (λ d. d)) (take-replicate a.steps 16 true within) ∙ all_set a.steps))
 
   come : a.steps ≤ 16 → (act : Act) → All (Comes (slots a) act) (of_accrual a act)
   come within (acts.Step i) =
       let Answer : List ℕ → Type 0 = Comes (slots a) (acts.Step i) in
-      All-cons Answer [] (only_if (nat_lt i a.steps) (only_if (nat_lt 1 a.steps) (going_on ∷ []) ++ completing ∷ [])) (answered (acts.Step i) [] false none_done refl refl)
-      (all_if Answer (nat_lt i a.steps) (only_if (nat_lt 1 a.steps) (going_on ∷ []) ++ completing ∷ []) (λ below. All-append Answer (only_if (nat_lt 1 a.steps) (going_on ∷ [])) (completing ∷ [])
-      (all_if Answer (nat_lt 1 a.steps) (going_on ∷ []) (λ several. one Answer going_on (goes_on i within below several)))
+      All-cons Answer [] (only_if (nat_lt i a.steps) (only_if (nat_lt 1 a.steps) (going_on ∷ []) ++ completing ∷ []))
+      (answered (acts.Step i) [] false none_done refl refl)
+      (all_if Answer (nat_lt i a.steps) (only_if (nat_lt 1 a.steps) (going_on ∷ []) ++ completing ∷ [])
+      (λ below. All-append Answer (only_if (nat_lt 1 a.steps) (going_on ∷ [])) (completing ∷ [])
+      (all_if Answer (nat_lt 1 a.steps) (going_on ∷ [])
+      (λ several. one Answer going_on (goes_on i within below several)))
       (one Answer completing (completes i within below))))
-  come within acts.Reset = resets (slots a) a.block refl acts.Reset (answered acts.Reset (updated ∷ []) true none_done refl refl)
-  come within acts.Restart = resets (slots a) a.block refl acts.Restart (answered acts.Restart (updated ∷ []) true none_done refl refl)
+  come within acts.Reset = resets (slots a) a.block refl acts.Reset
+      (answered acts.Reset (update ∷ []) true none_done refl refl)
+  come within acts.Restart = resets (slots a) a.block refl acts.Restart
+      (answered acts.Restart (update ∷ []) true none_done refl refl)
   come within act = one (Comes (slots a) act) [] (answered act [] true none_done refl refl)
 
   -- ---- the law

@@ -1,5 +1,6 @@
 -- Lists of answers: what is among them, and what holds of each.
-use Rattle.std.proofs.Common.{rules, ◌≡◌, ℕ, zero, suc, ◌+◌, ◌<◌, ◌≤◌, Bool, true, false, List, [], ◌∷◌, ◌++◌, ◌==◌, ◌&&◌, if◌then◌else◌, refl, sym, subst, inl, inr, zero-le, suc-le-suc, arith}
+use Rattle.std.proofs.Common.{rules, ◌≡◌, ℕ, zero, suc, ◌+◌, ◌<◌, ◌≤◌, Bool, true, false, List, [], ◌∷◌, ◌++◌, ◌==◌}
+use Rattle.std.proofs.Common.{◌&&◌, if◌then◌else◌, refl, sym, subst, inl, inr, zero-le, suc-le-suc, arith}
 use Rattle.std.specs.List.{All, Contains, flat_map, range_with_len}
 use Rattle.std.proofs.lemmas.{Bool.{and_parts, cases_eq}, List.Elements.{All-cons, All-contains, All-nil}}
 use Rattle.device_objects.specs.Outcomes.{only_if, of_switch}

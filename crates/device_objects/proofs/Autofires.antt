@@ -4,8 +4,9 @@ use Rattle.std.{specs.List.All, proofs.lemmas.List.Elements.{All-nil, All-cons, 
 use Rattle.plan_tables.specs.declared.devices.{Act.Act, Settings.TheVariants.Autofire}
 use Rattle.plan_tables.specs.Devices.{IsWithinLimits, list_count}
 use Rattle.plan_tables.specs.declared.devices.Act.TheVariants as acts
-use Rattle.device_objects.specs.{declared.state.AutofireState.AutofireState, Kinds.moments_of, Laws.IsLawful}
-use Rattle.device_objects.specs.Autofire.{act_step, autofire, autofire_state, autofires, fires, first_state, of_autofire}
+use Rattle.device_objects.specs.declared.state.AutofireState.{AutofireState}
+use Rattle.device_objects.specs.{Kinds.moments_of, Laws.IsLawful, Autofire.of_autofire}
+use Rattle.device_objects.specs.Autofire.{act_step, autofire, autofire_state, autofires, fires, first_state}
 use Rattle.device_objects.proofs.Among.{In, here, switch-in, switch_comes, one, if_true}
 use Rattle.device_objects.proofs.Calm.{IsActAnswer, calm-lawful, someone}
 use Rattle.device_objects.specs.declared.state.DeviceState.TheVariants as states
@@ -30,6 +31,7 @@ come act = one (IsActAnswer autofire act) [] (answered act [] first_state refl)
 pub autofires-lawful : IsLawful autofires moments_of (IsWithinLimits Autofire) (list_count Autofire)
 autofires-lawful =
     calm-lawful states.Autofire autofire_state autofire (IsWithinLimits Autofire) 1 (λ s. refl)
-    (λ state s is. search rules) (λ s. refl) tt (λ s shape. tt) (λ s shape. tt) (λ act now world s shape. tt) (λ act now world s shape. act-in act s)
+    (λ state s is. search rules) (λ s. refl) tt (λ s shape. tt) (λ s shape. tt) (λ act now world s shape. tt)
+    (λ act now world s shape. act-in act s)
     (λ within. come) (λ act now world s. search rules) (λ act. search rules)
     (λ act. search (rules, All-nil, All-cons, All-append))

@@ -1,5 +1,7 @@
 -- Which part of a ball device is due first.
-use Rattle.std.proofs.Common.{rules, ◌≡◌, ℕ, zero, suc, ◌+◌, ◌<◌, ◌≤◌, ◌⊎◌, inl, inr, Bool, true, false, Option, None, Some, List, [], ◌∷◌, length, map, option_map, get_or, nat_le, if◌then◌else◌, refl, ap, ◌∙◌, arith}
+use Rattle.std.proofs.Common.{rules, ◌≡◌, ℕ, zero, suc, ◌+◌, ◌<◌, ◌≤◌, ◌⊎◌, inl, inr, Bool, true, false, Option, None}
+use Rattle.std.proofs.Common.{Some, List, [], ◌∷◌, length, map, option_map, get_or, nat_le, if◌then◌else◌, refl, ap}
+use Rattle.std.proofs.Common.{◌∙◌, arith}
 use Rattle.std.proofs.lemmas.{Bool.{cases_lt, leb-true, leb-false}, List.get_or_past, Option.{none-some, same_Some}}
 use Rattle.plan_tables.specs.Due.{sooner}
 use Rattle.device_objects.specs.declared.state.BallSwitch.{BallSwitch}
@@ -73,7 +75,8 @@ pub first_due-is_first : (i : ℕ) (bs : List BallSwitch) (j t : ℕ) → (get_o
     → IsDueBy (first_due_from i bs) t
 first_due-is_first i [] j t is = absurd (none-some t is)
 first_due-is_first i (b ∷ bs) zero t is = sooner-by_first b.due i t (first_due_from (suc i) bs) is
-first_due-is_first i (b ∷ bs) (suc j) t is = search (rules, sooner-by_second, option_map, first_due-is_first (suc i) bs j t is)
+first_due-is_first i (b ∷ bs) (suc j) t is =
+    search (rules, sooner-by_second, option_map, first_due-is_first (suc i) bs j t is)
 
 -- ---- none is due
 
@@ -101,7 +104,8 @@ pub part-of_attempt : (bs : List BallSwitch) (timeout : Option ℕ) → get_or (
 part-of_attempt [] timeout = refl
 part-of_attempt (b ∷ bs) timeout = part-of_attempt bs timeout
 
-pub part-past : (bs : List BallSwitch) (timeout : Option ℕ) (k : ℕ) → length bs < k → get_or (parts bs timeout) k None ≡ None
+pub part-past : (bs : List BallSwitch) (timeout : Option ℕ) (k : ℕ) → length bs < k
+    → get_or (parts bs timeout) k None ≡ None
 part-past [] timeout (suc k) past = refl
 part-past (b ∷ bs) timeout (suc k) past = part-past bs timeout k (omega (arith, past))
 part-past _ timeout zero past = absurd (omega (arith, past))

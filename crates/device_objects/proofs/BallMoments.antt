@@ -1,5 +1,7 @@
 -- When ball devices are due.
-use Rattle.std.proofs.Common.{rules, ◌≡◌, ℕ, zero, suc, ◌+◌, ◌<◌, ◌≤◌, min, ◌⊎◌, inl, inr, Bool, true, false, Option, None, Some, IfSome, is_some, List, [], ◌∷◌, length, get_or, set, option_map, nat_lt, if◌then◌else◌, refl, sym, ap, ◌∙◌, subst, arith}
+use Rattle.std.proofs.Common.{rules, ◌≡◌, ℕ, zero, suc, ◌+◌, ◌<◌, ◌≤◌, min, ◌⊎◌, inl, inr, Bool, true, false, Option}
+use Rattle.std.proofs.Common.{None, Some, IfSome, is_some, List, [], ◌∷◌, length, get_or, set, option_map, nat_lt}
+use Rattle.std.proofs.Common.{if◌then◌else◌, refl, sym, ap, ◌∙◌, subst, arith}
 use Rattle.std.proofs.lemmas.{Bool.{cases_lt, le-ltb, lt-ltb, ltb-true, ltb-false}, List.{length-map, length-set}}
 use Rattle.std.proofs.lemmas.Option.{IfSome_then, MatchOption-from_none, none-some, same_Some}
 use Rattle.plan_tables.specs.{declared.devices.{Act.Act, BallSettings.BallSettings}, Devices.IsBallDeviceWithin}
@@ -7,9 +9,14 @@ use Rattle.plan_tables.specs.declared.devices.Act.TheVariants as acts
 use Rattle.device_objects.specs.declared.{device.Call.Call, state.{BallState.BallState, World.World}}
 use Rattle.device_objects.specs.declared.device.Call.TheVariants as calls
 use Rattle.device_objects.specs.declared.state.{BallSwitch.BallSwitch, Eject.{Eject, TheVariants.Idle}}
-use Rattle.device_objects.specs.BallDevice.{empty, switch_at, set_switch, first_due, first_due_from, timeout_of, earlier, due_of, part_due, is_timeout_first, entered, attempt, can_begin, begin, after, time_out, confirm, delay, switched, turned, gone, count, count_due, fire, fire_part, requested, act_step, halted, ball_device, ball_step, moments}
-use Rattle.device_objects.specs.Laws.{IsDoneIn, IsFirstPartOf, FiresFirstPartOf}
-use Rattle.device_objects.proofs.BallDue.{not_due-none, first_due-none, first_due-is_due, first_due-is_first, first_due-is_lowest, due-inside, part-of_switch, part-of_attempt, part-past, switch-is_part, which_part}
+use Rattle.device_objects.specs.BallDevice.{empty, switch_at, set_switch, first_due, first_due_from, timeout_of}
+use Rattle.device_objects.specs.BallDevice.{earlier, due_of, part_due, is_timeout_first, entry_list, attempt, can_begin}
+use Rattle.device_objects.specs.BallDevice.{begin, after, time_out, confirm, delay, switch_level, turn_over, lose_sight}
+use Rattle.device_objects.specs.BallDevice.{count, count_due, fire, fire_part, request, act_step, halt, ball_device}
+use Rattle.device_objects.specs.{BallDevice.{ball_step, moments}, Laws.{IsDoneIn, IsFirstPartOf, FiresFirstPartOf}}
+use Rattle.device_objects.proofs.BallDue.{not_due-none, first_due-none, first_due-is_due, first_due-is_first}
+use Rattle.device_objects.proofs.BallDue.{first_due-is_lowest, due-inside, part-of_switch, part-of_attempt, part-past}
+use Rattle.device_objects.proofs.BallDue.{switch-is_part, which_part}
 
 -- ---- what a step arms
 
@@ -57,7 +64,7 @@ module _ (d : BallSettings) (now : ℕ) (limits : IsBallDeviceWithin d) (old : B
   confirm-later : (eject : Eject) (s : BallState) → IsLater s → IsLater (confirm d now eject s).0
   confirm-later eject s h = search rules
 
-  gone-later : (eject : Eject) (s : BallState) → IsEjectLater eject → IsLater s → IsLater (gone d now eject s).0
+  gone-later : (eject : Eject) (s : BallState) → IsEjectLater eject → IsLater s → IsLater (lose_sight d now eject s).0
   gone-later eject s e h = search rules
 
   set-later : (i : ℕ) (b : BallSwitch) (bs : List BallSwitch) → ((due : ℕ) → b.due ≡ Some due → now < due)
@@ -66,11 +73,11 @@ module _ (d : BallSettings) (now : ℕ) (limits : IsBallDeviceWithin d) (old : B
 
   count-later : (i : ℕ) (s : BallState) → IsLater s → IsLater (count d now i s).0
   count-later i s h =
-      let b : BallSwitch = turned (switch_at s i) in
+      let b : BallSwitch = turn_over (switch_at s i) in
       let t : BallState = set_switch i b s in
       let still : IsLater t =
       (set-later i b s.switches (λ due is. absurd (none-some due is)) h.0, h.1, length-set s.switches i b ∙ h.2) in
-      either (switch_at s i).counted (gone d now s.eject t) (after (entered ∷ []) (begin d now t))
+      either (switch_at s i).counted (lose_sight d now s.eject t) (after (entry_list ∷ []) (begin d now t))
       (gone-later s.eject t h.1 still) (begin-later t still)
 
   count_due-later : (first : Option (ℕ × ℕ)) (s : BallState) → IsLater s → IsLater (count_due d now first s).0
@@ -84,10 +91,10 @@ module _ (d : BallSettings) (now : ℕ) (limits : IsBallDeviceWithin d) (old : B
       → (if otherwise then Some (now + delay d active) else None) ≡ Some due → now < due
   noted-later active otherwise due is = search rules
 
-  switched-later : (i : ℕ) (active : Bool) (s : BallState) → IsLater s → IsLater (switched d i active now s)
+  switched-later : (i : ℕ) (active : Bool) (s : BallState) → IsLater s → IsLater (switch_level d i active now s)
   switched-later i active s h = search (rules, one_state, nat_lt, set-later, noted-later, length-set)
 
-  requested-later : (n : ℕ) (s : BallState) → IsLater s → IsLater (requested d n now s).0
+  requested-later : (n : ℕ) (s : BallState) → IsLater s → IsLater (request d n now s).0
   requested-later n s h = search rules
 
   act-later : (act : Act) (s : BallState) → IsLater s → IsLater (act_step d act now s).0
@@ -97,7 +104,7 @@ module _ (d : BallSettings) (now : ℕ) (limits : IsBallDeviceWithin d) (old : B
   act-later (acts.Request n) s h = requested-later n s h
   act-later _ s h = h
 
-  halted-later : (s : BallState) → IsLater s → IsLater (halted s)
+  halted-later : (s : BallState) → IsLater s → IsLater (halt s)
   halted-later s h = search (rules, none-some, not_due-none, idle, length-map)
 
   step-later : (call : Call) (s : BallState) → IsLater s → IsLater (ball_step d call now s).0
@@ -166,7 +173,8 @@ module _ (d : BallSettings) (now : ℕ) (limits : IsBallDeviceWithin d) where
   time_out-switches : (eject : Eject) (s : BallState) → (time_out d now eject s).0.switches ≡ s.switches
   time_out-switches eject s = search rules
 
-  counted-switches : (i : ℕ) (s : BallState) → (count d now i s).0.switches ≡ set s.switches i (turned (switch_at s i))
+  counted-switches : (i : ℕ) (s : BallState)
+      → (count d now i s).0.switches ≡ set s.switches i (turn_over (switch_at s i))
   counted-switches i s = search rules
 
   timeout-done : (s : BallState) (t due : ℕ) → timeout_of s.eject ≡ Some t → due ≡ t
@@ -178,7 +186,8 @@ module _ (d : BallSettings) (now : ℕ) (limits : IsBallDeviceWithin d) where
       record {
         part = length s.switches;
         due = part-at_attempt s (length s.switches) refl ∙ is ∙ ap Some (sym same);
-        done = subst (λ (o : Option ℕ). IfSome o (λ later. now < later)) (sym at) (time_out-after s.eject s (ap is_some is));
+        later_part = subst (λ (o : Option ℕ). IfSome o (λ later. now < later)) (sym at)
+            (time_out-after s.eject s (ap is_some is));
       }
 
   count-done : (s : BallState) (a : ℕ × ℕ) (due : ℕ) → first_due s ≡ Some a → due ≡ a.0
@@ -187,14 +196,14 @@ module _ (d : BallSettings) (now : ℕ) (limits : IsBallDeviceWithin d) where
       let next : BallState = (count d now a.1 s).0 in
       let within : a.1 < length s.switches = due-inside s.switches a.1 a.0 (switch-is_due s a is) in
       let long : length next.switches ≡ length s.switches =
-      ap length (counted-switches a.1 s) ∙ length-set s.switches a.1 (turned (switch_at s a.1)) in
+      ap length (counted-switches a.1 s) ∙ length-set s.switches a.1 (turn_over (switch_at s a.1)) in
       let quiet : (switch_at next a.1).due ≡ None =
       ap (λ switches. (get_or switches a.1 empty).due) (counted-switches a.1 s)
-      ∙ turned-quiet s.switches a.1 (turned (switch_at s a.1)) refl in
+      ∙ turned-quiet s.switches a.1 (turn_over (switch_at s a.1)) refl in
       record {
         part = a.1;
         due = first-is_part s a is ∙ ap Some (sym same);
-        done = MatchOption-from_none (part_due next a.1) (λ later. now < later)
+        later_part = MatchOption-from_none (part_due next a.1) (λ later. now < later)
             (part-of_switch next.switches (timeout_of next.eject) a.1 (omega (arith, within, long)) ∙ quiet);
       }
 
@@ -293,7 +302,8 @@ module _ (d : BallSettings) (now : ℕ) (s : BallState) where
   fires None None at over = tt
   fires None (Some t) at over = (
     length s.switches,
-    attempt-first t over (λ i m due. let by = first_due-is_first 0 s.switches i m due in absurd (none-some by.0 (sym at ∙ by.1))),
+    attempt-first t over (λ i m due. let by = first_due-is_first 0 s.switches i m due
+        in absurd (none-some by.0 (sym at ∙ by.1))),
     attempt-fires,
   )
   fires (Some a) None at over =
@@ -312,7 +322,8 @@ module _ (d : BallSettings) (now : ℕ) (s : BallState) where
           let before : t < a.0 = ltb-true t a.0 is in
           let least : t ≡ min a.0 t = omega (arith, before) in (
             length s.switches,
-            subst (λ m. IsFirstPartOf (moments s) m (length s.switches)) least (attempt-first t over (after_first before)),
+            subst (λ m. IsFirstPartOf (moments s) m (length s.switches)) least
+                (attempt-first t over (after_first before)),
             attempt-fires,
           )
       one_of false is =
@@ -320,7 +331,8 @@ module _ (d : BallSettings) (now : ℕ) (s : BallState) where
           let least : a.0 ≡ min a.0 t = omega (arith, before) in (
             a.1,
             subst (λ m. IsFirstPartOf (moments s) m a.1) least
-                (switch-first a at (λ m due. let same : t ≡ m = same_Some t m (sym over ∙ due) in omega (arith, before, same))),
+                (switch-first a at (λ m due. let same : t ≡ m = same_Some t m (sym over ∙ due)
+                in omega (arith, before, same))),
             switch-fires a at,
           )
 
@@ -332,5 +344,5 @@ ball-fires_first d now world s =
 
 -- ---- when its mode has stopped
 
-pub ball-stopped_quiet : (s : BallState) → due_of (halted s) ≡ None
+pub ball-stopped_quiet : (s : BallState) → due_of (halt s) ≡ None
 ball-stopped_quiet s = ap (λ first. earlier (option_map (λ (a : ℕ × ℕ). a.0) first) None) (first_due-none 0 s.switches)

@@ -1,5 +1,6 @@
 -- Ball devices keep their shape.
-use Rattle.std.proofs.Common.{rules, ◌≡◌, ℕ, ◌+◌, ◌-◌, ◌<◌, ◌≤◌, inl, inr, max, Bool, true, false, Option, None, Some, unwrap_or, List, length, get_or, drop, map, nat_lt, if◌then◌else◌, sym, ap, ◌∙◌, arith}
+use Rattle.std.proofs.Common.{rules, ◌≡◌, ℕ, ◌+◌, ◌-◌, ◌<◌, ◌≤◌, inl, inr, max, Bool, true, false, Option, None, Some}
+use Rattle.std.proofs.Common.{unwrap_or, List, length, get_or, drop, map, nat_lt, if◌then◌else◌, sym, ap, ◌∙◌, arith}
 use Rattle.std.{specs.List.All, proofs.lemmas.{Bool.{cases_lt, ltb-true}, Option.none-some}}
 use Rattle.std.proofs.lemmas.List.{drop-map, get_or-drop, get_or_past, length-drop, length-map, length-set, drop-set-lt}
 use Rattle.std.proofs.lemmas.List.Elements.{All-drop, All-map, All-replicate, All-same, All-weaker}
@@ -8,8 +9,11 @@ use Rattle.plan_tables.specs.declared.devices.Act.TheVariants as acts
 use Rattle.device_objects.specs.declared.{device.Call.Call, state.Eject.{Eject, TheVariants.Idle}}
 use Rattle.device_objects.specs.declared.device.Call.TheVariants as calls
 use Rattle.device_objects.specs.declared.state.{BallSwitch.BallSwitch, BallState.BallState}
-use Rattle.device_objects.specs.BallDevice.{empty, first_state, set_switch, has_ball, first_due, can_begin, begin, ended, may_try_again, next_number, greatest_attempt, time_out, confirm, switched, gone, count, count_due, fire, requested, act_step, halted, not_due, ball_step}
-use Rattle.device_objects.{specs.BallDevice.{IsAttempt, IsEjectOf, HasBallShape}, proofs.BallDue.first_due-is_due}
+use Rattle.device_objects.specs.BallDevice.{empty, first_state, set_switch, has_ball, first_due, can_begin, begin}
+use Rattle.device_objects.specs.BallDevice.{end_eject, may_try_again, next_number, greatest_attempt, time_out, confirm}
+use Rattle.device_objects.specs.BallDevice.{switch_level, lose_sight, count, count_due, fire, request, act_step, halt}
+use Rattle.device_objects.specs.BallDevice.{not_due, ball_step, IsAttempt, IsEjectOf, HasBallShape}
+use Rattle.device_objects.proofs.BallDue.{first_due-is_due}
 
 -- ---- ball switches that a device does not have
 
@@ -83,7 +87,7 @@ module _ (d : BallSettings) where
   begin-shape : (now : ℕ) (s : BallState) → HasBallShape d s → HasBallShape d (begin d now s).0
   begin-shape now s shape = search rules
 
-  pub ended-shape : (s : BallState) → HasBallShape d s → HasBallShape d (ended s)
+  pub ended-shape : (s : BallState) → HasBallShape d s → HasBallShape d (end_eject s)
   ended-shape s shape = with_eject s Idle (s.wanted - 1) shape tt (omega (arith, shape.wanted))
 
   time_out-shape : (now : ℕ) (eject : Eject) (s : BallState) → IsEjectOf d eject → HasBallShape d s
@@ -94,13 +98,13 @@ module _ (d : BallSettings) where
       → HasBallShape d (confirm d now eject s).0
   confirm-shape now eject s shape = search rules
 
-  requested-shape : (n now : ℕ) (s : BallState) → HasBallShape d s → HasBallShape d (requested d n now s).0
+  requested-shape : (n now : ℕ) (s : BallState) → HasBallShape d s → HasBallShape d (request d n now s).0
   requested-shape n now s shape = search rules
 
   -- ---- ball switches
 
   gone-shape : (now : ℕ) (eject : Eject) (s : BallState) → IsEjectOf d eject → HasBallShape d s
-      → HasBallShape d (gone d now eject s).0
+      → HasBallShape d (lose_sight d now eject s).0
   gone-shape now eject s is shape = search rules
 
   count-shape : (now i : ℕ) (s : BallState) → i < d.switches → HasBallShape d s → HasBallShape d (count d now i s).0
@@ -110,7 +114,7 @@ module _ (d : BallSettings) where
   pub first_due-within : (s : BallState) (a : ℕ × ℕ) → HasBallShape d s → first_due s ≡ Some a → a.1 < d.switches
   first_due-within s a shape is =
       let at = first_due-is_due 0 s.switches a is in
-      let within : at.0 < d.switches = due-within d.switches s.switches at.0 a.0 shape.unused at.2 in
+      let within : at.0 < d.switches = due-within d.switches s.switches at.0 a.0 shape.rest_is_empty at.2 in
       omega (arith, within, at.1)
 
   count_due-shape : (now : ℕ) (first : Option (ℕ × ℕ)) (s : BallState) → first_due s ≡ first → HasBallShape d s
@@ -121,12 +125,12 @@ module _ (d : BallSettings) where
   fire-shape now s shape = search (rules, one_answer, time_out-shape, count_due-shape)
 
   switched-shape : (i : ℕ) (active : Bool) (now : ℕ) (s : BallState) → HasBallShape d s
-      → HasBallShape d (switched d i active now s)
+      → HasBallShape d (switch_level d i active now s)
   switched-shape i active now s shape = search (rules, one_state, nat_lt, with_switch, ltb-true)
 
   -- ---- steps
 
-  halted-shape : (s : BallState) → HasBallShape d s → HasBallShape d (halted s)
+  halted-shape : (s : BallState) → HasBallShape d s → HasBallShape d (halt s)
   halted-shape s shape = search (rules, length-map, All-same, drop-map, not_due-empty)
 
   act-shape : (act : Act) (now : ℕ) (s : BallState) → HasBallShape d s → HasBallShape d (act_step d act now s).0

@@ -5,11 +5,12 @@ use Rattle.plan_tables.specs.declared.devices.{Act.Act, BallSettings.BallSetting
 use Rattle.plan_tables.specs.Devices.{IsWithinLimits, list_count}
 use Rattle.device_objects.specs.declared.{device.Call.Call, state.{BallState.BallState, Eject.Eject}}
 use Rattle.device_objects.specs.declared.state.DeviceState.TheVariants as states
-use Rattle.device_objects.specs.{Kinds.moments_of, Laws.IsLawful}
-use Rattle.device_objects.specs.BallDevice.{act_step, ball_device, ball_devices, ball_state, ball_step, count_due, fire, moments, time_out}
-use Rattle.device_objects.proofs.{Among.contains, BallAnswers.ball-in, BallShapes.{first_ball-shape, ball_step-shape}}
+use Rattle.device_objects.specs.{Kinds.moments_of, Laws.IsLawful, BallDevice.{moments, time_out}}
+use Rattle.device_objects.specs.BallDevice.{act_step, ball_device, ball_devices, ball_state, ball_step, count_due, fire}
+use Rattle.device_objects.proofs.{Among.contains, BallAnswers.ball-in, BallMoments.ball-stopped_quiet}
+use Rattle.device_objects.proofs.BallShapes.{first_ball-shape, ball_step-shape}
 use Rattle.device_objects.proofs.{BallAttained.ball-comes, InStates.in_states-lawful}
-use Rattle.device_objects.proofs.BallMoments.{ball-arms_later, ball-fired, ball-fires_first, ball-parts_few, ball-stopped_quiet}
+use Rattle.device_objects.proofs.BallMoments.{ball-arms_later, ball-fired, ball-fires_first, ball-parts_few}
 
 -- ---- each effect list that a ball device answers is one of its seven
 
@@ -55,9 +56,9 @@ ball_devices-lawful d =
       short = λ call. search (rules, All-nil, All-cons, All-append);
       silent_stop = refl;
       quiet = refl;
-      stopped = λ now world s shape. ball-stopped_quiet s;
+      stop = λ now world s shape. ball-stopped_quiet s;
       arms = λ limits call now world s part due is. ball-arms_later d call now s limits part due is;
       fires = λ now world s shape. ball-fires_first d now world s;
-      done = λ limits now world s shape. ball-fired d now s limits;
+      later_part = λ limits now world s shape. ball-fired d now s limits;
       few = λ s part shape past. ball-parts_few s part shape.switches past;
     })

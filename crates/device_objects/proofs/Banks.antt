@@ -1,17 +1,25 @@
 -- Banks are lawful.
-use Rattle.std.proofs.Common.{rules, ◌≡◌, ◌≢◌, ◌⊎◌, inl, inr, ℕ, zero, ◌==◌, suc, ◌+◌, ◌-◌, ◌*◌, nat_lt, nat_le, ◌<◌, ◌≤◌, Bool, true, false, not, ◌&&◌, Option, Some, List, [], ◌∷◌, ◌++◌, length, replicate, take, get_or, slice_get, slice_set, if◌then◌else◌, refl, sym, ap, ◌∙◌, arith}
+use Rattle.std.proofs.Common.{rules, ◌≡◌, ◌≢◌, ◌⊎◌, inl, inr, ℕ, zero, ◌==◌, suc, ◌+◌, ◌-◌, ◌*◌, nat_lt, nat_le, ◌<◌}
+use Rattle.std.proofs.Common.{◌≤◌, Bool, true, false, not, ◌&&◌, Option, Some, List, [], ◌∷◌, ◌++◌, length, replicate}
+use Rattle.std.proofs.Common.{take, get_or, slice_get, slice_set, if◌then◌else◌, refl, sym, ap, ◌∙◌, arith}
 use Rattle.std.specs.List.{All, list_all, range_with_len}
-use Rattle.std.proofs.{Math.Nat.mul-le-mul_left, lemmas.{Option.{none-some, slice_get-get_or}, List.Folds.list_all_at}}
-use Rattle.std.proofs.lemmas.Bool.{and_from, and_parts, cases_Bool, eq-eqb, eqb-false, false≢true, leb-true, ltb-true, ne_eqb}
-use Rattle.std.proofs.lemmas.List.{append-nil, get_or-replicate, get_or-set_other, get_or-set_same, get_or-take, length-append, length-drop, length-replicate, length-set, length-take, set-set, take-replicate}
+use Rattle.std.proofs.{Math.Nat.mul-le-mul_left, lemmas.List.{take-replicate, Folds.list_all_at}}
+use Rattle.std.proofs.lemmas.{Option.{none-some, slice_get-get_or}, Bool.ne_eqb}
+use Rattle.std.proofs.lemmas.Bool.{and_from, and_parts, cases_Bool, eq-eqb, eqb-false, false≢true, leb-true, ltb-true}
+use Rattle.std.proofs.lemmas.List.{append-nil, get_or-replicate, get_or-set_other, get_or-set_same, get_or-take}
+use Rattle.std.proofs.lemmas.List.{length-append, length-drop, length-replicate, length-set, length-take, set-set}
 use Rattle.std.proofs.lemmas.List.Elements.{All-cons, All-append, All-drop, All-nil, All-replicate, All-set, All-take}
 use Rattle.plan_tables.specs.declared.devices.{Act.Act, BankSettings.BankSettings, Settings.TheVariants.Bank}
 use Rattle.plan_tables.specs.Devices.{IsWithinLimits, list_count, state_count}
 use Rattle.plan_tables.specs.declared.devices.Act.TheVariants as acts
-use Rattle.device_objects.specs.{declared.state.BankSlot.BankSlot, Outcomes.only_if, Kinds.moments_of, Laws.IsLawful}
-use Rattle.device_objects.specs.Bank.{HasBankShape, advance_where, are_all_in, bank_slots, banks, can_complete, first_slot, gone_on, group_complete, hit, hit_completing, hit_lists, hit_where, is_complete, next_state, of_bank, of_hit, of_hit_in, slot_step, slots, turned}
-use Rattle.device_objects.proofs.Among.{In, here, there, at_last, in_range, in_flat_map, if_holds, by, either, one, all_if, by_test}
-use Rattle.device_objects.proofs.Replicas.{All-flat_map_range, nat_lt-not_zero, not_below_one, one_below, set-replicate, slice_get-replicate}
+use Rattle.device_objects.specs.{declared.state.BankSlot.BankSlot, Laws.IsLawful, Bank.turn_states}
+use Rattle.device_objects.specs.{Outcomes.only_if, Kinds.moments_of}
+use Rattle.device_objects.specs.Bank.{HasBankShape, advance_where, are_all_in, bank_slots, banks, can_complete}
+use Rattle.device_objects.specs.Bank.{first_slot, gone_on, group_complete, hit, hit_completing, hit_lists, hit_where}
+use Rattle.device_objects.specs.Bank.{is_complete, next_state, of_bank, of_hit, of_hit_in, slot_step, slots}
+use Rattle.device_objects.proofs.Among.{In, here, there, at_last, in_range, in_flat_map, if_holds, by, either, one}
+use Rattle.device_objects.proofs.{Among.{all_if, by_test}, Replicas.slice_get-replicate}
+use Rattle.device_objects.proofs.Replicas.{All-flat_map_range, nat_lt-not_zero, not_below_one, one_below, set-replicate}
 use Rattle.device_objects.proofs.SlotLaws.{All-at, Comes, one_of, slotted-lawful}
 use Rattle.device_objects.specs.declared.state.DeviceState.TheVariants as states
 
@@ -29,11 +37,11 @@ module _ (b : BankSettings) where
       → HasBankShape b (record slot { states = states })
   with_states slot states shape long within = (shape.0, long, within)
 
-  turned-length : (k : ℕ) (states : List ℕ) → length (turned b.shots k states) ≡ length states
+  turned-length : (k : ℕ) (states : List ℕ) → length (turn_states b.shots k states) ≡ length states
   turned-length k states = search (rules, length-append, length-drop, length-take)
 
   turned-shape : (slot : BankSlot) (k : ℕ) → HasBankShape b slot
-      → HasBankShape b (record slot { states = turned b.shots k slot.states })
+      → HasBankShape b (record slot { states = turn_states b.shots k slot.states })
   turned-shape slot k shape = search (rules, All-take, with_states, turned-length, All-append, All-drop)
 
   first_slot-shape : (game : ℕ) → HasBankShape b (first_slot b game)
@@ -101,7 +109,8 @@ hit_where-in b i slot (Some true) (Some s) within is =
     either (nat_le s b.last_state) (hit b i s slot) (slot, [])
     (λ known.
     let low = leb-true s b.last_state known in
-    let at : In s (range_with_len 0 (state_count b)) = in_range 0 (state_count b) s (omega arith) (omega (arith, low)) in
+    let at : In s (range_with_len 0 (state_count b)) = in_range 0 (state_count b) s (omega arith) (omega (arith, low))
+    in
     there (if_holds (nat_lt i b.shots) within (in_flat_map (of_hit_in b i) at (hit_now-in b i s slot within is))))
     (λ unknown. here)
 hit_where-in b i slot _ _ within is = here
@@ -147,7 +156,8 @@ module _ (b : BankSettings) where
       (complete_if b.group b.shots (state_count b) (next_state b s) is (omega (arith, next-low)))
 
   hit_in-below : (i s : ℕ) → i < b.shots → s ≤ b.last_state → All (AreBelow count) (of_hit_in b i s)
-  hit_in-below i s within low = search (rules, one, hits-below, by_test, nat_lt, All-append, all_if, completing-below, and_parts)
+  hit_in-below i s within low =
+      search (rules, one, hits-below, by_test, nat_lt, All-append, all_if, completing-below, and_parts)
 
   bank_act-below : (act : Act) → All (AreBelow count) (of_bank b act)
   bank_act-below (acts.Hit i) =

@@ -75,9 +75,9 @@ module _ {S : Type 0} (state_of : S → DeviceState) (held : DeviceState → Opt
     short = by_act-all (λ answer. length answer ≤ 4) m.answers (omega arith) short;
     silent_stop = refl;
     quiet = refl;
-    stopped = λ now world s shape. refl;
+    stop = λ now world s shape. refl;
     arms = λ within call now world s part due is. inl is;
-    done = λ within now world s shape. tt;
+    later_part = λ within now world s shape. tt;
     fires = λ now world s shape. tt;
     few = λ s part shape past. refl;
   }

@@ -1,29 +1,32 @@
 -- Counters are lawful.
-use Rattle.std.proofs.Common.{rules, ◌≡◌, inl, ℕ, Bool, true, false, not, ◌&&◌, None, Some, List, [], ◌∷◌, is_some, ℤ, pos, refl}
-use Rattle.std.{specs.List.All, proofs.lemmas.List.Elements.{All-nil, All-cons, All-append}}
+use Rattle.std.proofs.Common.{rules, ◌≡◌, inl, ℕ, Bool, true, false, not, ◌&&◌, None, Some, List, [], ◌∷◌, is_some, ℤ}
+use Rattle.std.{proofs.{Common.{pos, refl}, lemmas.List.Elements.{All-nil, All-cons, All-append}}, specs.List.All}
 use Rattle.plan_tables.specs.declared.devices.{Act.Act, Settings.TheVariants.Counter}
 use Rattle.plan_tables.specs.Devices.{IsWithinLimits, list_count}
 use Rattle.plan_tables.specs.declared.devices.Act.TheVariants as acts
 use Rattle.machine_settings.specs.declared.settings.CounterSettings.{CounterSettings}
 use Rattle.machine_settings.specs.{Limits.IsEndWithin, Ends.is_at_end}
-use Rattle.device_objects.specs.{declared.state.CounterSlot.CounterSlot, Blocks.{updated, completing, going_on}}
-use Rattle.device_objects.specs.{Values.moved, Outcomes.only_if, Kinds.moments_of, Laws.IsLawful}
-use Rattle.device_objects.specs.Counter.{counter_slots, counters, completed, counted, is_early, of_counter, slot_step, slots}
+use Rattle.device_objects.specs.declared.state.CounterSlot.{CounterSlot}
+use Rattle.device_objects.specs.{Blocks.{update, completing, going_on}, Values.move_value, Outcomes.only_if}
+use Rattle.device_objects.specs.{Kinds.moments_of, Laws.IsLawful, Counter.{slot_step, slots}}
+use Rattle.device_objects.specs.Counter.{counter_slots, counters, after_completion, count_hit, is_early, of_counter}
 use Rattle.device_objects.proofs.Among.{In, here, there, if_holds, either, one, all_if, if_true, if_false}
 use Rattle.device_objects.proofs.BlockLaws.{reset-in, no_player-in, resets}
 use Rattle.device_objects.proofs.{Ends.{at_end-some, ends_at, goes_on_at}, SlotLaws.{Comes, slotted-lawful}}
 use Rattle.device_objects.specs.declared.state.DeviceState.TheVariants as states
 
 module _ (c : CounterSettings) where
-  hit-in : (slot : CounterSlot) → In (counted c slot).1 (of_counter c acts.Count)
-  hit-in slot = either (is_at_end c.direction c.complete slot.value) (completed c slot, completing) (slot, going_on)
+  hit-in : (slot : CounterSlot) → In (count_hit c slot).1 (of_counter c acts.Count)
+  hit-in slot = either (is_at_end c.direction c.complete slot.value) (after_completion c slot, completing)
+      (slot, going_on)
       (λ ends. there (there (if_holds (is_some c.complete) (at_end-some c.direction c.complete slot.value ends) here)))
       (λ goes_on. there here)
 
   answer-in : (act : Act) (now : ℕ) (slot : CounterSlot) → In (slot_step c act now slot).1 (of_counter c act)
   answer-in acts.Count now slot =
-      let moves : CounterSlot = record slot { value = moved c.direction c.interval slot.value; last_hit = Some now } in
-      either (slot.enabled && not (is_early c.window slot.last_hit now)) (counted c moves) (slot, [])
+      let moves : CounterSlot = record slot
+      { value = move_value c.direction c.interval slot.value; last_hit = Some now } in
+      either (slot.enabled && not (is_early c.window slot.last_hit now)) (count_hit c moves) (slot, [])
       (λ counts. hit-in moves) (λ not. here)
   answer-in acts.Reset now slot = reset-in c.block
   answer-in acts.Restart now slot = reset-in c.block
@@ -46,20 +49,29 @@ module _ (c : CounterSettings) where
   hits : IsEndWithin c.complete → All (Comes (slots c) acts.Count) (of_counter c acts.Count)
   hits within =
       let Answer : List ℕ → Type 0 = Comes (slots c) acts.Count in
-      let past : ℤ → CounterSlot = λ value. record (slot_with true (moved c.direction c.interval value)) { last_hit = Some 0 } in
+      let past : ℤ → CounterSlot = λ value. record (slot_with true (move_value c.direction c.interval value))
+      { last_hit = Some 0 } in
       let going : Answer going_on =
       (let from = goes_on_at c.direction c.complete c.interval within in
-      answered acts.Count going_on true from.0 (if_false (is_at_end c.direction c.complete (past from.0).value) (completed c (past from.0), completing) (past from.0, going_on) from.1)) in
+      answered acts.Count going_on true from.0
+      (if_false (is_at_end c.direction c.complete (past from.0).value)
+      (after_completion c (past from.0), completing) (past from.0, going_on) from.1)) in
       let done : is_some c.complete ≡ true → Answer completing =
       (λ some. let from = ends_at c.direction c.direction c.complete c.interval within some in
-      answered acts.Count completing true from.0 (if_true (is_at_end c.direction c.complete (past from.0).value) (completed c (past from.0), completing) (past from.0, going_on) from.1)) in
-      All-cons Answer [] (going_on ∷ only_if (is_some c.complete) (completing ∷ [])) (answered acts.Count [] false (pos 0) refl)
-      (All-cons Answer going_on (only_if (is_some c.complete) (completing ∷ [])) going (all_if Answer (is_some c.complete) (completing ∷ []) (λ some. one Answer completing (done some))))
+      answered acts.Count completing true from.0
+      (if_true (is_at_end c.direction c.complete (past from.0).value) (after_completion c (past from.0), completing)
+      (past from.0, going_on) from.1)) in
+      All-cons Answer [] (going_on ∷ only_if (is_some c.complete) (completing ∷ []))
+      (answered acts.Count [] false (pos 0) refl)
+      (All-cons Answer going_on (only_if (is_some c.complete) (completing ∷ [])) going
+      (all_if Answer (is_some c.complete) (completing ∷ []) (λ some. one Answer completing (done some))))
 
   come : IsEndWithin c.complete → (act : Act) → All (Comes (slots c) act) (of_counter c act)
   come within acts.Count = hits within
-  come within acts.Reset = resets (slots c) c.block refl acts.Reset (answered acts.Reset (updated ∷ []) true (pos 0) refl)
-  come within acts.Restart = resets (slots c) c.block refl acts.Restart (answered acts.Restart (updated ∷ []) true (pos 0) refl)
+  come within acts.Reset = resets (slots c) c.block refl acts.Reset
+      (answered acts.Reset (update ∷ []) true (pos 0) refl)
+  come within acts.Restart = resets (slots c) c.block refl acts.Restart
+      (answered acts.Restart (update ∷ []) true (pos 0) refl)
   come within act = one (Comes (slots c) act) [] (answered act [] true (pos 0) refl)
 
   pub counters-lawful : IsLawful (counters c) moments_of (IsWithinLimits (Counter c)) (list_count (Counter c))

@@ -1,5 +1,7 @@
 -- Sixteen flags, and the bits of the number that keeps them.
-use Rattle.std.proofs.Common.{rules, ◌≡◌, ◌≢◌, ℕ, zero, suc, ◌+◌, ◌^◌, ◌<◌, ◌≤◌, ◌==◌, nat_le, min, inl, inr, Bool, true, false, None, Some, List, [], ◌∷◌, length, take, replicate, set, get_or, slice_get, refl, sym, ap, ◌∙◌, subst, arith}
+use Rattle.std.proofs.Common.{rules, ◌≡◌, ◌≢◌, ℕ, zero, suc, ◌+◌, ◌^◌, ◌<◌, ◌≤◌, ◌==◌, nat_le, min, inl, inr, Bool}
+use Rattle.std.proofs.Common.{true, false, None, Some, List, [], ◌∷◌, length, take, replicate, set, get_or, slice_get}
+use Rattle.std.proofs.Common.{refl, sym, ap, ◌∙◌, subst, arith}
 use Rattle.std.specs.{Int.{bit_at, trailing_ones, w16}, List.list_all}
 use lib.Count.{count_trailing_zeros}
 use Rattle.std.proofs.lemmas.Bool.{and_from, cases_eq, cases_lt, eq-eqb, le-leb, leb-true, leb-false}
@@ -46,7 +48,8 @@ flags-set old new i on within at others =
     (λ k below. elim (cases_eq k i) [
       | inl same ↦
           ap (is_set new) same ∙ at
-          ∙ sym (ap (λ n. get_or (set (flags old) i on) n false) same ∙ get_or-set_same (flags old) i on false (omega (arith, within, own)))
+          ∙ sym (ap (λ n. get_or (set (flags old) i on) n false) same
+          ∙ get_or-set_same (flags old) i on false (omega (arith, within, own)))
       | inr other ↦
           others k below other
           ∙ sym (get_or-set_other (flags old) i k on false other ∙ flags-at old k false below)

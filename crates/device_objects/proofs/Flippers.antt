@@ -34,7 +34,8 @@ come (acts.SwitchOn i) =
     (λ is. answered (acts.SwitchOn i) (on ∷ []) up (if_true (i == 0) (up, on ∷ []) (up, []) is))
 come (acts.SwitchOff i) =
     switch_comes (IsActAnswer flipper (acts.SwitchOff i)) i off (answered (acts.SwitchOff i) [] first_state refl)
-    (λ is. answered (acts.SwitchOff i) (off ∷ []) up (if_true (i == 0) (record up { on = false }, off ∷ []) (up, []) is))
+    (λ is. answered (acts.SwitchOff i) (off ∷ []) up
+    (if_true (i == 0) (record up { on = false }, off ∷ []) (up, []) is))
 come act = one (IsActAnswer flipper act) [] (answered act [] first_state refl)
 
 pub flippers-lawful : IsLawful flippers moments_of (IsWithinLimits Flipper) (list_count Flipper)

@@ -58,8 +58,8 @@ module _ {S : Type 0} (state_of : S → DeviceState) (held : DeviceState → Opt
     short = laws.short;
     silent_stop = laws.silent_stop;
     quiet = rw (due kind.first) laws.quiet;
-    stopped = λ now world. on_held (λ state. (moments_of (outer.step calls.ModeStop now world state).0).due ≡ None)
-        (λ s at. rw (back s) (rw (due (kind.step calls.ModeStop now world s).0) (laws.stopped now world s at)));
+    stop = λ now world. on_held (λ state. (moments_of (outer.step calls.ModeStop now world state).0).due ≡ None)
+        (λ s at. rw (back s) (rw (due (kind.step calls.ModeStop now world s).0) (laws.stop now world s at)));
     arms = λ within call now world state k t is. arms within call now world state k t (held state) refl is;
     fires = λ now world. on_held
         (λ state. IfSome (moments_of state).due (FiresFirstPartOf outer moments_of now world state))
@@ -68,10 +68,10 @@ module _ {S : Type 0} (state_of : S → DeviceState) (held : DeviceState → Opt
           first = rw (due s) f.first;
           step = rw (back s) (ap (put_back state_of) f.step);
         })));
-    done = λ within now world. on_held (λ state. IfSome (moments_of state).due
+    later_part = λ within now world. on_held (λ state. IfSome (moments_of state).due
         (λ t. IsDoneIn now t (moments_of state) (moments_of (outer.step calls.Fire now world state).0)))
         (λ s at. rw (back s) (rw (due s) (rw (due (kind.step calls.Fire now world s).0)
-        (laws.done within now world s at))));
+        (laws.later_part within now world s at))));
     few = λ state k. on_held (λ st. 17 ≤ k → (moments_of st).part k ≡ None)
         (λ s at past. rw (due s) (laws.few s k at past)) state;
   }

@@ -4,7 +4,9 @@ use Rattle.plan_tables.specs.{declared.devices.Settings.Settings, Devices.{IsWit
 use Rattle.plan_tables.specs.declared.devices.Settings.TheVariants as kinds
 use Rattle.device_objects.specs.declared.{device.Call.Call, state.{DeviceState.DeviceState, World.World}}
 use Rattle.device_objects.specs.{Kinds.{kind_of, moments_of}, DeviceStep.{device_step, due_of, part_due}}
-use Rattle.device_objects.specs.Laws.{AnswersAreOutcomes, ArmsLaterMoments, DevicesAreDueWithTheirParts, FirstPartsFire, IsLawful, NothingIsDue, OutcomesAreOfTheRow, OutcomesComeAbout, StatesKeepTheirShape, StopsAreSilent}
+use Rattle.device_objects.specs.Laws.{AnswersAreOutcomes, ArmsLaterMoments, DevicesAreDueWithTheirParts, FirstPartsFire}
+use Rattle.device_objects.specs.Laws.{IsLawful, NothingIsDue, OutcomesAreOfTheRow, OutcomesComeAbout}
+use Rattle.device_objects.specs.Laws.{StatesKeepTheirShape, StopsAreSilent}
 use Rattle.device_objects.proofs.{Counters.counters-lawful, Flippers.flippers-lawful}
 use Rattle.device_objects.proofs.{Accruals.accruals-lawful, Saves.ball_saves-lawful}
 use Rattle.device_objects.proofs.{Sequences.sequences-lawful, Multiballs.multiballs-lawful}
@@ -50,14 +52,14 @@ stops_are_silent = λ s. (kinds_are_lawful s).silent_stop
 pub arms_later_moments : ArmsLaterMoments
 arms_later_moments = record {
   step = λ s call now world state within. (kinds_are_lawful s).arms within call now world state;
-  fired = λ s now world state within. (kinds_are_lawful s).done within now world state;
+  fire = λ s now world state within. (kinds_are_lawful s).later_part within now world state;
 }
 
 pub first_parts_fire : FirstPartsFire
 first_parts_fire = λ s. (kinds_are_lawful s).fires
 
 pub nothing_is_due : NothingIsDue
-nothing_is_due = record { first = λ s. (kinds_are_lawful s).quiet; stopped = λ s. (kinds_are_lawful s).stopped }
+nothing_is_due = record { first = λ s. (kinds_are_lawful s).quiet; stop = λ s. (kinds_are_lawful s).stop }
 
 -- ---- moments
 

@@ -6,8 +6,8 @@ use Rattle.plan_tables.specs.Devices.{IsWithinLimits, list_count}
 use Rattle.plan_tables.specs.declared.devices.Act.TheVariants as acts
 use Rattle.machine_settings.specs.declared.settings.MultiballSettings.{MultiballSettings}
 use Rattle.device_objects.specs.declared.state.{MultiballState.MultiballState, World.World}
-use Rattle.device_objects.specs.{Kinds.moments_of, Laws.IsLawful}
-use Rattle.device_objects.specs.Multiball.{act_step, ended, multiball, multiball_state, multiballs, of_multiball, started}
+use Rattle.device_objects.specs.{Kinds.moments_of, Laws.IsLawful, Multiball.start_list}
+use Rattle.device_objects.specs.Multiball.{act_step, end_list, multiball, multiball_state, multiballs, of_multiball}
 use Rattle.device_objects.proofs.{Among.{In, here, there, one, two}, Calm.{IsActAnswer, calm-lawful}}
 use Rattle.device_objects.specs.declared.state.DeviceState.TheVariants as states
 
@@ -25,11 +25,11 @@ answered act ls b is =
 
 come : (act : Act) → All (IsActAnswer multiball act) (of_multiball act)
 come acts.Start =
-    two (IsActAnswer multiball acts.Start) [] (started ∷ []) (answered acts.Start [] true refl)
-    (answered acts.Start (started ∷ []) false refl)
+    two (IsActAnswer multiball acts.Start) [] (start_list ∷ []) (answered acts.Start [] true refl)
+    (answered acts.Start (start_list ∷ []) false refl)
 come acts.End =
-    two (IsActAnswer multiball acts.End) [] (ended ∷ []) (answered acts.End [] false refl)
-    (answered acts.End (ended ∷ []) true refl)
+    two (IsActAnswer multiball acts.End) [] (end_list ∷ []) (answered acts.End [] false refl)
+    (answered acts.End (end_list ∷ []) true refl)
 come act = one (IsActAnswer multiball act) [] (answered act [] false refl)
 
 pub multiballs-lawful : (m : MultiballSettings)

@@ -1,5 +1,6 @@
 -- Lists of equal elements, the answers in each of some states, and tests of small numbers.
-use Rattle.std.proofs.Common.{rules, ◌≡◌, ℕ, zero, suc, ◌+◌, nat_lt, ◌<◌, Some, List, ◌∷◌, ◌++◌, replicate, slice_get, slice_set, true, false, refl, sym, ap, ◌∙◌, append_assoc, arith}
+use Rattle.std.proofs.Common.{rules, ◌≡◌, ℕ, zero, suc, ◌+◌, nat_lt, ◌<◌, Some, List, ◌∷◌, ◌++◌, replicate, slice_get}
+use Rattle.std.proofs.Common.{slice_set, true, false, refl, sym, ap, ◌∙◌, append_assoc, arith}
 use Rattle.std.specs.List.{All, flat_map, range_with_len}
 use Rattle.std.proofs.lemmas.{Bool.{ltb-true, lt-ltb, true≢false}, Option.slice_get-get_or}
 use Rattle.std.proofs.lemmas.List.{append-nil, get_or-replicate, length-replicate, Elements.{All-nil, All-append}}

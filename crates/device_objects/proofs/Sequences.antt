@@ -1,14 +1,14 @@
 -- Sequences are lawful.
-use Rattle.std.proofs.Common.{rules, ◌≡◌, inl, ℕ, ◌==◌, suc, nat_lt, Bool, true, false, ◌&&◌, List, [], ◌∷◌, if◌then◌else◌, refl, ◌∙◌}
-use Rattle.std.specs.List.{All}
+use Rattle.std.proofs.Common.{rules, ◌≡◌, inl, ℕ, ◌==◌, suc, nat_lt, Bool, true, false, ◌&&◌, List, [], ◌∷◌}
+use Rattle.std.{proofs.Common.{if◌then◌else◌, refl, ◌∙◌}, specs.List.All}
 use Rattle.std.proofs.lemmas.{Bool.{and_from, and_parts, eq-eqb}, List.Elements.{All-nil, All-cons, All-append}}
 use Rattle.plan_tables.specs.declared.devices.{Act.Act, Settings.TheVariants.Sequence}
 use Rattle.plan_tables.specs.Devices.{IsWithinLimits, list_count}
 use Rattle.plan_tables.specs.declared.devices.Act.TheVariants as acts
 use Rattle.machine_settings.specs.declared.settings.StepSettings.{StepSettings}
-use Rattle.device_objects.specs.{declared.state.SequenceSlot.SequenceSlot, Blocks.{updated, completing, going_on}}
-use Rattle.device_objects.specs.{Outcomes.only_if, Kinds.moments_of, Laws.IsLawful}
-use Rattle.device_objects.specs.Sequence.{completed, of_sequence, sequence_slots, sequences, slot_step, slots, stepped}
+use Rattle.device_objects.specs.{declared.state.SequenceSlot.SequenceSlot, Blocks.{update, completing, going_on}}
+use Rattle.device_objects.specs.{Outcomes.only_if, Kinds.moments_of, Laws.IsLawful, Sequence.step_once}
+use Rattle.device_objects.specs.Sequence.{after_completion, of_sequence, sequence_slots, sequences, slot_step, slots}
 use Rattle.device_objects.proofs.Among.{In, here, there, if_holds, by, either, second, one, all_if, if_true}
 use Rattle.device_objects.proofs.{BlockLaws.{reset-in, no_player-in, resets}, SlotLaws.{Comes, slotted-lawful}}
 use Rattle.device_objects.specs.declared.state.DeviceState.TheVariants as states
@@ -17,9 +17,10 @@ module _ (q : StepSettings) where
   answer-in : (act : Act) (now : ℕ) (slot : SequenceSlot) → In (slot_step q act slot).1 (of_sequence q act)
   answer-in (acts.Step i) now slot =
       let next : SequenceSlot = record slot { next = suc i } in
-      either (slot.enabled && (i == slot.next) && nat_lt i q.steps) (stepped q next) (slot, [])
+      either (slot.enabled && (i == slot.next) && nat_lt i q.steps) (step_once q next) (slot, [])
       (λ is. let within = and_parts (slot.enabled && (i == slot.next)) (nat_lt i q.steps) is in
-      there (if_holds (nat_lt i q.steps) within.1 (by (second (suc i == q.steps) (completed q next, completing) (next, going_on)) here)))
+      there (if_holds (nat_lt i q.steps) within.1
+      (by (second (suc i == q.steps) (after_completion q next, completing) (next, going_on)) here)))
       (λ not. here)
   answer-in acts.Reset now slot = reset-in q.block
   answer-in acts.Restart now slot = reset-in q.block
@@ -34,29 +35,35 @@ module _ (q : StepSettings) where
   abbrev slot_at : Bool → ℕ → SequenceSlot
   slot_at enabled next = record { game = 0; enabled = enabled; next = next }
 
-  answered : (act : Act) (lists : List ℕ) (enabled : Bool) (next : ℕ) → (slot_step q act (slot_at enabled next)).1 ≡ lists
+  answered : (act : Act) (lists : List ℕ) (enabled : Bool) (next : ℕ)
+      → (slot_step q act (slot_at enabled next)).1 ≡ lists
       → Comes (slots q) act lists
   answered act lists enabled next answers =
       inl (record { now = 0; slot = slot_at enabled next; shape = tt; answer = answers })
 
-  takes : (i : ℕ) → nat_lt i q.steps ≡ true → Comes (slots q) (acts.Step i) (if suc i == q.steps then completing else going_on)
+  takes : (i : ℕ) → nat_lt i q.steps ≡ true
+      → Comes (slots q) (acts.Step i) (if suc i == q.steps then completing else going_on)
   takes i below =
       let next : SequenceSlot = slot_at true (suc i) in
       answered (acts.Step i) (if suc i == q.steps then completing else going_on) true i
-      (if_true ((i == i) && nat_lt i q.steps) (stepped q next) (slot_at true i, []) (and_from (i == i) (nat_lt i q.steps) (eq-eqb i i refl) below)
-      ∙ second (suc i == q.steps) (completed q next, completing) (next, going_on))
+      (if_true ((i == i) && nat_lt i q.steps) (step_once q next) (slot_at true i, [])
+      (and_from (i == i) (nat_lt i q.steps) (eq-eqb i i refl) below)
+      ∙ second (suc i == q.steps) (after_completion q next, completing) (next, going_on))
 
   come : (act : Act) → All (Comes (slots q) act) (of_sequence q act)
   come (acts.Step i) =
       let Answer : List ℕ → Type 0 = Comes (slots q) (acts.Step i) in
-      All-cons Answer [] (only_if (nat_lt i q.steps) ((if suc i == q.steps then completing else going_on) ∷ [])) (answered (acts.Step i) [] false 0 refl)
-      (all_if Answer (nat_lt i q.steps) ((if suc i == q.steps then completing else going_on) ∷ []) (λ below. one Answer (if suc i == q.steps then completing else going_on) (takes i below)))
-  come acts.Reset = resets (slots q) q.block refl acts.Reset (answered acts.Reset (updated ∷ []) true 0 refl)
-  come acts.Restart = resets (slots q) q.block refl acts.Restart (answered acts.Restart (updated ∷ []) true 0 refl)
+      All-cons Answer [] (only_if (nat_lt i q.steps) ((if suc i == q.steps then completing else going_on) ∷ []))
+      (answered (acts.Step i) [] false 0 refl)
+      (all_if Answer (nat_lt i q.steps) ((if suc i == q.steps then completing else going_on) ∷ [])
+      (λ below. one Answer (if suc i == q.steps then completing else going_on) (takes i below)))
+  come acts.Reset = resets (slots q) q.block refl acts.Reset (answered acts.Reset (update ∷ []) true 0 refl)
+  come acts.Restart = resets (slots q) q.block refl acts.Restart (answered acts.Restart (update ∷ []) true 0 refl)
   come act = one (Comes (slots q) act) [] (answered act [] true 0 refl)
 
   pub sequences-lawful : IsLawful (sequences q) moments_of (IsWithinLimits (Sequence q)) (list_count (Sequence q))
   sequences-lawful =
       slotted-lawful states.Sequence sequence_slots (slots q) (IsWithinLimits (Sequence q)) 3 (λ held. refl)
-      (λ state held is. search rules) (λ held. refl) (λ game. tt) (λ act now s shape. tt) answer-in none-in (λ within. come)
+      (λ state held is. search rules) (λ held. refl) (λ game. tt) (λ act now s shape. tt) answer-in none-in
+      (λ within. come)
       (λ act. search rules) (λ act. search (rules, All-nil, All-cons, All-append))

@@ -1,11 +1,13 @@
 -- Kinds whose state is slots are lawful, where the steps of a slot are.
-use Rattle.std.proofs.Common.{rules, ◌≡◌, ℕ, ◌<◌, ◌≤◌, ◌⊎◌, inl, inr, Bool, true, Option, None, Some, List, [], ◌∷◌, length, replicate, slice_get, slice_set, if◌then◌else◌, refl, sym, ap, subst, ◌∙◌, arith}
+use Rattle.std.proofs.Common.{rules, ◌≡◌, ℕ, ◌<◌, ◌≤◌, ◌⊎◌, inl, inr, Bool, true, Option, None, Some, List, [], ◌∷◌}
+use Rattle.std.proofs.Common.{length, replicate, slice_get, slice_set, if◌then◌else◌, refl, sym, ap, subst, ◌∙◌, arith}
 use Rattle.std.{specs.List.All, proofs.lemmas.{Option.{get_or_from_slice_get, slice_get_within}, Bool.eq-eqb}}
 use Rattle.std.proofs.lemmas.List.{length-set, Elements.{All-nil, All-replicate, All-set, All-weaker}}
 use Rattle.plan_tables.specs.declared.devices.Act.{Act}
 use Rattle.device_objects.specs.declared.state.{DeviceState.DeviceState, World.World}
-use Rattle.device_objects.specs.{Kinds.moments_of, KindModel.{in_states, never, never_due}, Laws.IsLawful}
-use Rattle.device_objects.specs.Slots.{SlotModel, current, first_slots, is_of_other_game, slot_in_use, step_at, step_in_use, of_slots}
+use Rattle.device_objects.specs.{Kinds.moments_of, Laws.IsLawful, Slots.{step_in_use, of_slots}}
+use Rattle.device_objects.specs.KindModel.{in_states, never, never_due}
+use Rattle.device_objects.specs.Slots.{SlotModel, current, first_slots, is_of_other_game, slot_in_use, step_at}
 use Rattle.device_objects.proofs.{Among.{In, of_among}, Calm.{IsActAnswer, calm-lawful}}
 
 -- the lists are what an act answers in some slot
@@ -107,7 +109,8 @@ module _ {S : Type 0} (state_of : List S → DeviceState) (held : DeviceState �
   acted-shape : (act : Act) (now : ℕ) (world : World) (s : S) → m.IsShaped s → m.IsShaped (acted act now world s).0
   acted-shape act now world s is =
       step act now (current m world s)
-      (one_of m.IsShaped (is_of_other_game m.persist world (m.game_of s)) (m.first world.games) s (first world.games) is)
+      (one_of m.IsShaped (is_of_other_game m.persist world (m.game_of s)) (m.first world.games) s (first world.games)
+      is)
 
   come : (act : Act) (ls : List ℕ) → Comes m act ls → IsActAnswer (of_slots m) act ls
   come act ls (inl a) =

@@ -1,13 +1,13 @@
 -- An accrual: its steps are done in any order.
-use Rattle.std.specs.Prelude.{◌≡◌, ℕ, nat_lt, Bool, true, false, not, ◌&&◌, if◌then◌else◌, Option, None, Some, List, [], ◌∷◌, ◌++◌, length, replicate, take, slice_get, slice_set}
-use Rattle.std.specs.List.{list_all}
+use Rattle.std.specs.Prelude.{◌≡◌, ℕ, nat_lt, Bool, true, false, not, ◌&&◌, if◌then◌else◌, Option, None, Some, List, []}
+use Rattle.std.specs.{Prelude.{◌∷◌, ◌++◌, length, replicate, take, slice_get, slice_set}, List.list_all}
 use Rattle.plan_tables.specs.declared.devices.Act.{Act}
 use Rattle.plan_tables.specs.declared.devices.Act.TheVariants as acts
 use Rattle.machine_settings.specs.declared.settings.StepSettings.{StepSettings}
 use Rattle.device_objects.specs.declared.state.{AccrualSlot.AccrualSlot, DeviceState.DeviceState}
 use Rattle.device_objects.specs.declared.state.DeviceState.TheVariants as states
 use Rattle.device_objects.specs.{Slots.{SlotModel, of_slots}, KindModel.{Kind, in_states, never_due}, Outcomes.only_if}
-use Rattle.device_objects.specs.Blocks.{updated, hit, complete, completing, going_on, of_block}
+use Rattle.device_objects.specs.Blocks.{update, hit, complete, completing, going_on, of_block}
 
 -- no step is done
 abbrev pub none_done : List Bool
@@ -17,11 +17,12 @@ none_done = replicate 16 false
 abbrev pub first_slot : StepSettings → ℕ → AccrualSlot
 first_slot a game = record { game = game; enabled = a.block.enabled; done = none_done }
 
--- whether there is such a step, and it is not done yet
+-- a mark that is there and is not set
 abbrev pub is_open : Option Bool → Bool
 is_open None = false
 is_open (Some done) = not done
 
+-- whether the accrual has this step, and it is not done yet
 abbrev pub is_step_open : StepSettings → ℕ → List Bool → Bool
 is_step_open a i done = nat_lt i a.steps && is_open (slice_get done i)
 
@@ -29,33 +30,34 @@ is_step_open a i done = nat_lt i a.steps && is_open (slice_get done i)
 abbrev pub are_all_done : StepSettings → List Bool → Bool
 are_all_done a done = list_all (λ d. d) (take a.steps done)
 
--- an accrual that completes
-abbrev pub completed : StepSettings → AccrualSlot → AccrualSlot
-completed a slot = record slot {
+-- an accrual after it has completed: reset and disabled, as its settings say
+abbrev pub after_completion : StepSettings → AccrualSlot → AccrualSlot
+after_completion a slot = record slot {
   enabled = slot.enabled && not a.block.disable_on_complete;
   done = if a.block.reset_on_complete then none_done else slot.done;
 }
 
 -- a step was done
-abbrev pub stepped : StepSettings → AccrualSlot → AccrualSlot × List ℕ
-stepped a slot =
-    if are_all_done a slot.done then (completed a slot, updated ∷ hit ∷ complete ∷ [])
-    else (slot, updated ∷ hit ∷ [])
+abbrev pub step_once : StepSettings → AccrualSlot → AccrualSlot × List ℕ
+step_once a slot =
+    if are_all_done a slot.done then (after_completion a slot, update ∷ hit ∷ complete ∷ [])
+    else (slot, update ∷ hit ∷ [])
 
 abbrev pub slot_step : StepSettings → Act → AccrualSlot → AccrualSlot × List ℕ
 slot_step a (acts.Step i) slot =
     if slot.enabled && is_step_open a i slot.done
-    then stepped a (record slot { done = slice_set slot.done i true })
+    then step_once a (record slot { done = slice_set slot.done i true })
     else (slot, [])
 slot_step a acts.Enable slot = (record slot { enabled = true }, [])
 slot_step a acts.Disable slot = (record slot { enabled = false }, [])
-slot_step a acts.Reset slot = (record slot { done = none_done }, updated ∷ [])
-slot_step a acts.Restart slot = (record slot { done = none_done; enabled = true }, updated ∷ [])
+slot_step a acts.Reset slot = (record slot { done = none_done }, update ∷ [])
+slot_step a acts.Restart slot = (record slot { done = none_done; enabled = true }, update ∷ [])
 slot_step a _ slot = (slot, [])
 
--- the only step of an accrual always completes it
+-- An accrual of one step is completed by it. Of several steps, each may be the last to be done.
 abbrev pub of_accrual : StepSettings → Act → List (List ℕ)
-of_accrual a (acts.Step i) = [] ∷ only_if (nat_lt i a.steps) (only_if (nat_lt 1 a.steps) (going_on ∷ []) ++ completing ∷ [])
+of_accrual a (acts.Step i) = [] ∷ only_if (nat_lt i a.steps)
+    (only_if (nat_lt 1 a.steps) (going_on ∷ []) ++ completing ∷ [])
 of_accrual a act = of_block a.block act
 
 -- a slot of an accrual: with 16 marks

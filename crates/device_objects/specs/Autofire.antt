@@ -1,4 +1,4 @@
--- An autofire coil. What it fires at is its switch 0.
+-- An autofire coil, as of a slingshot: its switch 0 pulses it.
 use Rattle.std.specs.Prelude.{ℕ, ◌==◌, true, false, ◌&&◌, if◌then◌else◌, Option, None, Some, List, [], ◌∷◌}
 use Rattle.plan_tables.specs.declared.devices.Act.{Act}
 use Rattle.plan_tables.specs.declared.devices.Act.TheVariants as acts
@@ -24,7 +24,8 @@ abbrev pub of_autofire : Act → List (List ℕ)
 of_autofire (acts.SwitchOn i) = of_switch i fires
 of_autofire _ = silent
 
--- the start and the stop of its mode change nothing, and it is never due
+-- It is the machine's: no mode starts or stops it, and if it is taken out of the machine its state stays. It is never
+-- due.
 abbrev pub autofire : CalmModel AutofireState
 autofire = record {
   first = first_state;

@@ -1,7 +1,8 @@
 -- A ball device, such as a trough or a plunger. A ball lies at each ball switch that is counted. The device ejects one
 -- ball at a time.
-use Rattle.std.specs.Prelude.{◌≡◌, ℕ, suc, ◌+◌, ◌-◌, ◌≤◌, nat_lt, min, max, Bool, true, false, not, ◌&&◌, ◌||◌, is_some, if◌then◌else◌, Option, None, Some, unwrap_or, List, [], ◌∷◌, ◌++◌, length, map, option_map, replicate, drop, slice_index_or, slice_set}
-use Rattle.std.specs.List.{All, list_any}
+use Rattle.std.specs.Prelude.{◌≡◌, ℕ, suc, ◌+◌, ◌-◌, ◌≤◌, nat_lt, min, max, Bool, true, false, not, ◌&&◌, ◌||◌, is_some}
+use Rattle.std.specs.Prelude.{if◌then◌else◌, Option, None, Some, unwrap_or, List, [], ◌∷◌, ◌++◌, length, map}
+use Rattle.std.specs.{Prelude.{option_map, replicate, drop, slice_index_or, slice_set}, List.{All, list_any}}
 use Rattle.plan_tables.specs.{Due.sooner, declared.devices.{Act.Act, BallTarget.BallTarget, BallSettings.BallSettings}}
 use Rattle.plan_tables.specs.declared.devices.Act.TheVariants as acts
 use Rattle.plan_tables.specs.declared.devices.BallTarget.TheVariants as targets
@@ -15,40 +16,40 @@ use Rattle.device_objects.specs.{KindModel.{Kind, Moments, in_states}, Outcomes.
 -- ---- the lists of a ball device
 
 -- a ball has entered it
-abbrev pub entered : ℕ
-entered = 0
+abbrev pub entry_list : ℕ
+entry_list = 0
 
 -- it attempts to eject a ball
-abbrev pub attempted : ℕ
-attempted = 1
+abbrev pub attempt_list : ℕ
+attempt_list = 1
 
 -- the ball that it ejects has left
-abbrev pub left : ℕ
-left = 2
+abbrev pub exit_list : ℕ
+exit_list = 2
 
 -- a ball has left that was not being ejected
-abbrev pub lost : ℕ
-lost = 3
+abbrev pub loss_list : ℕ
+loss_list = 3
 
 -- the ball that it has ejected is where it should be
-abbrev pub succeeded : ℕ
-succeeded = 4
+abbrev pub success_list : ℕ
+success_list = 4
 
 -- a ball that was on its way is on the playfield
-abbrev pub arrived : ℕ
-arrived = 5
+abbrev pub arrival_list : ℕ
+arrival_list = 5
 
 -- an attempt has failed
-abbrev pub failed : ℕ
-failed = 6
+abbrev pub failure_list : ℕ
+failure_list = 6
 
 -- ---- the state
 
--- a ball switch that holds no ball
+-- a ball switch at which no ball counts, and nothing is due
 abbrev pub empty : BallSwitch
 empty = record { counted = false; due = None }
 
--- at first no ball counts, nothing is due, and nothing is ejected
+-- at first no ball counts, nothing is due, nothing is ejected, and no ball is wanted
 abbrev pub first_state : BallState
 first_state = record { switches = replicate 16 empty; eject = Idle; wanted = 0 }
 
@@ -65,7 +66,7 @@ has_ball s = list_any (λ b. b.counted) s.switches
 
 -- ---- what is due
 
--- of these ball switches, numbered from i on, the one that is due first, with the moment
+-- of these ball switches, numbered from i on, the first that is due: its moment and its number
 abbrev pub first_due_from : ℕ → List BallSwitch → Option (ℕ × ℕ)
 first_due_from i [] = None
 first_due_from i (b ∷ bs) = sooner (option_map (λ due. (due, i)) b.due) (first_due_from (suc i) bs)
@@ -101,7 +102,7 @@ part_due s k = slice_index_or (parts s.switches (timeout_of s.eject)) k None
 -- it attempts to eject a ball, for the time that its settings give
 abbrev pub attempt : BallSettings → ℕ → ℕ → BallState → BallState × List ℕ
 attempt d number now s =
-    (record s { eject = Pulsing (record { number = number; timeout = now + d.ejects.timeout }) }, attempted ∷ [])
+    (record s { eject = Pulsing (record { number = number; timeout = now + d.ejects.timeout }) }, attempt_list ∷ [])
 
 abbrev pub is_idle : Eject → Bool
 is_idle Idle = true
@@ -122,13 +123,13 @@ can_begin d s = is_idle s.eject && (has_ball s && (d.has_coil && (not d.trough |
 abbrev pub begin : BallSettings → ℕ → BallState → BallState × List ℕ
 begin d now s = if can_begin d s then attempt d 1 now s else (s, [])
 
--- lists that come before those of an answer
+-- an answer after these lists
 abbrev pub after : List ℕ → BallState × List ℕ → BallState × List ℕ
 after lists answer = (answer.0, lists ++ answer.1)
 
 -- the eject is over: a trough is to eject one ball fewer
-abbrev pub ended : BallState → BallState
-ended s = record s { eject = Idle; wanted = s.wanted - 1 }
+abbrev pub end_eject : BallState → BallState
+end_eject s = record s { eject = Idle; wanted = s.wanted - 1 }
 
 -- whether a device may attempt once more after an attempt of this number
 abbrev pub may_try_again : Option ℕ → ℕ → Bool
@@ -148,28 +149,28 @@ next_number (Some most) number = suc number
 abbrev pub stuck : BallSettings → ℕ → Attempt → BallState → BallState × List ℕ
 stuck d now a s =
     if may_try_again d.ejects.max_attempts a.number
-    then after (failed ∷ []) (attempt d (next_number d.ejects.max_attempts a.number) now s)
-    else (record s { eject = Idle; wanted = 0 }, failed ∷ [])
+    then after (failure_list ∷ []) (attempt d (next_number d.ejects.max_attempts a.number) now s)
+    else (record s { eject = Idle; wanted = 0 }, failure_list ∷ [])
 
 -- The ball on its way did not arrive in time: it counts as being on the playfield.
 abbrev pub overdue : BallTarget → List ℕ
-overdue targets.Playfield = arrived ∷ succeeded ∷ []
-overdue (targets.Device r) = arrived ∷ failed ∷ []
+overdue targets.Playfield = arrival_list ∷ success_list ∷ []
+overdue (targets.Device r) = arrival_list ∷ failure_list ∷ []
 
 -- the ball on its way is where it should be: in the target device, or on the playfield
-abbrev pub confirmed : BallTarget → List ℕ
-confirmed targets.Playfield = arrived ∷ succeeded ∷ []
-confirmed (targets.Device r) = succeeded ∷ []
+abbrev pub confirmation : BallTarget → List ℕ
+confirmation targets.Playfield = arrival_list ∷ success_list ∷ []
+confirmation (targets.Device r) = success_list ∷ []
 
 abbrev pub time_out : BallSettings → ℕ → Eject → BallState → BallState × List ℕ
 time_out d now Idle s = (s, [])
 time_out d now (Pulsing a) s = stuck d now a s
-time_out d now (Away a) s = after (overdue d.target) (begin d now (ended s))
+time_out d now (Away a) s = after (overdue d.target) (begin d now (end_eject s))
 
 abbrev pub confirm : BallSettings → ℕ → Eject → BallState → BallState × List ℕ
 confirm d now Idle s = (s, [])
 confirm d now (Pulsing a) s = (s, [])
-confirm d now (Away a) s = after (confirmed d.target) (begin d now (ended s))
+confirm d now (Away a) s = after (confirmation d.target) (begin d now (end_eject s))
 
 -- ---- ball switches
 
@@ -182,34 +183,35 @@ abbrev pub counts_otherwise : Bool → BallSwitch → Bool
 counts_otherwise active b = if active then not b.counted else b.counted
 
 -- a ball switch has become active, or inactive
-abbrev pub noted : BallSettings → Bool → ℕ → BallSwitch → BallSwitch
-noted d active now b = record b { due = if counts_otherwise active b then Some (now + delay d active) else None }
+abbrev pub note_level : BallSettings → Bool → ℕ → BallSwitch → BallSwitch
+note_level d active now b = record b { due = if counts_otherwise active b then Some (now + delay d active) else None }
 
-abbrev pub switched : BallSettings → ℕ → Bool → ℕ → BallState → BallState
-switched d i active now s = if nat_lt i d.switches then set_switch i (noted d active now (switch_at s i)) s else s
+abbrev pub switch_level : BallSettings → ℕ → Bool → ℕ → BallState → BallState
+switch_level d i active now s = if nat_lt i d.switches then set_switch i (note_level d active now (switch_at s i)) s
+    else s
 
 -- the opposite counts from now on
-abbrev pub turned : BallSwitch → BallSwitch
-turned b = record { counted = not b.counted; due = None }
+abbrev pub turn_over : BallSwitch → BallSwitch
+turn_over b = record { counted = not b.counted; due = None }
 
 -- a ball counts no more: the one that is ejected has left, or one is lost
-abbrev pub gone : BallSettings → ℕ → Eject → BallState → BallState × List ℕ
-gone d now Idle s =
+abbrev pub lose_sight : BallSettings → ℕ → Eject → BallState → BallState × List ℕ
+lose_sight d now Idle s =
     if d.ejects.mechanical
-    then (record s { eject = Away (record { number = 1; timeout = now + d.ejects.timeout }) }, left ∷ [])
-    else (s, lost ∷ [])
-gone d now (Pulsing a) s = (record s { eject = Away a }, left ∷ [])
-gone d now (Away a) s = (s, lost ∷ [])
+    then (record s { eject = Away (record { number = 1; timeout = now + d.ejects.timeout }) }, exit_list ∷ [])
+    else (s, loss_list ∷ [])
+lose_sight d now (Pulsing a) s = (record s { eject = Away a }, exit_list ∷ [])
+lose_sight d now (Away a) s = (s, loss_list ∷ [])
 
 -- the level of a ball switch is counted from now on: a ball has entered, or is gone
 abbrev pub count : BallSettings → ℕ → ℕ → BallState → BallState × List ℕ
 count d now i s =
-    let t = set_switch i (turned (switch_at s i)) s in
-    if (switch_at s i).counted then gone d now s.eject t else after (entered ∷ []) (begin d now t)
+    let t = set_switch i (turn_over (switch_at s i)) s in
+    if (switch_at s i).counted then lose_sight d now s.eject t else after (entry_list ∷ []) (begin d now t)
 
 -- ---- steps
 
--- whether the attempt is over before the first ball switch is due
+-- whether the time of the attempt is over before any ball switch is due
 abbrev pub is_timeout_first : Option (ℕ × ℕ) → Option ℕ → Bool
 is_timeout_first first None = false
 is_timeout_first None (Some timeout) = true
@@ -232,27 +234,27 @@ abbrev pub fire_part : BallSettings → ℕ → ℕ → BallState → BallState 
 fire_part d k now s = if nat_lt k (length s.switches) then count d now k s else time_out d now s.eject s
 
 -- A trough is to eject this many more balls, as far as 255 allows.
-abbrev pub requested : BallSettings → ℕ → ℕ → BallState → BallState × List ℕ
-requested d n now s = if d.trough then begin d now (record s { wanted = min (s.wanted + n) 255 }) else (s, [])
+abbrev pub request : BallSettings → ℕ → ℕ → BallState → BallState × List ℕ
+request d n now s = if d.trough then begin d now (record s { wanted = min (s.wanted + n) 255 }) else (s, [])
 
 abbrev pub act_step : BallSettings → Act → ℕ → BallState → BallState × List ℕ
-act_step d (acts.SwitchOn i) now s = (switched d i true now s, [])
-act_step d (acts.SwitchOff i) now s = (switched d i false now s, [])
+act_step d (acts.SwitchOn i) now s = (switch_level d i true now s, [])
+act_step d (acts.SwitchOff i) now s = (switch_level d i false now s, [])
 act_step d acts.Confirm now s = confirm d now s.eject s
-act_step d (acts.Request n) now s = requested d n now s
+act_step d (acts.Request n) now s = request d n now s
 act_step d _ now s = (s, [])
 
 -- a ball switch at which nothing is due any more
 abbrev pub not_due : BallSwitch → BallSwitch
 not_due b = record b { due = None }
 
--- it is taken out of the machine: nothing is due any more, and nothing is ejected
-abbrev pub halted : BallState → BallState
-halted s = record { switches = map not_due s.switches; eject = Idle; wanted = 0 }
+-- it is taken out of the machine: nothing is due any more, nothing is ejected, and no ball is wanted
+abbrev pub halt : BallState → BallState
+halt s = record { switches = map not_due s.switches; eject = Idle; wanted = 0 }
 
 abbrev pub ball_step : BallSettings → Call → ℕ → BallState → BallState × List ℕ
 ball_step d calls.ModeStart now s = (s, [])
-ball_step d calls.ModeStop now s = (halted s, [])
+ball_step d calls.ModeStop now s = (halt s, [])
 ball_step d calls.Fire now s = fire d now s
 ball_step d (calls.Act act) now s = act_step d act now s
 
@@ -268,17 +270,17 @@ may_eject d = d.has_coil || d.ejects.mechanical
 
 -- these lists, alone or followed by a new attempt
 abbrev pub ending : BallSettings → List ℕ → List (List ℕ)
-ending d lists = lists ∷ only_if (may_begin d) ((lists ++ attempted ∷ []) ∷ [])
+ending d lists = lists ∷ only_if (may_begin d) ((lists ++ attempt_list ∷ []) ∷ [])
 
 -- a ball switch counts: a ball has entered, has left, or is lost
 abbrev pub of_count : BallSettings → List (List ℕ)
-of_count d = ending d (entered ∷ []) ++ only_if (may_eject d) ((left ∷ []) ∷ []) ++ (lost ∷ []) ∷ []
+of_count d = ending d (entry_list ∷ []) ++ only_if (may_eject d) ((exit_list ∷ []) ∷ []) ++ (loss_list ∷ []) ∷ []
 
 -- An attempt has failed. Another one follows, unless only one is allowed. If there is a limit, it may also be the last.
 abbrev pub of_attempt : BallSettings → List (List ℕ)
 of_attempt d =
-    only_if (may_try_again d.ejects.max_attempts 1) ((failed ∷ attempted ∷ []) ∷ [])
-    ++ only_if (is_some d.ejects.max_attempts) ((failed ∷ []) ∷ [])
+    only_if (may_try_again d.ejects.max_attempts 1) ((failure_list ∷ attempt_list ∷ []) ∷ [])
+    ++ only_if (is_some d.ejects.max_attempts) ((failure_list ∷ []) ∷ [])
 
 abbrev pub of_ball_fire : BallSettings → List (List ℕ)
 of_ball_fire d =
@@ -287,8 +289,8 @@ of_ball_fire d =
     ++ only_if (may_eject d) (ending d (overdue d.target))
 
 abbrev pub of_ball_act : BallSettings → Act → List (List ℕ)
-of_ball_act d acts.Confirm = [] ∷ only_if (may_eject d) (ending d (confirmed d.target))
-of_ball_act d (acts.Request n) = [] ∷ only_if (d.trough && may_begin d) ((attempted ∷ []) ∷ [])
+of_ball_act d acts.Confirm = [] ∷ only_if (may_eject d) (ending d (confirmation d.target))
+of_ball_act d (acts.Request n) = [] ∷ only_if (d.trough && may_begin d) ((attempt_list ∷ []) ∷ [])
 of_ball_act d _ = silent
 
 abbrev pub of_ball_device : BallSettings → Call → List (List ℕ)
@@ -299,7 +301,8 @@ of_ball_device d (calls.Act act) = of_ball_act d act
 
 -- ---- its shape
 
--- The number of an attempt is at least 1, and at most the limit, or the greatest number if there is none.
+-- The number of an attempt is at least 1, and at most the limit, or the greatest number if there is none. A limit of 0,
+-- which no plan has, allows 1.
 abbrev pub IsAttempt : BallSettings → ℕ → Type 0
 IsAttempt d number = (1 ≤ number) × (number ≤ max 1 (unwrap_or d.ejects.max_attempts greatest_attempt))
 
@@ -312,7 +315,7 @@ IsEjectOf d (Away a) = (may_eject d ≡ true) × IsAttempt d a.number
 -- the state of a ball device: 16 ball switches, of which those that it does not have are empty
 pub record HasBallShape (d : BallSettings) (s : BallState) : Type 0 where
   pub switches : length s.switches ≡ 16
-  pub unused : All (λ b. b ≡ empty) (drop d.switches s.switches)
+  pub rest_is_empty : All (λ b. b ≡ empty) (drop d.switches s.switches)
   pub eject : IsEjectOf d s.eject
   pub wanted : s.wanted ≤ 255
 

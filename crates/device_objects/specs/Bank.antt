@@ -1,6 +1,7 @@
 -- A bank of shots: a group, or a lone shot. Each player has a slot of their own.
-use Rattle.std.specs.Prelude.{◌≡◌, ℕ, ◌≤◌, suc, ◌+◌, ◌-◌, ◌*◌, ◌==◌, nat_lt, nat_le, Bool, true, false, not, ◌&&◌, if◌then◌else◌, Option, None, Some, List, [], ◌∷◌, ◌++◌, length, replicate, take, drop, slice_get, slice_set}
-use Rattle.std.specs.List.{All, list_all, flat_map, range_with_len}
+use Rattle.std.specs.Prelude.{◌≡◌, ℕ, ◌≤◌, suc, ◌+◌, ◌-◌, ◌*◌, ◌==◌, nat_lt, nat_le, Bool, true, false, not, ◌&&◌}
+use Rattle.std.specs.Prelude.{if◌then◌else◌, Option, None, Some, List, [], ◌∷◌, ◌++◌, length, replicate, take, drop}
+use Rattle.std.specs.{Prelude.{slice_get, slice_set}, List.{All, list_all, flat_map, range_with_len}}
 use Rattle.plan_tables.specs.{declared.devices.{Act.Act, BankSettings.BankSettings}, Devices.state_count}
 use Rattle.plan_tables.specs.declared.devices.Act.TheVariants as acts
 use Rattle.device_objects.specs.declared.state.{BankSlot.BankSlot, DeviceState.DeviceState}
@@ -27,7 +28,7 @@ first_slot b game = record { game = game; enabled = b.enabled; states = replicat
 abbrev pub next_state : BankSettings → ℕ → ℕ
 next_state b state = if nat_lt state b.last_state then suc state else (if b.loops then 0 else state)
 
--- the states of the shots, when this one goes on from this state
+-- the states after this shot has advanced from this state
 abbrev pub gone_on : BankSettings → ℕ → ℕ → List ℕ → List ℕ
 gone_on b i state states = slice_set states i (next_state b state)
 
@@ -39,16 +40,17 @@ are_all_in b state states = list_all (λ s. s == state) (take b.shots states)
 abbrev pub hit_lists : BankSettings → ℕ → ℕ → List ℕ
 hit_lists b i state = shot_hit b i state ∷ (if b.group then group_hit b state ∷ [] else [])
 
--- a group is complete when a hit has moved its shot to another state, in which all its shots are then
+-- a group completes if the hit has moved the shot to another state, and all its shots are in that state now
 abbrev pub is_complete : BankSettings → ℕ → List ℕ → Bool
 is_complete b state states =
     b.group && (not (next_state b state == state) && are_all_in b (next_state b state) states)
 
--- when a hit has left the states so: the list of the group that is complete
+-- the group's list for this, if a hit from this state that left the states so completes it
 abbrev pub complete_lists : BankSettings → ℕ → List ℕ → List ℕ
 complete_lists b state states = if is_complete b state states then group_complete b (next_state b state) ∷ [] else []
 
--- a shot is hit in this state
+-- A shot is hit in this state: first its list and the group's, for the state before. If hits advance it, it goes
+-- to its next state then, and the group's list for that runs if it completes the group.
 abbrev pub hit : BankSettings → ℕ → ℕ → BankSlot → BankSlot × List ℕ
 hit b i state slot =
     if b.advance_on_hit then (
@@ -68,12 +70,12 @@ advance_where b i None slot = slot
 advance_where b i (Some state) slot = record slot { states = gone_on b i state slot.states }
 
 -- the states of so many shots, turned by k places towards the first; the others stay
-abbrev pub turned : ℕ → ℕ → List ℕ → List ℕ
-turned shots k states = drop k (take shots states) ++ take k (take shots states) ++ drop shots states
+abbrev pub turn_states : ℕ → ℕ → List ℕ → List ℕ
+turn_states shots k states = drop k (take shots states) ++ take k (take shots states) ++ drop shots states
 
--- a slot that a shot's act has changed so, if the bank has the shot
+-- the changed slot if the bank has a shot of this number, else the slot as it was
 abbrev pub of_shot : BankSettings → ℕ → BankSlot → BankSlot → BankSlot
-of_shot b i changed slot = if nat_lt i b.shots then changed else slot
+of_shot b i new_slot slot = if nat_lt i b.shots then new_slot else slot
 
 abbrev pub slot_step : BankSettings → Act → BankSlot → BankSlot × List ℕ
 slot_step b (acts.Hit i) slot =
@@ -84,8 +86,8 @@ slot_step b (acts.EnableShot i) slot = (of_shot b i (record slot { enabled = sli
 slot_step b (acts.DisableShot i) slot =
     (of_shot b i (record slot { enabled = slice_set slot.enabled i false }) slot, [])
 slot_step b acts.Reset slot = (record slot { states = replicate 16 0 }, [])
-slot_step b acts.RotateRight slot = (record slot { states = turned b.shots (b.shots - 1) slot.states }, [])
-slot_step b acts.RotateLeft slot = (record slot { states = turned b.shots 1 slot.states }, [])
+slot_step b acts.RotateRight slot = (record slot { states = turn_states b.shots (b.shots - 1) slot.states }, [])
+slot_step b acts.RotateLeft slot = (record slot { states = turn_states b.shots 1 slot.states }, [])
 slot_step b _ slot = (slot, [])
 
 -- whether a hit of a shot in this state moves it, and so can complete its group

@@ -5,9 +5,9 @@ use Rattle.plan_tables.specs.declared.devices.Act.TheVariants as acts
 use Rattle.machine_settings.specs.declared.settings.BlockSettings.{BlockSettings}
 use Rattle.device_objects.specs.Outcomes.{silent, only_if}
 
--- the lists of a block
-abbrev pub updated : ℕ
-updated = 0
+-- the lists of a block; `block_lists` of plan_parts says what each of them does
+abbrev pub update : ℕ
+update = 0
 
 abbrev pub hit : ℕ
 hit = 1
@@ -15,18 +15,18 @@ hit = 1
 abbrev pub complete : ℕ
 complete = 2
 
--- a block's step that completes it, and one that does not
+-- what a hit or a step runs if it completes the block, and if it does not
 abbrev pub completing : List ℕ
-completing = updated ∷ hit ∷ complete ∷ []
+completing = update ∷ hit ∷ complete ∷ []
 
 abbrev pub going_on : List ℕ
-going_on = updated ∷ hit ∷ []
+going_on = update ∷ hit ∷ []
 
--- a block that is reset answers so; one of a player who is not there is silent
+-- a reset or a restart runs the first list; a persistent block does nothing without a current player
 abbrev pub resetting : BlockSettings → List (List ℕ)
-resetting b = only_if b.persist silent ++ (updated ∷ []) ∷ []
+resetting b = only_if b.persist silent ++ (update ∷ []) ∷ []
 
--- the acts that all blocks know
+-- what the acts that all blocks have can answer
 abbrev pub of_block : BlockSettings → Act → List (List ℕ)
 of_block b acts.Reset = resetting b
 of_block b acts.Restart = resetting b

@@ -1,13 +1,14 @@
 -- A counter.
-use Rattle.std.specs.Prelude.{ℕ, ◌+◌, nat_lt, Bool, true, false, not, ◌&&◌, is_some, if◌then◌else◌, Option, None, Some, List, [], ◌∷◌}
+use Rattle.std.specs.Prelude.{ℕ, ◌+◌, nat_lt, Bool, true, false, not, ◌&&◌, is_some, if◌then◌else◌, Option, None, Some}
+use Rattle.std.specs.Prelude.{List, [], ◌∷◌}
 use Rattle.plan_tables.specs.declared.devices.Act.{Act}
 use Rattle.plan_tables.specs.declared.devices.Act.TheVariants as acts
 use Rattle.machine_settings.specs.{declared.settings.CounterSettings.CounterSettings, Ends.is_at_end}
 use Rattle.device_objects.specs.declared.state.{CounterSlot.CounterSlot, DeviceState.DeviceState}
-use Rattle.device_objects.specs.{Values.moved, Slots.{SlotModel, of_slots}, Outcomes.only_if}
+use Rattle.device_objects.specs.{Values.move_value, Slots.{SlotModel, of_slots}, Outcomes.only_if}
 use Rattle.device_objects.specs.declared.state.DeviceState.TheVariants as states
 use Rattle.device_objects.specs.KindModel.{Kind, in_states, never_due}
-use Rattle.device_objects.specs.Blocks.{updated, hit, complete, completing, going_on, of_block}
+use Rattle.device_objects.specs.Blocks.{update, hit, complete, completing, going_on, of_block}
 
 -- a new slot, for this game
 abbrev pub first_slot : CounterSettings → ℕ → CounterSlot
@@ -18,28 +19,28 @@ abbrev pub is_early : ℕ → Option ℕ → ℕ → Bool
 is_early window None now = false
 is_early window (Some last) now = nat_lt now (last + window)
 
--- a counter that completes
-abbrev pub completed : CounterSettings → CounterSlot → CounterSlot
-completed c slot = record slot {
+-- a counter after it has completed: reset and disabled, as its settings say
+abbrev pub after_completion : CounterSettings → CounterSlot → CounterSlot
+after_completion c slot = record slot {
   enabled = slot.enabled && not c.block.disable_on_complete;
   value = if c.block.reset_on_complete then c.start else slot.value;
 }
 
 -- a hit was counted
-abbrev pub counted : CounterSettings → CounterSlot → CounterSlot × List ℕ
-counted c slot =
-    if is_at_end c.direction c.complete slot.value then (completed c slot, updated ∷ hit ∷ complete ∷ [])
-    else (slot, updated ∷ hit ∷ [])
+abbrev pub count_hit : CounterSettings → CounterSlot → CounterSlot × List ℕ
+count_hit c slot =
+    if is_at_end c.direction c.complete slot.value then (after_completion c slot, update ∷ hit ∷ complete ∷ [])
+    else (slot, update ∷ hit ∷ [])
 
 abbrev pub slot_step : CounterSettings → Act → ℕ → CounterSlot → CounterSlot × List ℕ
 slot_step c acts.Count now slot =
     if slot.enabled && not (is_early c.window slot.last_hit now)
-    then counted c (record slot { value = moved c.direction c.interval slot.value; last_hit = Some now })
+    then count_hit c (record slot { value = move_value c.direction c.interval slot.value; last_hit = Some now })
     else (slot, [])
 slot_step c acts.Enable now slot = (record slot { enabled = true }, [])
 slot_step c acts.Disable now slot = (record slot { enabled = false }, [])
-slot_step c acts.Reset now slot = (record slot { value = c.start }, updated ∷ [])
-slot_step c acts.Restart now slot = (record slot { value = c.start; enabled = true }, updated ∷ [])
+slot_step c acts.Reset now slot = (record slot { value = c.start }, update ∷ [])
+slot_step c acts.Restart now slot = (record slot { value = c.start; enabled = true }, update ∷ [])
 slot_step c _ now slot = (slot, [])
 
 -- what a counter answers

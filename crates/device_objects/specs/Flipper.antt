@@ -1,4 +1,4 @@
--- A flipper. Its button is its switch 0.
+-- A flipper. Its button is its switch 0. plan_parts says what its lists do: `flipper_on` and `flipper_off`.
 use Rattle.std.specs.Prelude.{ℕ, ◌==◌, Bool, true, false, ◌&&◌, if◌then◌else◌, Option, None, Some, List, [], ◌∷◌}
 use Rattle.plan_tables.specs.declared.devices.Act.{Act}
 use Rattle.plan_tables.specs.declared.devices.Act.TheVariants as acts
@@ -18,19 +18,19 @@ abbrev pub first_state : FlipperState
 first_state = record { enabled = false; on = false }
 
 -- it goes on, if this holds
-abbrev pub raised : Bool → FlipperState → FlipperState × List ℕ
-raised holds s = if holds then (record s { on = true }, on ∷ []) else (s, [])
+abbrev pub raise : Bool → FlipperState → FlipperState × List ℕ
+raise holds s = if holds then (record s { on = true }, on ∷ []) else (s, [])
 
 -- it goes off, if this holds
-abbrev pub lowered : Bool → FlipperState → FlipperState × List ℕ
-lowered holds s = if holds then (record s { on = false }, off ∷ []) else (s, [])
+abbrev pub lower : Bool → FlipperState → FlipperState × List ℕ
+lower holds s = if holds then (record s { on = false }, off ∷ []) else (s, [])
 
 -- a flipper that is disabled while it is on goes off
 abbrev pub act_step : Act → FlipperState → FlipperState × List ℕ
 act_step acts.Enable s = (record s { enabled = true }, [])
-act_step acts.Disable s = lowered s.on (record s { enabled = false })
-act_step (acts.SwitchOn i) s = raised (s.enabled && (i == 0)) s
-act_step (acts.SwitchOff i) s = lowered (s.on && (i == 0)) s
+act_step acts.Disable s = lower s.on (record s { enabled = false })
+act_step (acts.SwitchOn i) s = raise (s.enabled && (i == 0)) s
+act_step (acts.SwitchOff i) s = lower (s.on && (i == 0)) s
 act_step _ s = (s, [])
 
 abbrev pub of_flipper : Act → List (List ℕ)
@@ -39,7 +39,8 @@ of_flipper (acts.SwitchOn i) = of_switch i on
 of_flipper (acts.SwitchOff i) = of_switch i off
 of_flipper _ = silent
 
--- the start and the stop of its mode change nothing, and it is never due
+-- It is the machine's: no mode starts or stops it, and if it is taken out of the machine its state stays. It is never
+-- due.
 abbrev pub flipper : CalmModel FlipperState
 flipper = record {
   first = first_state;

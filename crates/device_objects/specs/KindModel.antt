@@ -5,7 +5,7 @@ use Rattle.device_objects.specs.declared.{device.Call.Call, state.{DeviceState.D
 use Rattle.device_objects.specs.declared.device.Call.TheVariants as calls
 use Rattle.device_objects.specs.Outcomes.{silent}
 
--- What a kind of device does, where a device of it remembers an `S`.
+-- What a kind of device does, at given settings. `S` is the state of its devices.
 pub record Kind (S : Type 0) : Type 1 where
   -- what it remembers at first
   pub first : S
@@ -13,9 +13,10 @@ pub record Kind (S : Type 0) : Type 1 where
   pub IsShaped : S → Type 0
   -- what it remembers after a call, and the numbers of the effect lists that are to run, in order
   pub step : Call → ℕ → World → S → S × List ℕ
-  -- each sequence of lists that it answers to the call, whatever it remembers
+  -- each sequence of lists that it answers to the call in some state of its shape
   pub outcomes : Call → List (List ℕ)
-  -- what a part of it does when its moment has come, by the part's number
+  -- What a part does when its moment has come, by the part's number. A part is what is due by itself: each ball switch
+  -- of a ball device, and its attempt; a timer and a ball save are one part.
   pub fire_part : ℕ → ℕ → S → S × List ℕ
 
 -- ---- when a device is due
@@ -58,7 +59,7 @@ calm_step m calls.ModeStop now world s = (m.stop s, [])
 calm_step m calls.Fire now world s = (s, [])
 calm_step m (calls.Act act) now world s = m.act act now world s
 
--- it is silent when its mode starts and stops
+-- it is silent when its mode starts and stops, and it never fires
 abbrev pub by_act : (Act → List (List ℕ)) → Call → List (List ℕ)
 by_act answers calls.ModeStart = silent
 by_act answers calls.ModeStop = silent
@@ -86,12 +87,13 @@ abbrev pub in_state : {S : Type 0} → (S → DeviceState) → (S → S × List 
 in_state state_of step state None = (state, [])
 in_state state_of step state (Some s) = put_back state_of (step s)
 
--- the kind as its states have it: the state that holds an `S`, and what a state holds, if it is of the kind
+-- the same kind over the states of all kinds: a state is made of an `S`, and gives it back if it is of the kind; a
+-- state of another kind stays
 abbrev pub in_states : {S : Type 0} → (S → DeviceState) → (DeviceState → Option S) → Kind S → Kind DeviceState
-in_states state_of held kind = record {
+in_states state_of content_of kind = record {
   first = state_of kind.first;
-  IsShaped = λ state. IsSomeAnd (held state) kind.IsShaped;
-  step = λ call now world state. in_state state_of (kind.step call now world) state (held state);
+  IsShaped = λ state. IsSomeAnd (content_of state) kind.IsShaped;
+  step = λ call now world state. in_state state_of (kind.step call now world) state (content_of state);
   outcomes = kind.outcomes;
-  fire_part = λ k now state. in_state state_of (kind.fire_part k now) state (held state);
+  fire_part = λ k now state. in_state state_of (kind.fire_part k now) state (content_of state);
 }

@@ -28,7 +28,7 @@ pub record IsAnswerOf {S : Type 0} (kind : Kind S) (moments : S → Moments) (ca
 pub record IsDoneIn (now moment : ℕ) (before after : Moments) : Type 0 where
   pub part : ℕ
   pub due : before.part part ≡ Some moment
-  pub done : IfSome (after.part part) (λ later. now < later)
+  pub later_part : IfSome (after.part part) (λ later. now < later)
 
 -- The part is due at the moment, no part is due before it, and no part with a lower number is due at it.
 pub record IsFirstPartOf (m : Moments) (moment part : ℕ) : Type 0 where
@@ -62,7 +62,7 @@ pub record IsLawful {S : Type 0} (kind : Kind S) (moments : S → Moments) (IsWi
   pub silent_stop : kind.outcomes calls.ModeStop ≡ silent
   -- nothing is due at first, nor when its mode has stopped
   pub quiet : (moments kind.first).due ≡ None
-  pub stopped : (now : ℕ) (world : World) (state : S) → kind.IsShaped state
+  pub stop : (now : ℕ) (world : World) (state : S) → kind.IsShaped state
       → (moments (kind.step calls.ModeStop now world state).0).due ≡ None
   -- what a step arms is due later than now
   pub arms : IsWithin → (call : Call) (now : ℕ) (world : World) (state : S) (part due : ℕ)
@@ -71,7 +71,7 @@ pub record IsLawful {S : Type 0} (kind : Kind S) (moments : S → Moments) (IsWi
   -- when it fires, the first part that is due does so, and one that was due is done
   pub fires : (now : ℕ) (world : World) (state : S) → kind.IsShaped state
       → IfSome (moments state).due (FiresFirstPartOf kind moments now world state)
-  pub done : IsWithin → (now : ℕ) (world : World) (state : S) → kind.IsShaped state
+  pub later_part : IsWithin → (now : ℕ) (world : World) (state : S) → kind.IsShaped state
       → IfSome (moments state).due
       (λ due. IsDoneIn now due (moments state) (moments (kind.step calls.Fire now world state).0))
   -- only parts 0 to 16 are ever due
@@ -143,7 +143,7 @@ pub record ArmsLaterMoments : Type 0 where
       → IsWithinLimits settings → (k due : ℕ)
       → part_due (device_step settings call now world state).0 k ≡ Some due
       → (part_due state k ≡ Some due) ⊎ (now < due)
-  pub fired : (settings : Settings) (now : ℕ) (world : World) (state : DeviceState) → IsWithinLimits settings
+  pub fire : (settings : Settings) (now : ℕ) (world : World) (state : DeviceState) → IsWithinLimits settings
       → HasShape settings state
       → IfSome (due_of state) (λ due. IsDone now due state (device_step settings calls.Fire now world state).0)
 
@@ -155,7 +155,7 @@ OutcomesAreOfTheRow =
 -- At first nothing is due, nor when the device's mode has stopped.
 pub record NothingIsDue : Type 0 where
   pub first : (settings : Settings) → due_of (first_state settings) ≡ None
-  pub stopped : (settings : Settings) (now : ℕ) (world : World) (state : DeviceState) → HasShape settings state
+  pub stop : (settings : Settings) (now : ℕ) (world : World) (state : DeviceState) → HasShape settings state
       → due_of (device_step settings calls.ModeStop now world state).0 ≡ None
 
 -- A device whose mode stops answers no list.

@@ -1,39 +1,40 @@
 -- A sequence: its steps are done in order.
-use Rattle.std.specs.Prelude.{ℕ, suc, ◌==◌, nat_lt, true, false, not, ◌&&◌, if◌then◌else◌, Option, None, Some, List, [], ◌∷◌}
+use Rattle.std.specs.Prelude.{ℕ, suc, ◌==◌, nat_lt, true, false, not, ◌&&◌, if◌then◌else◌, Option, None, Some, List, []}
+use Rattle.std.specs.Prelude.{◌∷◌}
 use Rattle.plan_tables.specs.declared.devices.Act.{Act}
 use Rattle.plan_tables.specs.declared.devices.Act.TheVariants as acts
 use Rattle.machine_settings.specs.declared.settings.StepSettings.{StepSettings}
 use Rattle.device_objects.specs.declared.state.{SequenceSlot.SequenceSlot, DeviceState.DeviceState}
 use Rattle.device_objects.specs.declared.state.DeviceState.TheVariants as states
 use Rattle.device_objects.specs.{Slots.{SlotModel, of_slots}, KindModel.{Kind, in_states, never_due}, Outcomes.only_if}
-use Rattle.device_objects.specs.Blocks.{updated, hit, complete, completing, going_on, of_block}
+use Rattle.device_objects.specs.Blocks.{update, hit, complete, completing, going_on, of_block}
 
 -- a new slot, for this game
 abbrev pub first_slot : StepSettings → ℕ → SequenceSlot
 first_slot q game = record { game = game; enabled = q.block.enabled; next = 0 }
 
--- a sequence that completes
-abbrev pub completed : StepSettings → SequenceSlot → SequenceSlot
-completed q slot = record slot {
+-- a sequence after it has completed: reset and disabled, as its settings say
+abbrev pub after_completion : StepSettings → SequenceSlot → SequenceSlot
+after_completion q slot = record slot {
   enabled = slot.enabled && not q.block.disable_on_complete;
   next = if q.block.reset_on_complete then 0 else slot.next;
 }
 
 -- a step was done
-abbrev pub stepped : StepSettings → SequenceSlot → SequenceSlot × List ℕ
-stepped q slot =
-    if slot.next == q.steps then (completed q slot, updated ∷ hit ∷ complete ∷ [])
-    else (slot, updated ∷ hit ∷ [])
+abbrev pub step_once : StepSettings → SequenceSlot → SequenceSlot × List ℕ
+step_once q slot =
+    if slot.next == q.steps then (after_completion q slot, update ∷ hit ∷ complete ∷ [])
+    else (slot, update ∷ hit ∷ [])
 
 abbrev pub slot_step : StepSettings → Act → SequenceSlot → SequenceSlot × List ℕ
 slot_step q (acts.Step i) slot =
     if slot.enabled && (i == slot.next) && nat_lt i q.steps
-    then stepped q (record slot { next = suc i })
+    then step_once q (record slot { next = suc i })
     else (slot, [])
 slot_step q acts.Enable slot = (record slot { enabled = true }, [])
 slot_step q acts.Disable slot = (record slot { enabled = false }, [])
-slot_step q acts.Reset slot = (record slot { next = 0 }, updated ∷ [])
-slot_step q acts.Restart slot = (record slot { next = 0; enabled = true }, updated ∷ [])
+slot_step q acts.Reset slot = (record slot { next = 0 }, update ∷ [])
+slot_step q acts.Restart slot = (record slot { next = 0; enabled = true }, update ∷ [])
 slot_step q _ slot = (slot, [])
 
 -- only the last step completes a sequence

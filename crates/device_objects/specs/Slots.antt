@@ -1,6 +1,6 @@
 -- A kind of device whose state is slots: one for each player, or one for all.
-use Rattle.std.specs.Prelude.{◌≡◌, ℕ, ◌-◌, ◌==◌, Bool, not, ◌&&◌, if◌then◌else◌, Option, None, Some, List, [], length, replicate, slice_get, slice_set}
-use Rattle.std.specs.List.{All}
+use Rattle.std.specs.Prelude.{◌≡◌, ℕ, ◌-◌, ◌==◌, Bool, not, ◌&&◌, if◌then◌else◌, Option, None, Some, List, [], length}
+use Rattle.std.specs.{Prelude.{replicate, slice_get, slice_set}, List.All}
 use Rattle.plan_tables.specs.declared.devices.Act.{Act}
 use Rattle.device_objects.specs.{declared.{device.Call.Call, state.World.World}, KindModel.{CalmModel, calm_step}}
 
@@ -51,7 +51,8 @@ abbrev pub first_slots : {S : Type 0} → SlotModel S → List S
 first_slots m = replicate 4 (m.first 0)
 
 -- When the mode starts, slots that the players have for themselves go on, and one that all share begins anew. An act is
--- a step of the slot in use. Nothing is ever due.
+-- a step of the slot in use. Nothing is ever due. The state has four slots in any case: if all players share the first,
+-- the others stay as they are. An act that does nothing more still makes a slot of another game one of this game.
 abbrev pub of_slots : {S : Type 0} → SlotModel S → CalmModel (List S)
 of_slots m = record {
   first = first_slots m;

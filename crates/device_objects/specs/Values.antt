@@ -7,10 +7,11 @@ abbrev pub greatest : ℕ
 greatest = 999999999999999
 
 -- the nearest value that there is
-unfoldable pub clamped : ℤ → ℤ
-clamped n = if int_le n (neg_ℤ (pos greatest)) then neg_ℤ (pos greatest) else (if int_le (pos greatest) n then pos greatest else n)
+unfoldable pub clamp_value : ℤ → ℤ
+clamp_value n = if int_le n (neg_ℤ (pos greatest)) then neg_ℤ (pos greatest) else
+    (if int_le (pos greatest) n then pos greatest else n)
 
 -- a value that moves by so much
-abbrev pub moved : Direction → ℤ → ℤ → ℤ
-moved Up by value = clamped (value +ℤ by)
-moved Down by value = clamped (value -ℤ by)
+abbrev pub move_value : Direction → ℤ → ℤ → ℤ
+move_value Up by value = clamp_value (value +ℤ by)
+move_value Down by value = clamp_value (value -ℤ by)

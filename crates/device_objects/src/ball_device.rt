@@ -3,7 +3,9 @@
 ghost use Rattle.std.specs.Prelude.{◌≡◌, ◌+◌, ◌≤◌, ◌↔◌, ◌++◌, IsTrue, length, map};
 ghost use Rattle.std.specs.List.{All};
 ghost use Rattle.arrayvec.specs.ArrayVec.{array_vec_len};
-ghost use Rattle.device_objects.specs.BallDevice.{HasBallShape, IsAttempt, IsEjectOf, confirmed, empty, ending, first_state, may_begin, may_eject, of_attempt, of_ball_act, of_ball_device, of_ball_fire, of_count, overdue};
+ghost use Rattle.device_objects.specs.BallDevice.{HasBallShape, IsAttempt, IsEjectOf, confirmation, empty, ending};
+ghost use Rattle.device_objects.specs.BallDevice.{first_state, may_begin, may_eject, of_attempt, of_ball_act};
+ghost use Rattle.device_objects.specs.BallDevice.{of_ball_device, of_ball_fire, of_count, overdue};
 
 use crate::answers::{Outcomes, none, silent, with, with_if};
 use crate::device::{Call, Outcome};
@@ -62,9 +64,9 @@ fn of_count(device: &BallSettings) -> Outcomes
     ensures answers { map (λ o. o.items) result.items ≡ of_count device.now }
     ensures count { array_vec_len result ≤ 4 }
 {
-    let entered = with_ending(none(), device, &[0]);
-    let left = with_if(entered, may_eject(device), &[2]);
-    with(left, &[3])
+    let entry = with_ending(none(), device, &[0]);
+    let exit = with_if(entry, may_eject(device), &[2]);
+    with(exit, &[3])
 }
 
 /// An attempt is over, and another one begins, or it was the last.
@@ -93,8 +95,8 @@ fn overdue(device: &BallSettings) -> &'static [u16]
 }
 
 /// A ball on its way has arrived.
-fn confirmed(device: &BallSettings) -> &'static [u16]
-    ensures lists { result.now ≡ confirmed device.now.target }
+fn confirmation(device: &BallSettings) -> &'static [u16]
+    ensures lists { result.now ≡ confirmation device.now.target }
     ensures short { length result.now ≤ 2 }
 {
     match device.target {
@@ -123,7 +125,7 @@ fn of_ball_act(device: &BallSettings, act: Act) -> Outcomes
     ensures { map (λ o. o.items) result.items ≡ of_ball_act device.now act }
 {
     match act {
-        Act::Confirm if may_eject(device) => with_ending(silent(), device, confirmed(device)),
+        Act::Confirm if may_eject(device) => with_ending(silent(), device, confirmation(device)),
         Act::Request(_) => with_if(silent(), device.trough && may_begin(device), &[1]),
         _ => silent(),
     }

@@ -16,7 +16,7 @@ pub(crate) fn first_save() -> SaveState
 {
     SaveState {
         active: false,
-        left: 0,
+        balls_left: 0,
         due: None,
     }
 }
@@ -49,7 +49,8 @@ pub(crate) fn of_save(save: &SaveSettings, call: Call) -> Outcomes
 pub(crate) fn is_of_save(save: &SaveSettings, state: &SaveState) -> bool
     ensures { IsTrue result ↔ HasSaveShape save.now state.now }
 {
-    state.left <= save.balls && (state.due.is_none() || (state.active && save.active_time > 0))
+    state.balls_left <= save.balls
+        && (state.due.is_none() || (state.active && save.active_time > 0))
 }
 
 pub(crate) fn are_same_save_settings(a: &SaveSettings, b: &SaveSettings) -> bool
@@ -61,5 +62,5 @@ pub(crate) fn are_same_save_settings(a: &SaveSettings, b: &SaveSettings) -> bool
 pub(crate) fn is_same_save_state(a: &SaveState, b: &SaveState) -> bool
     ensures { IsTrue result ↔ (a.now ≡ b.now) }
 {
-    a.active == b.active && a.left == b.left && a.due == b.due
+    a.active == b.active && a.balls_left == b.balls_left && a.due == b.due
 }

@@ -6,7 +6,8 @@ ghost use Rattle.arrayvec.specs.ArrayVec.{array_vec_len};
 ghost use Rattle.plan_tables.specs.Devices.{IsWithinLimits};
 ghost use Rattle.plan_tables.specs.declared.devices.Settings.TheVariants as kinds;
 ghost use Rattle.device_objects.specs.Slots.{first_slots};
-ghost use Rattle.device_objects.specs.Bank.{HasBankShape, can_complete, group_complete, group_hit, hit_completing, hit_lists, next_state, of_bank, of_hit, of_hit_in, shot_hit, slots};
+ghost use Rattle.device_objects.specs.Bank.{HasBankShape, can_complete, group_complete, group_hit, hit_completing};
+ghost use Rattle.device_objects.specs.Bank.{hit_lists, next_state, of_bank, of_hit, of_hit_in, shot_hit, slots};
 
 use crate::answers::{Outcomes, silent, with, with_if};
 use crate::device::Outcome;

@@ -54,29 +54,37 @@ pub trait Device: Drop {
     fn start(&mut self, now: u64, world: World) -> Outcome
         requires { now < 2 ^ 40 }
         ensures row { row_of self.new ≡ row_of self.old }
-        ensures state { state_of self.new ≡ (device_step (row_of self.old).settings calls.ModeStart now world (state_of self.old)).0 }
-        ensures outcome { result.items ≡ (device_step (row_of self.old).settings calls.ModeStart now world (state_of self.old)).1 };
+        ensures state { state_of self.new ≡ (device_step (row_of self.old).settings calls.ModeStart now world
+            (state_of self.old)).0 }
+        ensures outcome { result.items ≡ (device_step (row_of self.old).settings calls.ModeStart now world
+            (state_of self.old)).1 };
 
     /// The mode of the device stops, or the device is taken out of the machine. Nothing of it is due
     /// then.
     fn stop(&mut self, now: u64, world: World) -> Outcome
         requires { now < 2 ^ 40 }
         ensures row { row_of self.new ≡ row_of self.old }
-        ensures state { state_of self.new ≡ (device_step (row_of self.old).settings calls.ModeStop now world (state_of self.old)).0 }
-        ensures outcome { result.items ≡ (device_step (row_of self.old).settings calls.ModeStop now world (state_of self.old)).1 };
+        ensures state { state_of self.new ≡ (device_step (row_of self.old).settings calls.ModeStop now world
+            (state_of self.old)).0 }
+        ensures outcome { result.items ≡ (device_step (row_of self.old).settings calls.ModeStop now world
+            (state_of self.old)).1 };
 
     /// The moment has come at which the device is due.
     fn fire(&mut self, now: u64, world: World) -> Outcome
         requires moment { now < 2 ^ 40 }
         requires due { IsSome (due_of (state_of self.old)) }
         ensures row { row_of self.new ≡ row_of self.old }
-        ensures state { state_of self.new ≡ (device_step (row_of self.old).settings calls.Fire now world (state_of self.old)).0 }
-        ensures outcome { result.items ≡ (device_step (row_of self.old).settings calls.Fire now world (state_of self.old)).1 };
+        ensures state { state_of self.new ≡ (device_step (row_of self.old).settings calls.Fire now world
+            (state_of self.old)).0 }
+        ensures outcome { result.items ≡ (device_step (row_of self.old).settings calls.Fire now world
+            (state_of self.old)).1 };
 
     /// The device is told to do something.
     fn act(&mut self, act: Act, now: u64, world: World) -> Outcome
         requires { now < 2 ^ 40 }
         ensures row { row_of self.new ≡ row_of self.old }
-        ensures state { state_of self.new ≡ (device_step (row_of self.old).settings (calls.Act act) now world (state_of self.old)).0 }
-        ensures outcome { result.items ≡ (device_step (row_of self.old).settings (calls.Act act) now world (state_of self.old)).1 };
+        ensures state { state_of self.new ≡ (device_step (row_of self.old).settings (calls.Act act) now world
+            (state_of self.old)).0 }
+        ensures outcome { result.items ≡ (device_step (row_of self.old).settings (calls.Act act) now world
+            (state_of self.old)).1 };
 }

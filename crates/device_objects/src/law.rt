@@ -1,6 +1,8 @@
 //! What holds of every step of a device.
 
-ghost use Rattle.device_objects.specs.Laws.{AnswersAreOutcomes, ArmsLaterMoments, DevicesAreDueWithTheirParts, FirstPartsFire, NothingIsDue, OutcomesAreOfTheRow, OutcomesComeAbout, StatesKeepTheirShape, StopsAreSilent};
+ghost use Rattle.device_objects.specs.Laws.{AnswersAreOutcomes, ArmsLaterMoments, DevicesAreDueWithTheirParts};
+ghost use Rattle.device_objects.specs.Laws.{FirstPartsFire, NothingIsDue, OutcomesAreOfTheRow, OutcomesComeAbout};
+ghost use Rattle.device_objects.specs.Laws.{StatesKeepTheirShape, StopsAreSilent};
 
 /// The first state of a device has the shape of its row, and each step leaves it so.
 ///

@@ -7,7 +7,7 @@ pub struct World {
     pub games: u64,
     /// The current player, from 1 to 4; 0 if there is none.
     pub player: usize,
-    /// How many balls are in play: 0 unless a ball is on.
+    /// How many balls are in play: 0 outside the phase `Ball` of the game.
     pub in_play: u32,
 }
 
@@ -130,7 +130,7 @@ pub struct SaveState {
     /// Whether it saves balls.
     pub active: bool,
     /// How many balls it still saves, while it is active.
-    pub left: u8,
+    pub balls_left: u8,
     /// The moment at which it is disabled, if it has an end.
     pub due: Option<u64>,
 }

@@ -8,7 +8,7 @@ use crate::answers::{Outcomes, none, silent, with, with_if};
 use crate::device::Call;
 use crate::same::are_same_directions;
 use crate::state::TimerState;
-use crate::values::clamped;
+use crate::values::clamp_value;
 use machine_settings::TimerSettings;
 use plan_tables::Act;
 
@@ -48,7 +48,9 @@ fn of_timer_act(timer: &TimerSettings, act: Act) -> Outcomes
         Act::Restart => with(none(), &[0]),
         Act::Add(_) | Act::Subtract(_) => of_change(timer),
         Act::Jump(n) => {
-            let ends = timer.direction.is_at_end(timer.end, clamped(i128::from(n)));
+            let ends = timer
+                .direction
+                .is_at_end(timer.end, clamp_value(i128::from(n)));
             with_if(silent(), ends, timer_completing(timer))
         }
         _ => silent(),

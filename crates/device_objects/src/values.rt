@@ -1,7 +1,7 @@
 //! The values of counters, timers and variables: how far from 0 they may be, and how they move.
 
 ghost use Rattle.std.specs.Prelude.{◌≡◌};
-ghost use Rattle.device_objects.specs.Values.{clamped, moved};
+ghost use Rattle.device_objects.specs.Values.{clamp_value, move_value};
 
 use machine_settings::Direction;
 
@@ -9,9 +9,9 @@ use machine_settings::Direction;
 const GREATEST: i128 = 999_999_999_999_999;
 
 /// The nearest value that there is: at most 999,999,999,999,999 from 0.
-#[tactic(auto, unfolding(crate::specs::Values::clamped))]
-pub fn clamped(n: i128) -> i64
-    ensures { result ≡ clamped n }
+#[tactic(auto, unfolding(crate::specs::Values::clamp_value))]
+pub fn clamp_value(n: i128) -> i64
+    ensures { result ≡ clamp_value n }
 {
     if n <= -GREATEST {
         return -GREATEST as i64;
@@ -23,11 +23,11 @@ pub fn clamped(n: i128) -> i64
 }
 
 /// A value that moves by so much.
-pub fn moved(direction: Direction, by: i64, value: i64) -> i64
-    ensures { result ≡ moved direction by value }
+pub fn move_value(direction: Direction, by: i64, value: i64) -> i64
+    ensures { result ≡ move_value direction by value }
 {
     match direction {
-        Direction::Up => clamped(i128::from(value) + i128::from(by)),
-        Direction::Down => clamped(i128::from(value) - i128::from(by)),
+        Direction::Up => clamp_value(i128::from(value) + i128::from(by)),
+        Direction::Down => clamp_value(i128::from(value) - i128::from(by)),
     }
 }

@@ -10,7 +10,8 @@ use Rattle.event_queue.proofs.Sort.{by_priority-permutes}
 module _ (plan : PlanView) (e : EventId) where
   pub in_order-within : (running : List Bool) → All (λ p. p.0 < length plan.bindings) (in_order plan running e)
   in_order-within running =
-      All-permutation (λ p. p.0 < length plan.bindings) (handlers plan running e) (in_order plan running e) (by_priority-permutes plan (handlers plan running e))
+      All-permutation (λ p. p.0 < length plan.bindings) (handlers plan running e) (in_order plan running e)
+      (by_priority-permutes plan (handlers plan running e))
       (All-filter (runs_at plan running) (λ p. p.0 < length plan.bindings) (places_of plan e) (places_of-within plan e))
 
   module _ (valid : IsValid plan) where
@@ -19,9 +20,11 @@ module _ (plan : PlanView) (e : EventId) where
 
     -- an event that the plan does not have has no handlers
     pub no-handlers : (running : List Bool) → length plan.events ≤ e.0 → [] ≡ in_order plan running e
-    no-handlers running past = ap (λ ps. by_priority plan (filter (runs_at plan running) ps)) (by (places_of plan e) (places_of-within plan e) (places_of-on plan e))
+    no-handlers running past = ap (λ ps. by_priority plan (filter (runs_at plan running) ps))
+        (by (places_of plan e) (places_of-within plan e) (places_of-on plan e))
       where
-        by : (ps : List BindingId) → All (λ p. p.0 < length plan.bindings) ps → All (λ p. (binding_at plan p).event.0 ≡ e.0) ps → [] ≡ ps
+        by : (ps : List BindingId) → All (λ p. p.0 < length plan.bindings) ps
+            → All (λ p. (binding_at plan p).event.0 ≡ e.0) ps → [] ≡ ps
         by [] within is = refl
         by (p ∷ ps) within is =
             let known = on p (within 0 p (omega arith)) (is 0 p (omega arith)) in

@@ -1,6 +1,7 @@
 -- Alarms: for each row, by number, the moment at which it is due, if it is. An alarm is a moment and a row that is due
 -- then.
-use Rattle.std.specs.Prelude.{◌≡◌, ℕ, ◌+◌, ◌≤◌, nat_lt, ◌==◌, ◌&&◌, ◌||◌, if◌then◌else◌, Bool, Option, None, Some, option_map, List, [], ◌∷◌, slice_index_or}
+use Rattle.std.specs.Prelude.{◌≡◌, ℕ, ◌+◌, ◌≤◌, nat_lt, ◌==◌, ◌&&◌, ◌||◌, if◌then◌else◌, Bool, Option, None, Some}
+use Rattle.std.specs.Prelude.{option_map, List, [], ◌∷◌, slice_index_or}
 use Rattle.plan_tables.specs.declared.devices.RowId.{RowId}
 
 -- the moment at which a row is due, if it is
@@ -43,4 +44,5 @@ pub record IsLeast (dues : List (Option ℕ)) (moment : ℕ) (row : RowId) : Typ
 -- If there is no least alarm, no row is due. If there is one, it is the least.
 pub record AlarmsGiveTheLeast : Type 0 where
   pub none : (dues : List (Option ℕ)) → least_of dues ≡ None → (row : RowId) → due_of dues row ≡ None
-  pub least : (dues : List (Option ℕ)) (moment : ℕ) (row : RowId) → least_of dues ≡ Some (moment, row) → IsLeast dues moment row
+  pub least : (dues : List (Option ℕ)) (moment : ℕ) (row : RowId) → least_of dues ≡ Some (moment, row)
+      → IsLeast dues moment row

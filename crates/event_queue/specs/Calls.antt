@@ -18,11 +18,11 @@ AreCalls [] old new = new ≡ old
 AreCalls (call ∷ calls) old new = (mid : QueueView) × IsCall call old mid × AreCalls calls mid new
 
 -- what was pushed, in order: the calls that found room
-abbrev pub pushed : List QueueCall → List Posted
-pushed [] = []
-pushed (Push event (Ok done) ∷ calls) = event ∷ pushed calls
-pushed (Push event (Err full) ∷ calls) = pushed calls
-pushed (Take answer ∷ calls) = pushed calls
+abbrev pub posted_events : List QueueCall → List Posted
+posted_events [] = []
+posted_events (Push event (Ok done) ∷ calls) = event ∷ posted_events calls
+posted_events (Push event (Err full) ∷ calls) = posted_events calls
+posted_events (Take answer ∷ calls) = posted_events calls
 
 -- what `take` gave, in order
 abbrev pub taken_out : List QueueCall → List Posted
@@ -33,8 +33,10 @@ taken_out (Take (Some first) ∷ calls) = first ∷ taken_out calls
 
 -- After every list of calls on a new queue: what was given, and after it what waits, is what was pushed.
 abbrev pub IsFirstInFirstOut : Type 0
-IsFirstInFirstOut = (size : ℕ) (calls : List QueueCall) (queue : QueueView) → AreCalls calls (empty size) queue → taken_out calls ++ queue.waiting ≡ pushed calls
+IsFirstInFirstOut = (size : ℕ) (calls : List QueueCall) (queue : QueueView) → AreCalls calls (empty size) queue
+    → taken_out calls ++ queue.waiting ≡ posted_events calls
 
 -- It keeps its size, and no more events wait than that.
 abbrev pub IsWithinSize : Type 0
-IsWithinSize = (size : ℕ) (calls : List QueueCall) (queue : QueueView) → AreCalls calls (empty size) queue → (queue.size ≡ size) × (length queue.waiting ≤ size)
+IsWithinSize = (size : ℕ) (calls : List QueueCall) (queue : QueueView) → AreCalls calls (empty size) queue
+    → (queue.size ≡ size) × (length queue.waiting ≤ size)

@@ -1,6 +1,6 @@
 -- What handles an event: bindings, by their places in the plan.
-use Rattle.std.specs.Prelude.{ℕ, ◌≤◌, Bool, true, false, List, [], ◌∷◌, length, filter, replicate, slice_index_or, slice_set}
-use Rattle.std.specs.List.{AllByRecursion, Sorted.IsPermutation}
+use Rattle.std.specs.Prelude.{ℕ, ◌≤◌, Bool, true, false, List, [], ◌∷◌, length, filter, replicate, slice_index_or}
+use Rattle.std.specs.{Prelude.slice_set, List.{AllByRecursion, Sorted.IsPermutation}}
 use Rattle.plan_tables.specs.declared.entries.{EventId.EventId, BindingId.BindingId, ModeId.ModeId, Owner.Owner}
 use Rattle.plan_tables.specs.declared.entries.Owner.TheVariants as owners
 use Rattle.plan_tables.specs.PlanView.{PlanView, binding_at, places_of}

@@ -4,4 +4,4 @@ pub mod Handlers
 pub mod PlanOrder
 pub mod Alarms
 -- only contracts of private functions cite these
-pub mod Inside
+pub mod OrderedLists

@@ -13,7 +13,8 @@ empty size = record { size = size; waiting = [] }
 
 -- an event is added after all others, unless as many wait as may
 abbrev pub IsPushed : Posted → Result Unit Full → QueueView → QueueView → Type 0
-IsPushed event (Ok done) old new = (length old.waiting < old.size) × (new ≡ record { size = old.size; waiting = old.waiting ++ event ∷ [] })
+IsPushed event (Ok unit) old new = (length old.waiting < old.size)
+    × (new ≡ record { size = old.size; waiting = old.waiting ++ event ∷ [] })
 IsPushed event (Err full) old new = (length old.waiting ≡ old.size) × (new ≡ old)
 
 -- the event that waits first is taken, if one waits

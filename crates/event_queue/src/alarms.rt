@@ -3,7 +3,7 @@
 ghost use Rattle.std.specs.Prelude.{◌≡◌, ◌≤◌, ◌<◌, ℕ, List, length};
 ghost use Rattle.std.specs.VecDeque.{deque_capacity};
 ghost use Rattle.event_queue.specs.Alarms.{comes_before, alarm_of};
-ghost use Rattle.event_queue.specs.Inside.{put_alarm, IsOrdered, IsPlaceOf};
+ghost use Rattle.event_queue.specs.OrderedLists.{put_alarm, IsOrdered, IsPlaceOf};
 
 use plan_tables::RowId;
 use std::alloc::{AllocError, Global};
@@ -18,7 +18,7 @@ pub struct Alarms {
     /// Every row that is due, with its moment: lower moments first, and of equal ones lower rows.
     /// There is room for all rows. It is a queue of two ends, since most alarms are taken out in
     /// front, and put in near the end.
-    ordered: VecDeque<(u64, RowId)>,
+    queue: VecDeque<(u64, RowId)>,
 }
 
 impl Model for Alarms {
@@ -30,9 +30,10 @@ impl Model for Alarms {
 
     ghost use Rattle.std.specs.Prelude.{◌≡◌, ◌≤◌, ◌<◌, ◌^◌, length};
     ghost use Rattle.std.specs.VecDeque.{deque_capacity};
-    ghost use Rattle.event_queue.specs.Inside.{ordered_alarms};
+    ghost use Rattle.event_queue.specs.OrderedLists.{ordered_alarms};
 
-    ghost invariant = { λ a. (length a.dues.items < 2 ^ 16) × (a.ordered.items ≡ ordered_alarms a.dues.items) × (length a.dues.items ≤ deque_capacity a.ordered) };
+    ghost invariant = { λ a. (length a.dues.items < 2 ^ 16) × (a.queue.items ≡ ordered_alarms a.dues.items)
+        × (length a.dues.items ≤ deque_capacity a.queue) };
 }
 
 impl Alarms {
@@ -45,7 +46,7 @@ impl Alarms {
     {
         Ok(Alarms {
             dues: vec![in alloc; None; rows as usize]?,
-            ordered: VecDeque::with_capacity(alloc, rows as usize)?,
+            queue: VecDeque::with_capacity(alloc, rows as usize)?,
         })
     }
 
@@ -69,11 +70,11 @@ impl Alarms {
         requires { row.0 < length self.old }
         ensures { self.new ≡ slice_set self.old row.0 due }
     {
-        let Alarms { dues, ordered } = self;
+        let Alarms { dues, queue } = self;
         let was = dues[row.0 as usize];
         dues[row.0 as usize] = due;
-        take_out(ordered, alarm_of(row, was));
-        put_in(ordered, alarm_of(row, due));
+        take_out(queue, alarm_of(row, was));
+        put_in(queue, alarm_of(row, due));
     }
 
     /// The moment at which a row is due, if there is such a row and it is due.
@@ -89,56 +90,56 @@ impl Alarms {
         ensures least { result ≡ least_of self.now }
         ensures within { IfSome result (λ alarm. alarm.1.0 < length self.now) }
     {
-        self.ordered.front().copied()
+        self.queue.front().copied()
     }
 }
 
 /// Puts an alarm, if there is one, among those in order. There has to be room for it.
-fn put_in(ordered: &mut VecDeque<(u64, RowId)>, alarm: Option<(u64, RowId)>)
-    requires ordered { IsOrdered comes_before ordered.old.items }
-    requires room { length ordered.old.items < deque_capacity ordered.old }
-    ensures items { ordered.new.items ≡ put_alarm alarm ordered.old.items }
-    ensures capacity { deque_capacity ordered.old ≤ deque_capacity ordered.new }
+fn put_in(queue: &mut VecDeque<(u64, RowId)>, alarm: Option<(u64, RowId)>)
+    requires ordered { IsOrdered comes_before queue.old.items }
+    requires room { length queue.old.items < deque_capacity queue.old }
+    ensures items { queue.new.items ≡ put_alarm alarm queue.old.items }
+    ensures capacity { deque_capacity queue.old ≤ deque_capacity queue.new }
 {
     let Some(alarm) = alarm else {
         return;
     };
-    let place = place_of(ordered, alarm);
-    match ordered.insert(place, alarm) {
+    let place = place_of(queue, alarm);
+    match queue.insert(place, alarm) {
         Ok(()) => {}
         Err(_) => unreachable!(),
     }
 }
 
 /// Takes an alarm, if there is one, out of those in order, of which it is one.
-fn take_out(ordered: &mut VecDeque<(u64, RowId)>, alarm: Option<(u64, RowId)>)
-    requires { (rest : List (ℕ × RowId)) × IsOrdered comes_before rest × (ordered.old.items ≡ put_alarm alarm rest) }
-    ensures items { (rest : List (ℕ × RowId)) → ordered.old.items ≡ put_alarm alarm rest → ordered.new.items ≡ rest }
-    ensures capacity { deque_capacity ordered.new ≡ deque_capacity ordered.old }
+fn take_out(queue: &mut VecDeque<(u64, RowId)>, alarm: Option<(u64, RowId)>)
+    requires { (rest : List (ℕ × RowId)) × IsOrdered comes_before rest × (queue.old.items ≡ put_alarm alarm rest) }
+    ensures items { (rest : List (ℕ × RowId)) → queue.old.items ≡ put_alarm alarm rest → queue.new.items ≡ rest }
+    ensures capacity { deque_capacity queue.new ≡ deque_capacity queue.old }
 {
     let Some(alarm) = alarm else {
         return;
     };
-    let place = place_of(ordered, alarm);
-    let _taken = ordered.remove(place);
+    let place = place_of(queue, alarm);
+    let _taken = queue.remove(place);
 }
 
 /// How many alarms come before this one. It looks at the front and at the back first, and then
 /// halves: most alarms are taken out in front, and many are put in at the end.
-fn place_of(ordered: &VecDeque<(u64, RowId)>, alarm: (u64, RowId)) -> usize
-    requires { IsOrdered comes_before ordered.now.items }
-    ensures { IsPlaceOf comes_before alarm ordered.now.items result }
+fn place_of(queue: &VecDeque<(u64, RowId)>, alarm: (u64, RowId)) -> usize
+    requires { IsOrdered comes_before queue.now.items }
+    ensures { IsPlaceOf comes_before alarm queue.now.items result }
 {
-    let (Some(first), Some(last)) = (ordered.front(), ordered.back()) else {
+    let (Some(first), Some(last)) = (queue.front(), queue.back()) else {
         return 0;
     };
     if !comes_before(*first, alarm) {
         return 0;
     }
     if comes_before(*last, alarm) {
-        return ordered.len();
+        return queue.len();
     }
-    ordered.partition_point(|other| comes_before(*other, alarm))
+    queue.partition_point(|other| comes_before(*other, alarm))
 }
 
 /// The alarm of a row that is due at this moment, or none if it is not due.

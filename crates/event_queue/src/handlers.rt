@@ -14,7 +14,7 @@ pub struct Handlers<'p> {
     /// For each mode, whether it runs.
     running: Vec<bool>,
     /// For each mode the places of its bindings: those of an event together, in plan order.
-    owned: Vec<Vec<BindingId>>,
+    places_of_modes: Vec<Vec<BindingId>>,
     /// For each event the places of its handlers, in plan order. There is room for all that is
     /// bound to it.
     orders: Vec<Vec<BindingId>>,
@@ -32,9 +32,12 @@ impl<'p> Model for Handlers<'p> {
     ghost use Rattle.std.specs.Prelude.{◌≡◌, ◌≤◌, length, vec_capacity};
     ghost use Rattle.plan_tables.specs.Valid.{IsValid};
     ghost use Rattle.event_queue.specs.Handlers.{runs_at};
-    ghost use Rattle.event_queue.specs.Inside.{HasOrders, HasOwned};
+    ghost use Rattle.event_queue.specs.OrderedLists.{HasOrders, HasOwned};
 
-    ghost invariant = { λ h. (length h.running.items ≡ length h.plan.now.modes) × HasOwned h.plan.now h.owned.items × HasOrders h.plan.now (runs_at h.plan.now h.running.items) h.orders.items × (length h.plan.now.bindings ≤ vec_capacity h.fresh) × IsValid h.plan.now };
+    ghost invariant = { λ h. (length h.running.items ≡ length h.plan.now.modes)
+        × HasOwned h.plan.now h.places_of_modes.items
+        × HasOrders h.plan.now (runs_at h.plan.now h.running.items) h.orders.items
+        × (length h.plan.now.bindings ≤ vec_capacity h.fresh) × IsValid h.plan.now };
 }
 
 impl<'p> Handlers<'p> {
@@ -48,13 +51,13 @@ impl<'p> Handlers<'p> {
         ensures { IfOk result (λ h. h ≡ record { plan = plan.now; running = none_running plan.now }) }
     {
         let running = vec![in alloc; false; plan.mode_count()]?;
-        let owned = owned_places(alloc, plan)?;
+        let places_of_modes = owned_places(alloc, plan)?;
         let orders = first_orders(alloc, plan, &running)?;
         let fresh = Vec::with_capacity(alloc, plan.binding_count())?;
         Ok(Handlers {
             plan,
             running,
-            owned,
+            places_of_modes,
             orders,
             fresh,
         })
@@ -69,14 +72,14 @@ impl<'p> Handlers<'p> {
         let Handlers {
             plan,
             running,
-            owned,
+            places_of_modes,
             orders,
             fresh,
         } = self;
         if running[mode.0 as usize] {
             return;
         }
-        let mut rest = owned[mode.0 as usize].as_slice();
+        let mut rest = places_of_modes[mode.0 as usize].as_slice();
         'groups: while !rest.is_empty() {
             let (group, after) = rest.split_at(of_one_event(plan, rest));
             add_group(orders, fresh, plan, group);
@@ -94,14 +97,14 @@ impl<'p> Handlers<'p> {
         let Handlers {
             plan,
             running,
-            owned,
+            places_of_modes,
             orders,
             fresh,
         } = self;
         if !running[mode.0 as usize] {
             return;
         }
-        let mut rest = owned[mode.0 as usize].as_slice();
+        let mut rest = places_of_modes[mode.0 as usize].as_slice();
         'groups: while !rest.is_empty() {
             let (group, after) = rest.split_at(of_one_event(plan, rest));
             drop_group(orders, fresh, plan, group);

@@ -1,11 +1,14 @@
 //! The bindings that handle each event, in the order of their priorities.
 
-ghost use Rattle.std.specs.Prelude.{◌≡◌, ◌+◌, ◌<◌, ◌≤◌, ◌++◌, true, false, Bool, List, [], ◌∷◌, length, slice_index_or, vec_capacity, IfOk};
+ghost use Rattle.std.specs.Prelude.{◌≡◌, ◌+◌, ◌<◌, ◌≤◌, ◌++◌, true, false, Bool, List, [], ◌∷◌, length, slice_index_or};
+ghost use Rattle.std.specs.Prelude.{vec_capacity, IfOk};
 ghost use Rattle.std.specs.{List.{All, AllPairs, AllWithin}, Ordering.is_lt};
 ghost use Rattle.plan_tables.specs.declared.entries.BindingId.{BindingId as Place};
 ghost use Rattle.plan_tables.specs.PlanView.{binding_at, no_binding};
 ghost use Rattle.event_queue.specs.Handlers.{runs_at, takes_part};
-ghost use Rattle.event_queue.specs.Inside.{put, put_all, IsOrdered, IsPlaceOf, IsInTurn, ranks_before, runs_before, stands_before, HasOrders, HasOwned, IsOwnedBy, IsGroup, also, also_all, without_all};
+ghost use Rattle.event_queue.specs.OrderedLists.{put, put_all, IsOrdered, IsPlaceOf, IsInTurn, ranks_before};
+ghost use Rattle.event_queue.specs.OrderedLists.{runs_before, stands_before, HasOrders, HasOwned, IsOwnedBy, IsGroup};
+ghost use Rattle.event_queue.specs.OrderedLists.{also, also_all, without_all};
 
 use plan_tables::{Binding, BindingId, EventId, ModeId, Owner, Plan};
 use std::alloc::{AllocError, Global};
@@ -13,15 +16,15 @@ use std::cmp::Ordering;
 
 /// For each mode of a plan the places of its bindings: those of an event together, in plan order.
 pub(crate) fn owned_places(alloc: Global, plan: &Plan) -> Result<Vec<Vec<BindingId>>, AllocError>
-    ensures { IfOk result (λ owned. HasOwned plan.now owned.items) }
+    ensures { IfOk result (λ places_of_modes. HasOwned plan.now places_of_modes.items) }
 {
     let modes = plan.mode_count();
-    let mut owned = Vec::with_capacity(alloc, modes)?;
+    let mut places_of_modes = Vec::with_capacity(alloc, modes)?;
     for number in 0..modes {
         let own = places_of_mode(alloc, plan, ModeId(number as u16))?;
-        owned.push(own)?;
+        places_of_modes.push(own)?;
     }
-    Ok(owned)
+    Ok(places_of_modes)
 }
 
 /// The places of a mode's bindings: those of an event together, in plan order.
@@ -95,7 +98,8 @@ fn rooms(alloc: Global, plan: &Plan) -> Result<Vec<Vec<BindingId>>, AllocError>
 fn add_place(orders: &mut Vec<Vec<BindingId>>, plan: &Plan, place: BindingId)
     requires place { place.0 < length plan.now.bindings }
     requires orders { (takes : Place → Bool) × HasOrders plan.now takes orders.old.items × (takes place ≡ false) }
-    ensures { (takes : Place → Bool) → HasOrders plan.now takes orders.old.items → takes place ≡ false → HasOrders plan.now (also takes place) orders.new.items }
+    ensures { (takes : Place → Bool) → HasOrders plan.now takes orders.old.items → takes place ≡ false
+        → HasOrders plan.now (also takes place) orders.new.items }
 {
     let event = plan.binding(place).event;
     put_in(&mut orders[event.0 as usize], plan, place);
@@ -105,7 +109,9 @@ fn add_place(orders: &mut Vec<Vec<BindingId>>, plan: &Plan, place: BindingId)
 pub(crate) fn of_one_event(plan: &Plan, places: &[BindingId]) -> usize
     requires { 0 < length places.now }
     ensures count { (0 < result) × (result ≤ length places.now) }
-    ensures same { (first : Place) → AllWithin (λ p. (binding_at plan.now p).event.0 ≡ (binding_at plan.now (slice_index_or places.now 0 first)).event.0) places.now 0 result }
+    ensures same { (first : Place) → AllWithin
+        (λ p. (binding_at plan.now p).event.0 ≡ (binding_at plan.now (slice_index_or places.now 0 first)).event.0)
+        places.now 0 result }
 {
     let bindings = plan.bindings();
     let event = event_number(bindings, places[0]);
@@ -125,9 +131,11 @@ pub(crate) fn add_group(
     group: &[BindingId],
 )
     requires group { IsGroup plan.now group.now }
-    requires orders { (takes : Place → Bool) × HasOrders plan.now takes orders.old.items × All (λ p. takes p ≡ false) group.now }
+    requires orders { (takes : Place → Bool) × HasOrders plan.now takes orders.old.items
+        × All (λ p. takes p ≡ false) group.now }
     requires room { length plan.now.bindings ≤ vec_capacity fresh.old }
-    ensures orders { (takes : Place → Bool) → HasOrders plan.now takes orders.old.items → All (λ p. takes p ≡ false) group.now → HasOrders plan.now (also_all takes group.now) orders.new.items }
+    ensures orders { (takes : Place → Bool) → HasOrders plan.now takes orders.old.items
+        → All (λ p. takes p ≡ false) group.now → HasOrders plan.now (also_all takes group.now) orders.new.items }
     ensures room { vec_capacity fresh.old ≤ vec_capacity fresh.new }
 {
     let event = plan.binding(group[0]).event;
@@ -144,9 +152,11 @@ pub(crate) fn drop_group(
     group: &[BindingId],
 )
     requires group { IsGroup plan.now group.now }
-    requires orders { (takes : Place → Bool) × HasOrders plan.now takes orders.old.items × All (λ p. takes p ≡ true) group.now }
+    requires orders { (takes : Place → Bool) × HasOrders plan.now takes orders.old.items
+        × All (λ p. takes p ≡ true) group.now }
     requires room { length plan.now.bindings ≤ vec_capacity fresh.old }
-    ensures orders { (takes : Place → Bool) → HasOrders plan.now takes orders.old.items → All (λ p. takes p ≡ true) group.now → HasOrders plan.now (without_all takes group.now) orders.new.items }
+    ensures orders { (takes : Place → Bool) → HasOrders plan.now takes orders.old.items
+        → All (λ p. takes p ≡ true) group.now → HasOrders plan.now (without_all takes group.now) orders.new.items }
     ensures room { vec_capacity fresh.old ≤ vec_capacity fresh.new }
 {
     let event = plan.binding(group[0]).event;
@@ -165,16 +175,16 @@ fn merge(fresh: &mut Vec<BindingId>, plan: &Plan, order: &[BindingId], group: &[
     ensures capacity { vec_capacity fresh.old ≤ vec_capacity fresh.new }
 {
     fresh.clear();
-    let mut left = order;
+    let mut rest_of_order = order;
     let mut rest = group;
     while let [place, more @ ..] = rest {
-        let (before, after) = left.split_at(index_of(left, plan, *place));
+        let (before, after) = rest_of_order.split_at(index_of(rest_of_order, plan, *place));
         add_all(fresh, before);
         add_one(fresh, *place);
-        left = after;
+        rest_of_order = after;
         rest = more;
     }
-    add_all(fresh, left);
+    add_all(fresh, rest_of_order);
 }
 
 /// Writes down an order without the places of a group, which are among it. As `merge`, this is one
@@ -182,21 +192,23 @@ fn merge(fresh: &mut Vec<BindingId>, plan: &Plan, order: &[BindingId], group: &[
 fn part(fresh: &mut Vec<BindingId>, plan: &Plan, order: &[BindingId], group: &[BindingId])
     requires ordered { IsOrdered (runs_before plan.now) order.now }
     requires group { IsInTurn (runs_before plan.now) group.now }
-    requires among { (others : List Place) × IsOrdered (runs_before plan.now) others × (order.now ≡ put_all (runs_before plan.now) group.now others) }
+    requires among { (others : List Place) × IsOrdered (runs_before plan.now) others
+        × (order.now ≡ put_all (runs_before plan.now) group.now others) }
     requires room { length order.now ≤ vec_capacity fresh.old }
-    ensures items { (others : List Place) → IsOrdered (runs_before plan.now) others → order.now ≡ put_all (runs_before plan.now) group.now others → fresh.new.items ≡ others }
+    ensures items { (others : List Place) → IsOrdered (runs_before plan.now) others
+        → order.now ≡ put_all (runs_before plan.now) group.now others → fresh.new.items ≡ others }
     ensures capacity { vec_capacity fresh.old ≤ vec_capacity fresh.new }
 {
     fresh.clear();
-    let mut left = order;
+    let mut rest_of_order = order;
     let mut rest = group;
     while let [place, more @ ..] = rest {
-        let (before, after) = left.split_at(index_of(left, plan, *place));
+        let (before, after) = rest_of_order.split_at(index_of(rest_of_order, plan, *place));
         add_all(fresh, before);
-        left = &after[1..];
+        rest_of_order = &after[1..];
         rest = more;
     }
-    add_all(fresh, left);
+    add_all(fresh, rest_of_order);
 }
 
 /// From now on an order has these places. There has to be room for them.

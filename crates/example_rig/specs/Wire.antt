@@ -15,4 +15,4 @@ frame_of (Disable coil) = codes "!D" ++ word coil.0 ++ 10 ∷ []
 
 -- the list that a board tells: the commands that it has kept, if these are all
 abbrev pub told_of : Option (ArrayVec Command) → Option (List Command)
-told_of kept = option_map (λ k. k.items) kept
+told_of list = option_map (λ commands. commands.items) list

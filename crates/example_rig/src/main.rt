@@ -58,9 +58,9 @@ fn run<R: Print + AllocGlobal>(rt: &R, checked: &Checked) -> Result<()> {
     let spare: Box<dyn Device> = Box::new(rt.alloc(), spare)?;
     let board = WireBoard::new(io::writer(rt));
     let (board, report) = drive(rt.alloc(), checked, devices, board, spare)?;
-    let taken = board.taken().map_or(0, |taken| taken.len());
+    let count = board.commands().map_or(0, |count| count.len());
     let (faults, off, shots) = (board.faults(), report.off.len(), shots.get());
-    println!(rt; "taken {taken}, faults {faults}, off {off}, shots {shots}")?;
+    println!(rt; "count {count}, faults {faults}, off {off}, shots {shots}")?;
     Ok(())
 }
 

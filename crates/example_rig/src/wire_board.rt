@@ -20,28 +20,28 @@ pub struct WireBoard<W: Write + Drop> {
     wire: W,
     faults: u64,
     /// The commands that were taken, unless there were too many.
-    taken: Option<ArrayVec<Command, ROOM>>,
+    commands: Option<ArrayVec<Command, ROOM>>,
 }
 
 impl<W: Write + Drop> WireBoard<W> {
     /// A board that has taken no command.
     pub fn new(wire: W) -> WireBoard<W>
         ensures faults { result.faults ≡ 0 }
-        ensures taken { told_of result.taken ≡ Some [] }
+        ensures commands { told_of result.commands ≡ Some [] }
     {
         WireBoard {
             wire,
             faults: 0,
-            taken: Some(ArrayVec::new()),
+            commands: Some(ArrayVec::new()),
         }
     }
 
     /// The commands that were taken, first taken first, unless there were too many.
-    pub fn taken(&self) -> Option<&[Command]>
-        ensures { option_map (λ taken. taken.now) result ≡ told_of self.now.taken }
+    pub fn commands(&self) -> Option<&[Command]>
+        ensures { option_map (λ commands. commands.now) result ≡ told_of self.now.commands }
     {
-        match &self.taken {
-            Some(taken) => Some(taken.as_slice()),
+        match &self.commands {
+            Some(commands) => Some(commands.as_slice()),
             None => None,
         }
     }
@@ -52,14 +52,14 @@ impl<W: Write + Drop> Board for WireBoard<W> {
 
     ghost fault_count = { λ b. b.faults };
 
-    ghost told = { λ b. told_of b.taken };
+    ghost command_list = { λ b. told_of b.commands };
 
     // Not inlined, so that a profile counts its calls.
     #[inline(never)]
     fn send(&mut self, command: Command) -> Result<(), BoardFault>
         ensures fault { IsErr result ↔ HasFaulted self.old.faults self.new.faults }
         ensures count { OnOk result (self.new.faults ≡ self.old.faults) }
-        ensures list { IsToldAfter command result (told_of self.old.taken) (told_of self.new.taken) }
+        ensures list { IsToldAfter command result (told_of self.old.commands) (told_of self.new.commands) }
         ensures answer { IsAnswered (is_ok result) untold untold }
         ensures sent { OnOk result (Appends (W.contents self.old.wire) (W.contents self.new.wire) (frame_of command)) }
     {
@@ -68,7 +68,7 @@ impl<W: Write + Drop> Board for WireBoard<W> {
             self.faults = self.faults.saturating_add(1);
             return Err(BoardFault);
         }
-        keep(&mut self.taken, command);
+        keep(&mut self.commands, command);
         Ok(())
     }
 
@@ -90,12 +90,12 @@ fn send_frame<W: Write>(wire: &mut W, command: Command) -> io::Result<()>
 }
 
 /// Adds a command to a list. If there is no room for it, there is no list from then on.
-fn keep(taken: &mut Option<ArrayVec<Command, ROOM>>, command: Command)
-    ensures { IsToldAfter command (Ok tt) (told_of taken.old) (told_of taken.new) }
+fn keep(commands: &mut Option<ArrayVec<Command, ROOM>>, command: Command)
+    ensures { IsToldAfter command (Ok tt) (told_of commands.old) (told_of commands.new) }
 {
-    if let Some(list) = taken
+    if let Some(list) = commands
         && list.try_push(command).is_err()
     {
-        *taken = None;
+        *commands = None;
     }
 }

@@ -16,7 +16,8 @@ use std::alloc::{AllocError, Global};
 /// If memory runs out. No clause says what the table has then, so drop it.
 pub fn note_name(alloc: Global, table: &mut NameTable, name: &[u8]) -> Result<usize, AllocError>
     ensures limit { OnOk result (table.new.limit ≡ table.old.limit) }
-    ensures names { OnOk result ((all : List (List ℕ)) → IsNameTableOf all table.old → IsNameTableOf (with_name all name.now) table.new) }
+    ensures names { OnOk result ((all : List (List ℕ)) → IsNameTableOf all table.old
+        → IsNameTableOf (with_name all name.now) table.new) }
     ensures number { IfOk result (IsNumberIn table.old name.now) }
 {
     if table.above {

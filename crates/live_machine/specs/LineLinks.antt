@@ -4,8 +4,8 @@ use Rattle.yaml_bytes.specs.Lines.{cut_line}
 use Rattle.live_machine.specs.{declared.read_buffer.ReadBuffer.ReadBuffer, Talk.LinkView}
 
 -- the bytes that a buffer has
-abbrev pub held : ReadBuffer → List ℕ
-held buffer = slice_range buffer.room.items buffer.start buffer.end
+abbrev pub read_ahead : ReadBuffer → List ℕ
+read_ahead buffer = slice_range buffer.room.items buffer.start buffer.end
 
 -- the text has the end of a line
 abbrev pub HasLine : List ℕ → Type 0
@@ -13,7 +13,7 @@ HasLine text = IsSome (cut_line text).1
 
 -- What the link reports, where it is known what was written and what the reader has. All that was written was told.
 -- What is left is what was read and not heard, and then what the reader has.
-abbrev pub reported : (written remaining : Option (List ℕ)) → (unheard : List ℕ) → Option LinkView
-reported None remaining unheard = None
-reported (Some written) None unheard = None
-reported (Some written) (Some remaining) unheard = Some (record { talk = written; left = unheard ++ remaining })
+abbrev pub link_report : (output remaining : Option (List ℕ)) → (unheard : List ℕ) → Option LinkView
+link_report None remaining unheard = None
+link_report (Some output) None unheard = None
+link_report (Some output) (Some remaining) unheard = Some (record { talk = output; remainder = unheard ++ remaining })

@@ -5,7 +5,8 @@ use Rattle.plan_tables.specs.PlanView.{PlanView}
 use Rattle.written_machine.specs.{Machine.{Machine, initial}, CheckedView.CheckedView, Accepted.IsAccepted}
 use Rattle.coil_driver.specs.Board.{BoardView}
 use Rattle.trace_lines.specs.LineText.{off_texts}
-use Rattle.pinball_shell.specs.{TraceText.{printed_texts, log_verdict}, RunOfLog.{Printed, printed_for_log, traced}}
+use Rattle.pinball_shell.specs.TraceText.{printed_texts, log_verdict}
+use Rattle.pinball_shell.specs.RunOfLog.{PrintedLine, printed_for_log, trace_in}
 use Rattle.pinball_shell.specs.{RunGiven.IsPlayOfLog, Ends.{after_log_lines, IsPlayOn}}
 use Rattle.live_machine.specs.Talk.{Talk, Heard, Told, transcript, LinkView}
 use Rattle.live_machine.specs.{Answers.{Answer, answers, rounds}, Live.{IsLive, AllAnswered}}
@@ -23,7 +24,8 @@ abbrev pub RoundsGoOn : Type 0
 RoundsGoOn =
     (plan : PlanView) (bound number : ℕ) (first more : List (List ℕ)) (s : Machine)
     → rounds plan bound number (first ++ more) s
-    ≡ rounds plan bound number first s ++ rounds plan bound (number + length first) more (after_log_lines plan bound first s)
+    ≡ rounds plan bound number first s ++ rounds plan bound (number + length first) more
+    (after_log_lines plan bound first s)
 
 -- ---- a live run is a play of its lines
 
@@ -31,23 +33,28 @@ RoundsGoOn =
 abbrev pub AnswersArePlay : Type 0
 AnswersArePlay =
     (c : CheckedView) (log : List ℕ)
-    → flat_map (λ a. a.printed) (answers c.plan c.bound 1 (lines log) (initial c.plan)) ≡ printed_for_log c.plan c.bound log
+    → flat_map (λ a. a.output) (answers c.plan c.bound 1 (lines log) (initial c.plan))
+    ≡ printed_for_log c.plan c.bound log
 
 -- A live run that heard the lines of a log is a play of this log. The board ends as it is after the live run, and the
 -- lines that are written are those that were told, without the lines `due`.
 abbrev pub LiveIsPlay : Type 0
 LiveIsPlay =
-    (c : CheckedView) (shows : Bool) (board last : BoardView) (old new : Option LinkView) (log : List ℕ) (live : IsLive c shows board last old new)
-    → lines log ≡ live.heard
-    → IsPlayOn c log board last (Some []) (Some (printed_texts c.plan live.printed ++ off_texts c.plan live.rig.machine.moment live.off)) (log_verdict live.printed)
+    (c : CheckedView) (shows : Bool) (board last : BoardView) (old new : Option LinkView) (log : List ℕ)
+    (live : IsLive c shows board last old new)
+    → lines log ≡ live.inputs
+    → IsPlayOn c log board last (Some []) (Some
+    (printed_texts c.plan live.output ++ off_texts c.plan live.rig.machine.moment live.off))
+    (log_verdict live.output)
 
 -- If the configuration is accepted, and all lines of a log were heard and answered, the trace that was told is a run of
 -- the plan that the log gives.
 abbrev pub LiveIsRun : Type 0
 LiveIsRun =
-    (c : CheckedView) (shows : Bool) (board last : BoardView) (old new : Option LinkView) (log : List ℕ) (live : IsLive c shows board last old new)
-    → IsAccepted c → lines log ≡ live.heard → AllAnswered live.end
-    → IsPlayOfLog c.plan log (traced live.printed)
+    (c : CheckedView) (shows : Bool) (board last : BoardView) (old new : Option LinkView) (log : List ℕ)
+    (live : IsLive c shows board last old new)
+    → IsAccepted c → lines log ≡ live.inputs → AllAnswered live.end
+    → IsPlayOfLog c.plan log (trace_in live.output)
 
 -- ---- a transcript loses nothing
 

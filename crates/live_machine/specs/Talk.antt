@@ -1,6 +1,6 @@
 -- What was heard from a link, and told to it, in one order.
-use Rattle.std.specs.Prelude.{◌≡◌, ℕ, ◌<◌, Bool, if◌then◌else◌, Option, None, Some, Result, Ok, Err, List, [], ◌∷◌, ◌++◌, length, take, min}
-use Rattle.std.specs.{List.flat_map, Str.Lines.lines, Io.KnownBytes.append_known}
+use Rattle.std.specs.Prelude.{◌≡◌, ℕ, ◌<◌, Bool, if◌then◌else◌, Option, None, Some, Result, Ok, Err, List, [], ◌∷◌}
+use Rattle.std.specs.{Prelude.{◌++◌, length, take, min}, List.flat_map, Str.Lines.lines, Io.KnownBytes.append_known}
 use Rattle.pinball_shell.specs.declared.fault.ShellFault.{ShellFault, TheVariants.{Read, TooLong}}
 
 -- a line that was heard, without its end; or a text that was told
@@ -29,7 +29,7 @@ transcript shows talk = flat_map (talk_text shows) talk
 -- the transcript of the talk so far, and the text that is left to be heard
 pub record LinkView : Type 0 where
   pub talk : List ℕ
-  pub left : List ℕ
+  pub remainder : List ℕ
 
 -- This holds of what a link reports before and after. One that reports goes on to report.
 abbrev pub IfReported : Option LinkView → Option LinkView → (LinkView → LinkView → Type 0) → Type 0
@@ -40,7 +40,7 @@ IfReported (Some before) (Some after) holds = holds before after
 -- a text was told
 pub record HasTold (text : List ℕ) (before after : LinkView) : Type 0 where
   pub talk : after.talk ≡ before.talk ++ text
-  pub left : after.left ≡ before.left
+  pub remainder : after.remainder ≡ before.remainder
 
 -- What telling does: so many bytes of the text were told, or nothing was.
 abbrev pub Tells : {E : Type 0} → (text : List ℕ) → (old new : Option LinkView) → Result ℕ E → Type 0
@@ -50,12 +50,12 @@ Tells text old new (Err fault) = IfReported old new (λ v w. w ≡ v)
 -- a line was heard: the next one of the text that is left
 pub record HasHeard (shows : Bool) (line : List ℕ) (before after : LinkView) : Type 0 where
   pub talk : after.talk ≡ before.talk ++ heard_text shows line
-  pub left : lines before.left ≡ line ∷ lines after.left
+  pub remainder : lines before.remainder ≡ line ∷ lines after.remainder
 
 -- nothing was heard: no line is left
 pub record IsOver (before after : LinkView) : Type 0 where
   pub same : after ≡ before
-  pub none : lines before.left ≡ []
+  pub none : lines before.remainder ≡ []
 
 -- the next line of a text has more bytes than this
 abbrev pub HasLongLine : ℕ → List ℕ → Type 0
@@ -64,7 +64,7 @@ HasLongLine limit text = (line : List ℕ) × (more : List (List ℕ)) × (lines
 -- Hearing failed: a read failed, or the next line is too long. Nothing was heard.
 pub record HasNotHeard (limit : ℕ) (fault : ShellFault) (before after : LinkView) : Type 0 where
   pub same : after ≡ before
-  pub long : fault ≡ TooLong → HasLongLine limit before.left
+  pub long : fault ≡ TooLong → HasLongLine limit before.remainder
 
 -- the bytes that a longest line has
 abbrev pub longest_line : ℕ

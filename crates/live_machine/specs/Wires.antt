@@ -6,15 +6,15 @@ use Rattle.live_machine.specs.{declared.wire.LinkWriter.LinkWriter, Talk.LinkVie
 
 -- A view as one list: the number of the bytes that are left, these bytes, and the talk. What is told comes at its end,
 -- and the list says what is left, and what was talked.
-abbrev pub packed : LinkView → List ℕ
-packed v = length v.left ∷ (v.left ++ v.talk)
+abbrev pub pack : LinkView → List ℕ
+pack v = length v.remainder ∷ (v.remainder ++ v.talk)
 
 abbrev pub packed_report : Option LinkView → Option (List ℕ)
-packed_report report = option_map packed report
+packed_report report = option_map pack report
 
 -- a view, once these bytes have been told too
 abbrev pub with_told : List ℕ → LinkView → LinkView
-with_told text v = record { talk = v.talk ++ text; left = v.left }
+with_told text v = record { talk = v.talk ++ text; remainder = v.remainder }
 
 -- What a wire reports: what its link does, and then what is on its way to it.
 abbrev pub wire_report : {L : Type 0} → (L → Option LinkView) → BufWriter (LinkWriter L) Global → Option LinkView

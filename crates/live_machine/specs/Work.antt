@@ -12,7 +12,8 @@ work_text Beyond = codes "work beyond" ++ 10 ∷ []
 
 -- and that it is too much
 abbrev pub refusal_text : WorkBound → List ℕ
-refusal_text bound = work_text bound ++ codes "refused: the work bound is above 1000000 (--any-work lifts this)" ++ 10 ∷ []
+refusal_text bound = work_text bound ++ codes "refused: the work bound is above 1000000 (--any-work lifts this)" ++ 10
+    ∷ []
 
 -- at most 1,000,000
 abbrev pub is_admitted : WorkBound → Bool
@@ -25,5 +26,7 @@ TellsWork plan old new = (bound : WorkBound) × IsBoundOf (work_bound_of plan) b
 
 -- the work bound of the plan is within the most, and nothing is told; or it is above it, and that is told
 abbrev pub AdmitsWork : PlanView → Bool → Option (List ℕ) → Option (List ℕ) → Type 0
-AdmitsWork plan true old new = (bound : WorkBound) × IsBoundOf (work_bound_of plan) bound × (is_admitted bound ≡ true) × Keeps old new
-AdmitsWork plan false old new = (bound : WorkBound) × IsBoundOf (work_bound_of plan) bound × (is_admitted bound ≡ false) × Appends old new (refusal_text bound)
+AdmitsWork plan true old new = (bound : WorkBound) × IsBoundOf (work_bound_of plan) bound × (is_admitted bound ≡ true)
+    × Keeps old new
+AdmitsWork plan false old new = (bound : WorkBound) × IsBoundOf (work_bound_of plan) bound × (is_admitted bound ≡ false)
+    × Appends old new (refusal_text bound)

@@ -1,6 +1,7 @@
 //! What holds of every live run.
 
-ghost use Rattle.live_machine.specs.LiveLaws.{AnswersComeFirst, RoundsGoOn, AnswersArePlay, LiveIsPlay, LiveIsRun, TranscriptsLoseNothing};
+ghost use Rattle.live_machine.specs.LiveLaws.{AnswersComeFirst, RoundsGoOn, AnswersArePlay, LiveIsPlay, LiveIsRun};
+ghost use Rattle.live_machine.specs.LiveLaws.{TranscriptsLoseNothing};
 
 /// The law of the answers: the first ones depend on the first lines alone. So no answer waits for a
 /// line to come, and what is heard and told goes on from where it is (`rounds`).

@@ -3,7 +3,7 @@
 ghost use Rattle.std.specs.Prelude.{◌≡◌, [], length, IfOk};
 ghost use Rattle.std.specs.Option.{unwrap_or};
 ghost use Rattle.yaml_bytes.specs.View.{option_slice};
-ghost use Rattle.live_machine.specs.LineLinks.{held, reported};
+ghost use Rattle.live_machine.specs.LineLinks.{read_ahead, link_report};
 
 use crate::link::{LONGEST_LINE, Link};
 use crate::read_buffer::ReadBuffer;
@@ -32,7 +32,8 @@ impl<R: Read + Drop, W: Write + Drop> LineLink<R, W> {
     ///
     /// Memory ran out.
     pub fn new(alloc: Global, reader: R, writer: W) -> Result<LineLink<R, W>, AllocError>
-        ensures { IfOk result (λ l. reported (W.contents l.writer) (R.remaining l.reader) (held l.buffer) ≡ reported (W.contents writer) (R.remaining reader) []) }
+        ensures { IfOk result (λ l. link_report (W.contents l.writer) (R.remaining l.reader) (read_ahead l.buffer)
+            ≡ link_report (W.contents writer) (R.remaining reader) []) }
     {
         Ok(LineLink {
             reader,
@@ -47,7 +48,7 @@ impl<R: Read + Drop, W: Write + Drop> Link for LineLink<R, W> {
 
     ghost shows_lines = { false };
 
-    ghost report = { λ l. reported (W.contents l.writer) (R.remaining l.reader) (held l.buffer) };
+    ghost report = { λ l. link_report (W.contents l.writer) (R.remaining l.reader) (read_ahead l.buffer) };
 
     fn hear(&mut self, room: &mut [u8]) -> Result<Option<usize>, ShellFault> {
         self.buffer.fill_line(&mut self.reader)?;
@@ -61,8 +62,8 @@ impl<R: Read + Drop, W: Write + Drop> Link for LineLink<R, W> {
             return Err(ShellFault::TooLong);
         }
         room[..len].copy_from_slice(line);
-        let left = count_after(after);
-        self.buffer.keep_last(left);
+        let size = count_after(after);
+        self.buffer.keep_last(size);
         Ok(Some(len))
     }
 

@@ -11,7 +11,8 @@ ghost use Rattle.live_machine.specs.Talk.{Hears};
 ghost use Rattle.live_machine.specs.Answers.{due_text};
 ghost use Rattle.live_machine.specs.Live.{RunsLive, IsSent};
 ghost use Rattle.live_machine.specs.Wires.{wire_report, wire_contents};
-ghost use Rattle.live_machine.specs.Going.{AppendsBoth, IsReady, IsNextReady, AnswersLine, AnswersLines, IsEnded, RunsRig};
+ghost use Rattle.live_machine.specs.Going.{AppendsBoth, IsReady, IsNextReady, AnswersLine, AnswersLines, IsEnded};
+ghost use Rattle.live_machine.specs.Going.{RunsRig};
 
 use crate::link::{LONGEST_LINE, Link};
 use crate::wire::Wire;
@@ -53,10 +54,12 @@ pub fn run_live<D: Device, B: Board, L: Link>(
     board: B,
     wire: &mut Wire<L>,
 ) -> Result<Verdict, ShellFault>
-    ensures runs { RunsLive checked.now L.shows_lines (board_view B.told B.fault_count B.answers board) (wire_report L.report wire.old) (wire_report L.report wire.new) result }
+    ensures runs { RunsLive checked.now L.shows_lines (board_view B.command_list B.fault_count B.answers board)
+        (wire_report L.report wire.old) (wire_report L.report wire.new) result }
     ensures sent { IsSent result (writer_buffer wire.new) }
     ensures fit { OnOk result (IsFit checked.now.plan (map D.row_of devices.items) (map D.state_of devices.items)) }
-    ensures wrong { IsErrOf result ShellFault.WrongDevice → ¬ (IsFit checked.now.plan (map D.row_of devices.items) (map D.state_of devices.items)) }
+    ensures wrong { IsErrOf result ShellFault.WrongDevice
+        → ¬ (IsFit checked.now.plan (map D.row_of devices.items) (map D.state_of devices.items)) }
 {
     let player = LogPlayer::new(alloc, checked, devices, board)?;
     run_player(player, wire)
@@ -68,7 +71,8 @@ fn run_player<D: Device, B: Board, L: Link>(
     wire: &mut Wire<L>,
 ) -> Result<Verdict, ShellFault>
     requires { IsReady player }
-    ensures runs { RunsRig player.entry.plan L.shows_lines player.entry.rig (wire_report L.report wire.old) (wire_report L.report wire.new) result }
+    ensures runs { RunsRig player.entry.plan L.shows_lines player.entry.rig (wire_report L.report wire.old)
+        (wire_report L.report wire.new) result }
     ensures sent { IsSent result (writer_buffer wire.new) }
 {
     let mut player = player;
@@ -91,7 +95,9 @@ fn end_machine<D: Device, B: Board, L: Link>(
     player: LogPlayer<'_, D, B>,
     wire: &mut Wire<L>,
 ) -> Result<B, ShellFault>
-    ensures done { IfOk result (λ b. IsEnded player.entry.plan player.entry.rig (board_view B.told B.fault_count B.answers b) (wire_report L.report wire.old) (wire_report L.report wire.new)) }
+    ensures done { IfOk result (λ b. IsEnded player.entry.plan player.entry.rig
+        (board_view B.command_list B.fault_count B.answers b) (wire_report L.report wire.old)
+        (wire_report L.report wire.new)) }
     ensures failed { IfErr result (λ e. e ≡ ShellFault.Write) }
     ensures sent { OnOk result (writer_buffer wire.new ≡ []) }
 {
@@ -110,7 +116,8 @@ fn answer_lines<D: Device, B: Board, L: Link>(
 ) -> Result<Verdict, ShellFault>
     requires ready { IsReady player.old }
     requires sent { writer_buffer wire.old ≡ [] }
-    ensures lines { AnswersLines player.old.plan L.shows_lines player.old.rig player.new.rig (wire_report L.report wire.old) (wire_report L.report wire.new) result }
+    ensures lines { AnswersLines player.old.plan L.shows_lines player.old.rig player.new.rig
+        (wire_report L.report wire.old) (wire_report L.report wire.new) result }
     ensures plan { player.new.plan ≡ player.old.plan }
 {
     let mut room = [0u8; LONGEST_LINE];
@@ -132,7 +139,8 @@ fn answer_lines<D: Device, B: Board, L: Link>(
 /// Hears a line from a link to which nothing is on its way.
 fn hear<L: Link>(wire: &mut Wire<L>, room: &mut [u8]) -> Result<Option<usize>, ShellFault>
     requires { writer_buffer wire.old ≡ [] }
-    ensures heard { Hears L.shows_lines room.new (wire_report L.report wire.old) (wire_report L.report wire.new) result }
+    ensures heard { Hears L.shows_lines room.new (wire_report L.report wire.old) (wire_report L.report wire.new)
+        result }
     ensures within { IfOk result (λ len. IfSome len (λ n. n ≤ length room.new)) }
     ensures failed { IfErr result (λ e. (e ≡ ShellFault.Read) ⊎ (e ≡ ShellFault.TooLong)) }
     ensures empty { writer_buffer wire.new ≡ [] }
@@ -158,7 +166,10 @@ fn answer_line<D: Device, B: Board, L: Link>(
 ) -> Result<Verdict, Stop>
     requires going { player.old.has_stopped ≡ false }
     requires page { player.old.page ≡ [] }
-    ensures answers { AnswersLine player.old.plan number line.now player.old.rig player.new.rig (wire_report L.report wire.old) (wire_report L.report wire.new) (append_known (wire_contents L.report wire.old) player.old.page) (append_known (wire_contents L.report wire.new) player.new.page) result }
+    ensures answers { AnswersLine player.old.plan number line.now player.old.rig player.new.rig
+        (wire_report L.report wire.old) (wire_report L.report wire.new)
+        (append_known (wire_contents L.report wire.old) player.old.page)
+        (append_known (wire_contents L.report wire.new) player.new.page) result }
     ensures plan { player.new.plan ≡ player.old.plan }
     ensures next { OnOk result (IsNextReady player.new (writer_buffer wire.new)) }
 {
@@ -177,7 +188,8 @@ fn refuse_last<D: Device, B: Board, L: Link>(
     number: usize,
     wire: &mut Wire<L>,
 ) -> Result<Verdict, ShellFault>
-    ensures written { OnOk result (Appends (append_known (wire_contents L.report wire.old) player.old.page) (wire_contents L.report wire.new) (refused_text number board_refusal)) }
+    ensures written { OnOk result (Appends (append_known (wire_contents L.report wire.old) player.old.page)
+        (wire_contents L.report wire.new) (refused_text number board_refusal)) }
     ensures verdict { IfOk result (λ v. v ≡ Verdict.Refused) }
     ensures failed { IfErr result (λ e. e ≡ ShellFault.Write) }
     ensures kept { player.new ≡ with_page player.new.page player.old }
@@ -195,7 +207,8 @@ fn tell_answer<D: Device, B: Board, L: Link>(
     player: &mut LogPlayer<'_, D, B>,
     wire: &mut Wire<L>,
 ) -> Result<(), WriteFailed>
-    ensures written { OnOk result (AppendsBoth (wire_contents L.report wire.old) (wire_contents L.report wire.new) player.old.page (due_text next)) }
+    ensures written { OnOk result (AppendsBoth (wire_contents L.report wire.old) (wire_contents L.report wire.new)
+        player.old.page (due_text next)) }
     ensures kept { player.new ≡ with_page [] player.old }
     ensures sent { OnOk result (writer_buffer wire.new ≡ []) }
 {
@@ -205,7 +218,8 @@ fn tell_answer<D: Device, B: Board, L: Link>(
 
 /// Tells when an alarm is due next, after all that was written.
 fn tell_due<L: Link>(next: Option<u64>, wire: &mut Wire<L>) -> Result<(), WriteFailed>
-    ensures written { OnOk result (Appends (wire_contents L.report wire.old) (wire_contents L.report wire.new) (due_text next)) }
+    ensures written { OnOk result (Appends (wire_contents L.report wire.old) (wire_contents L.report wire.new)
+        (due_text next)) }
     ensures sent { OnOk result (writer_buffer wire.new ≡ []) }
 {
     match write_due(next, wire) {

@@ -25,11 +25,11 @@ pub struct ReadBuffer {
 }
 
 impl ReadBuffer {
-    ghost use Rattle.live_machine.specs.LineLinks.{held, HasLine};
+    ghost use Rattle.live_machine.specs.LineLinks.{read_ahead, HasLine};
 
     /// No bytes. Only this call takes memory.
     pub fn new(alloc: Global) -> Result<ReadBuffer, AllocError>
-        ensures { IfOk result (λ b. held b ≡ []) }
+        ensures { IfOk result (λ b. read_ahead b ≡ []) }
     {
         Ok(ReadBuffer {
             room: vec![in alloc; 0; ROOM]?,
@@ -39,7 +39,7 @@ impl ReadBuffer {
     }
 
     pub fn bytes(&self) -> &[u8]
-        ensures { result.now ≡ held self.now }
+        ensures { result.now ≡ read_ahead self.now }
     {
         &self.room[self.start..self.end]
     }
@@ -47,9 +47,11 @@ impl ReadBuffer {
     /// Reads on until there is the end of a line, or the reader is at its end. Fails only if a read
     /// does, and by `TooLong` if there are 4,098 bytes without the end of a line. No byte is lost then.
     pub fn fill_line<R: Read>(&mut self, reader: &mut R) -> Result<(), ShellFault>
-        ensures left { Keeps (prepend_known (held self.old) (R.remaining reader.old)) (prepend_known (held self.new) (R.remaining reader.new)) }
-        ensures line { OnOk result (HasLine (held self.new) ⊎ IsAtEnd (R.remaining reader.new)) }
-        ensures long { IsErrOf result ShellFault.TooLong → (length (held self.new) ≡ 4098) × ¬ (HasLine (held self.new)) }
+        ensures left { Keeps (prepend_known (read_ahead self.old) (R.remaining reader.old))
+            (prepend_known (read_ahead self.new) (R.remaining reader.new)) }
+        ensures line { OnOk result (HasLine (read_ahead self.new) ⊎ IsAtEnd (R.remaining reader.new)) }
+        ensures long { IsErrOf result ShellFault.TooLong
+            → (length (read_ahead self.new) ≡ 4098) × ¬ (HasLine (read_ahead self.new)) }
         ensures only { IfErr result (λ e. (e ≡ ShellFault.Read) ⊎ (e ≡ ShellFault.TooLong)) }
     {
         while split_line(self.bytes()).1.is_none() {
@@ -63,11 +65,12 @@ impl ReadBuffer {
     /// Reads what has come, and gives how many bytes: none only at the end of the reader. Fails if the
     /// read does, and by `TooLong` if there is no room.
     fn read_more<R: Read>(&mut self, reader: &mut R) -> Result<usize, ShellFault>
-        ensures left { Keeps (prepend_known (held self.old) (R.remaining reader.old)) (prepend_known (held self.new) (R.remaining reader.new)) }
-        ensures count { IfOk result (λ n. length (held self.new) ≡ length (held self.old) + n) }
+        ensures left { Keeps (prepend_known (read_ahead self.old) (R.remaining reader.old))
+            (prepend_known (read_ahead self.new) (R.remaining reader.new)) }
+        ensures count { IfOk result (λ n. length (read_ahead self.new) ≡ length (read_ahead self.old) + n) }
         ensures end { IfOk result (λ n. n ≡ 0 → IsAtEnd (R.remaining reader.new)) }
-        ensures failed { IfErr result (λ e. held self.new ≡ held self.old) }
-        ensures long { IsErrOf result ShellFault.TooLong → length (held self.new) ≡ 4098 }
+        ensures failed { IfErr result (λ e. read_ahead self.new ≡ read_ahead self.old) }
+        ensures long { IsErrOf result ShellFault.TooLong → length (read_ahead self.new) ≡ 4098 }
         ensures only { IfErr result (λ e. (e ≡ ShellFault.Read) ⊎ (e ≡ ShellFault.TooLong)) }
     {
         self.move_to_front();
@@ -85,7 +88,7 @@ impl ReadBuffer {
 
     /// Moves the bytes to the front of the room.
     fn move_to_front(&mut self)
-        ensures same { held self.new ≡ held self.old }
+        ensures same { read_ahead self.new ≡ read_ahead self.old }
         ensures front { self.new.start ≡ 0 }
     {
         self.room.copy_within(self.start..self.end, 0);
@@ -95,8 +98,8 @@ impl ReadBuffer {
 
     /// So many of the last bytes stay.
     pub fn keep_last(&mut self, count: usize)
-        requires { count ≤ length (held self.old) }
-        ensures { held self.new ≡ drop (length (held self.old) - count) (held self.old) }
+        requires { count ≤ length (read_ahead self.old) }
+        ensures { read_ahead self.new ≡ drop (length (read_ahead self.old) - count) (read_ahead self.old) }
     {
         self.start = self.end - count;
     }

@@ -49,7 +49,8 @@ pub fn admits<W: Write>(
     checked: &Checked,
     writer: &mut W,
 ) -> Result<bool, ShellFault>
-    ensures told { IfOk result (λ yes. AdmitsWork checked.now.plan yes (W.contents writer.old) (W.contents writer.new)) }
+    ensures told { IfOk result (λ yes. AdmitsWork checked.now.plan yes (W.contents writer.old)
+        (W.contents writer.new)) }
     ensures silent { IfErr result (λ e. e ≢ ShellFault.Write → Keeps (W.contents writer.old) (W.contents writer.new)) }
     ensures only { IfErr result (λ e. (e ≡ ShellFault.NoMemory) ⊎ (e ≡ ShellFault.Write)) }
 {

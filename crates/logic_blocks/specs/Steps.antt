@@ -9,17 +9,20 @@ use Rattle.device_objects.specs.Counter as counter
 use Rattle.device_objects.specs.Accrual as accrual
 use Rattle.device_objects.specs.Sequence as sequence
 
-pub counter_steps : (s : Settings) (c : CounterSettings) → s ≡ kinds.Counter c → StepsAreOfSlots s states.Counter (counter.slots c)
+pub counter_steps : (s : Settings) (c : CounterSettings) → s ≡ kinds.Counter c
+    → StepsAreOfSlots s states.Counter (counter.slots c)
 counter_steps s c is =
     subst (λ t. StepsAreOfSlots t states.Counter (counter.slots c)) (sym is)
     (record { first = refl; never_due = λ slots. refl; step = λ call now world slots. refl })
 
-pub accrual_steps : (s : Settings) (a : StepSettings) → s ≡ kinds.Accrual a → StepsAreOfSlots s states.Accrual (accrual.slots a)
+pub accrual_steps : (s : Settings) (a : StepSettings) → s ≡ kinds.Accrual a
+    → StepsAreOfSlots s states.Accrual (accrual.slots a)
 accrual_steps s a is =
     subst (λ t. StepsAreOfSlots t states.Accrual (accrual.slots a)) (sym is)
     (record { first = refl; never_due = λ slots. refl; step = λ call now world slots. refl })
 
-pub sequence_steps : (s : Settings) (q : StepSettings) → s ≡ kinds.Sequence q → StepsAreOfSlots s states.Sequence (sequence.slots q)
+pub sequence_steps : (s : Settings) (q : StepSettings) → s ≡ kinds.Sequence q
+    → StepsAreOfSlots s states.Sequence (sequence.slots q)
 sequence_steps s q is =
     subst (λ t. StepsAreOfSlots t states.Sequence (sequence.slots q)) (sym is)
     (record { first = refl; never_due = λ slots. refl; step = λ call now world slots. refl })

@@ -2,7 +2,7 @@
 
 ghost use Rattle.std.specs.Prelude.{◌≡◌};
 ghost use Rattle.std.specs.List.{list_all};
-ghost use Rattle.device_objects.specs.Accrual.{is_step_open, are_all_done, completed, stepped, slot_step};
+ghost use Rattle.device_objects.specs.Accrual.{is_step_open, are_all_done, after_completion, step_once, slot_step};
 ghost use Rattle.plan_tables.specs.declared.devices.Act.TheVariants as acts;
 ghost use Rattle.plan_tables.specs.declared.devices.Settings.TheVariants as kinds;
 
@@ -10,10 +10,10 @@ use crate::lists::{hit, reset};
 use device_objects::{AccrualSlot, DeviceState, Outcome};
 use machine_settings::StepSettings;
 use plan_tables::{Act, DeviceRow, Settings};
-use slotted_devices::{SlotKind, Slotted};
+use slotted_devices::{SlotDevice, SlotKind};
 
 /// An accrual: it completes when all its steps are done, in any order.
-pub type Accrual = Slotted<AccrualKind>;
+pub type Accrual = SlotDevice<AccrualKind>;
 
 /// The kind of [`Accrual`]: its row and its settings.
 #[derive(Clone, Copy)]
@@ -30,7 +30,7 @@ impl SlotKind for AccrualKind {
 
     type Slot = AccrualSlot;
 
-    type Seen = AccrualSlot;
+    type SlotView = AccrualSlot;
 
     ghost IsOfKind = { IsAccrual };
 
@@ -40,7 +40,7 @@ impl SlotKind for AccrualKind {
 
     ghost model = { λ k. slots k.settings };
 
-    ghost seen = { λ slot. slot };
+    ghost slot_view = { λ slot. slot };
 
     ghost steps = { λ k. accrual_steps k.row.settings k.settings k.kind };
 
@@ -125,9 +125,9 @@ fn are_all_done(settings: &StepSettings, done: &[bool; 16]) -> bool
 }
 
 /// A step was done: the accrual completes, or goes on.
-fn stepped(settings: &StepSettings, slot: &mut AccrualSlot) -> Outcome
-    ensures slot { slot.new ≡ (stepped settings.now slot.old).0 }
-    ensures outcome { result.items ≡ (stepped settings.now slot.old).1 }
+fn step_once(settings: &StepSettings, slot: &mut AccrualSlot) -> Outcome
+    ensures slot { slot.new ≡ (step_once settings.now slot.old).0 }
+    ensures outcome { result.items ≡ (step_once settings.now slot.old).1 }
 {
     let completes = are_all_done(settings, &slot.done);
     if completes {
@@ -138,7 +138,7 @@ fn stepped(settings: &StepSettings, slot: &mut AccrualSlot) -> Outcome
 
 /// The accrual completes.
 fn complete(settings: &StepSettings, slot: &mut AccrualSlot)
-    ensures { slot.new ≡ completed settings.now slot.old }
+    ensures { slot.new ≡ after_completion settings.now slot.old }
 {
     if settings.block.disable_on_complete {
         slot.enabled = false;
@@ -157,5 +157,5 @@ fn take_step(settings: &StepSettings, slot: &mut AccrualSlot, i: usize) -> Outco
         return Outcome::new();
     }
     slot.done[i] = true;
-    stepped(settings, slot)
+    step_once(settings, slot)
 }

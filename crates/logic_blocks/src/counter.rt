@@ -1,19 +1,19 @@
 //! A counter.
 
 ghost use Rattle.std.specs.Prelude.{◌≡◌, ◌<◌, ◌^◌};
-ghost use Rattle.device_objects.specs.Counter.{is_early, completed, counted, slot_step};
+ghost use Rattle.device_objects.specs.Counter.{is_early, after_completion, count_hit, slot_step};
 ghost use Rattle.plan_tables.specs.declared.devices.Act.TheVariants as acts;
 ghost use Rattle.plan_tables.specs.declared.devices.Settings.TheVariants as kinds;
 
 use crate::lists::{hit, reset};
-use device_objects::values::moved;
+use device_objects::values::move_value;
 use device_objects::{CounterSlot, DeviceState, Outcome};
 use machine_settings::CounterSettings;
 use plan_tables::{Act, DeviceRow, Settings};
-use slotted_devices::{SlotKind, Slotted};
+use slotted_devices::{SlotDevice, SlotKind};
 
 /// A counter: it counts hits, and completes when its value reaches or passes the one that is set.
-pub type Counter = Slotted<CounterKind>;
+pub type Counter = SlotDevice<CounterKind>;
 
 /// The kind of [`Counter`]: its row and its settings.
 #[derive(Clone, Copy)]
@@ -30,7 +30,7 @@ impl SlotKind for CounterKind {
 
     type Slot = CounterSlot;
 
-    type Seen = CounterSlot;
+    type SlotView = CounterSlot;
 
     ghost IsOfKind = { IsCounter };
 
@@ -40,7 +40,7 @@ impl SlotKind for CounterKind {
 
     ghost model = { λ k. slots k.settings };
 
-    ghost seen = { λ slot. slot };
+    ghost slot_view = { λ slot. slot };
 
     ghost steps = { λ k. counter_steps k.row.settings k.settings k.kind };
 
@@ -116,9 +116,9 @@ fn is_early(window: u32, last_hit: Option<u64>, now: u64) -> bool
 }
 
 /// A hit was counted: the counter completes, or goes on.
-fn counted(settings: &CounterSettings, slot: &mut CounterSlot) -> Outcome
-    ensures slot { slot.new ≡ (counted settings.now slot.old).0 }
-    ensures outcome { result.items ≡ (counted settings.now slot.old).1 }
+fn count_hit(settings: &CounterSettings, slot: &mut CounterSlot) -> Outcome
+    ensures slot { slot.new ≡ (count_hit settings.now slot.old).0 }
+    ensures outcome { result.items ≡ (count_hit settings.now slot.old).1 }
 {
     let completes = settings.direction.is_at_end(settings.complete, slot.value);
     if completes {
@@ -129,7 +129,7 @@ fn counted(settings: &CounterSettings, slot: &mut CounterSlot) -> Outcome
 
 /// The counter completes.
 fn complete(settings: &CounterSettings, slot: &mut CounterSlot)
-    ensures { slot.new ≡ completed settings.now slot.old }
+    ensures { slot.new ≡ after_completion settings.now slot.old }
 {
     if settings.block.disable_on_complete {
         slot.enabled = false;
@@ -148,7 +148,7 @@ fn count(settings: &CounterSettings, slot: &mut CounterSlot, now: u64) -> Outcom
     if !slot.enabled || is_early(settings.window, slot.last_hit, now) {
         return Outcome::new();
     }
-    slot.value = moved(settings.direction, settings.interval, slot.value);
+    slot.value = move_value(settings.direction, settings.interval, slot.value);
     slot.last_hit = Some(now);
-    counted(settings, slot)
+    count_hit(settings, slot)
 }

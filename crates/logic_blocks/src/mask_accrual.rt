@@ -1,7 +1,7 @@
 //! An accrual that keeps its steps as bits.
 
 ghost use Rattle.std.specs.Prelude.{◌≡◌, ◌<◌, IsTrue, map};
-ghost use Rattle.device_objects.specs.Accrual.{completed, is_step_open, slot_step, stepped};
+ghost use Rattle.device_objects.specs.Accrual.{after_completion, is_step_open, slot_step, step_once};
 ghost use Rattle.device_objects.specs.Flags.{flags};
 ghost use Rattle.logic_blocks.specs.Mask.{slot_of};
 ghost use Rattle.plan_tables.specs.declared.devices.Act.TheVariants as acts;
@@ -12,11 +12,11 @@ use device_objects::flags::{are_set, flags_of, is_set, mask_of, with_flag};
 use device_objects::{AccrualSlot, DeviceState, Outcome};
 use machine_settings::StepSettings;
 use plan_tables::{Act, DeviceRow, Settings};
-use slotted_devices::{Resume, SlotKind, Slotted};
+use slotted_devices::{Resume, SlotDevice, SlotKind};
 
 /// An accrual that keeps which steps are done as bits. Its row and its calls are those of
 /// [`Accrual`](crate::Accrual), and it can take the place of one in any state.
-pub type MaskAccrual = Slotted<MaskAccrualKind>;
+pub type MaskAccrual = SlotDevice<MaskAccrualKind>;
 
 /// The kind of [`MaskAccrual`]: its row and its settings.
 #[derive(Clone, Copy)]
@@ -28,7 +28,7 @@ pub struct MaskAccrualKind {
 
 /// What a [`MaskAccrual`] keeps for one player, or for all.
 #[derive(Clone, Copy)]
-pub struct MaskSlot {
+pub struct StepMaskSlot {
     /// The game to which it belongs, as in [`AccrualSlot`].
     game: u64,
     /// Whether it takes steps.
@@ -42,9 +42,9 @@ impl SlotKind for MaskAccrualKind {
     ghost use Rattle.device_objects.specs.declared.state.DeviceState.TheVariants as states;
     ghost use Rattle.logic_blocks.specs.{Kind.IsAccrual, Steps.accrual_steps};
 
-    type Slot = MaskSlot;
+    type Slot = StepMaskSlot;
 
-    type Seen = AccrualSlot;
+    type SlotView = AccrualSlot;
 
     ghost IsOfKind = { IsAccrual };
 
@@ -54,7 +54,7 @@ impl SlotKind for MaskAccrualKind {
 
     ghost model = { λ k. slots k.settings };
 
-    ghost seen = { slot_of };
+    ghost slot_view = { slot_of };
 
     ghost steps = { λ k. accrual_steps k.row.settings k.settings k.kind };
 
@@ -72,27 +72,27 @@ impl SlotKind for MaskAccrualKind {
         self.row
     }
 
-    fn state(slots: &[MaskSlot; 4]) -> DeviceState {
-        DeviceState::Accrual(seen(slots))
+    fn state(slots: &[StepMaskSlot; 4]) -> DeviceState {
+        DeviceState::Accrual(slot_views(slots))
     }
 
     fn persists(&self) -> bool {
         self.settings.block.persist
     }
 
-    fn first_slot(&self, game: u64) -> MaskSlot {
-        MaskSlot {
+    fn first_slot(&self, game: u64) -> StepMaskSlot {
+        StepMaskSlot {
             game,
             enabled: self.settings.block.enabled,
             done: 0,
         }
     }
 
-    fn game(&self, slot: &MaskSlot) -> u64 {
+    fn game(&self, slot: &StepMaskSlot) -> u64 {
         slot.game
     }
 
-    fn step(&self, slot: &mut MaskSlot, act: Act, _now: u64) -> Outcome {
+    fn step(&self, slot: &mut StepMaskSlot, act: Act, _now: u64) -> Outcome {
         match act {
             Act::Step(i) => take_step(&self.settings, slot, i),
             Act::Enable => {
@@ -118,19 +118,19 @@ impl SlotKind for MaskAccrualKind {
 }
 
 impl Resume for MaskAccrualKind {
-    fn slots_of(&self, state: &DeviceState) -> Option<[MaskSlot; 4]> {
+    fn slots_of(&self, state: &DeviceState) -> Option<[StepMaskSlot; 4]> {
         match state {
-            DeviceState::Accrual(slots) => Some(masked(slots)),
+            DeviceState::Accrual(slots) => Some(mask_slots(slots)),
             _ => None,
         }
     }
 }
 
 /// A slot with its steps as bits.
-fn masked_slot(slot: &AccrualSlot) -> MaskSlot
+fn masked_slot(slot: &AccrualSlot) -> StepMaskSlot
     ensures { slot_of result ≡ slot.now }
 {
-    MaskSlot {
+    StepMaskSlot {
         game: slot.game,
         enabled: slot.enabled,
         done: mask_of(&slot.done),
@@ -138,7 +138,7 @@ fn masked_slot(slot: &AccrualSlot) -> MaskSlot
 }
 
 /// The slots with their steps as bits.
-fn masked(slots: &[AccrualSlot; 4]) -> [MaskSlot; 4]
+fn mask_slots(slots: &[AccrualSlot; 4]) -> [StepMaskSlot; 4]
     ensures { map slot_of result ≡ slots.now }
 {
     [
@@ -150,7 +150,7 @@ fn masked(slots: &[AccrualSlot; 4]) -> [MaskSlot; 4]
 }
 
 /// A slot as others see it.
-fn seen_slot(slot: &MaskSlot) -> AccrualSlot
+fn seen_slot(slot: &StepMaskSlot) -> AccrualSlot
     ensures { result ≡ slot_of slot.now }
 {
     AccrualSlot {
@@ -161,7 +161,7 @@ fn seen_slot(slot: &MaskSlot) -> AccrualSlot
 }
 
 /// The slots as others see them.
-fn seen(slots: &[MaskSlot; 4]) -> [AccrualSlot; 4]
+fn slot_views(slots: &[StepMaskSlot; 4]) -> [AccrualSlot; 4]
     ensures { result ≡ map slot_of slots.now }
 {
     [
@@ -181,9 +181,9 @@ fn is_step_open(settings: &StepSettings, i: usize, done: u16) -> bool
 }
 
 /// A step was done: the accrual completes, or goes on.
-fn stepped(settings: &StepSettings, slot: &mut MaskSlot) -> Outcome
-    ensures slot { slot_of slot.new ≡ (stepped settings.now (slot_of slot.old)).0 }
-    ensures outcome { result.items ≡ (stepped settings.now (slot_of slot.old)).1 }
+fn step_once(settings: &StepSettings, slot: &mut StepMaskSlot) -> Outcome
+    ensures slot { slot_of slot.new ≡ (step_once settings.now (slot_of slot.old)).0 }
+    ensures outcome { result.items ≡ (step_once settings.now (slot_of slot.old)).1 }
 {
     let completes = are_set(slot.done, settings.steps);
     if completes {
@@ -193,8 +193,8 @@ fn stepped(settings: &StepSettings, slot: &mut MaskSlot) -> Outcome
 }
 
 /// The accrual completes.
-fn complete(settings: &StepSettings, slot: &mut MaskSlot)
-    ensures { slot_of slot.new ≡ completed settings.now (slot_of slot.old) }
+fn complete(settings: &StepSettings, slot: &mut StepMaskSlot)
+    ensures { slot_of slot.new ≡ after_completion settings.now (slot_of slot.old) }
 {
     if settings.block.disable_on_complete {
         slot.enabled = false;
@@ -205,7 +205,7 @@ fn complete(settings: &StepSettings, slot: &mut MaskSlot)
 }
 
 /// A step of this number.
-fn take_step(settings: &StepSettings, slot: &mut MaskSlot, i: usize) -> Outcome
+fn take_step(settings: &StepSettings, slot: &mut StepMaskSlot, i: usize) -> Outcome
     ensures slot { slot_of slot.new ≡ (slot_step settings.now (acts.Step i) (slot_of slot.old)).0 }
     ensures outcome { result.items ≡ (slot_step settings.now (acts.Step i) (slot_of slot.old)).1 }
 {
@@ -213,5 +213,5 @@ fn take_step(settings: &StepSettings, slot: &mut MaskSlot, i: usize) -> Outcome
         return Outcome::new();
     }
     slot.done = with_flag(slot.done, i, true);
-    stepped(settings, slot)
+    step_once(settings, slot)
 }

@@ -1,7 +1,7 @@
 //! A sequence.
 
 ghost use Rattle.std.specs.Prelude.{◌≡◌};
-ghost use Rattle.device_objects.specs.Sequence.{completed, stepped, slot_step};
+ghost use Rattle.device_objects.specs.Sequence.{after_completion, step_once, slot_step};
 ghost use Rattle.plan_tables.specs.declared.devices.Act.TheVariants as acts;
 ghost use Rattle.plan_tables.specs.declared.devices.Settings.TheVariants as kinds;
 
@@ -9,10 +9,10 @@ use crate::lists::{hit, reset};
 use device_objects::{DeviceState, Outcome, SequenceSlot};
 use machine_settings::StepSettings;
 use plan_tables::{Act, DeviceRow, Settings};
-use slotted_devices::{SlotKind, Slotted};
+use slotted_devices::{SlotDevice, SlotKind};
 
 /// A sequence: it completes when all its steps are done, each after the one before.
-pub type Sequence = Slotted<SequenceKind>;
+pub type Sequence = SlotDevice<SequenceKind>;
 
 /// The kind of [`Sequence`]: its row and its settings.
 #[derive(Clone, Copy)]
@@ -29,7 +29,7 @@ impl SlotKind for SequenceKind {
 
     type Slot = SequenceSlot;
 
-    type Seen = SequenceSlot;
+    type SlotView = SequenceSlot;
 
     ghost IsOfKind = { IsSequence };
 
@@ -39,7 +39,7 @@ impl SlotKind for SequenceKind {
 
     ghost model = { λ k. slots k.settings };
 
-    ghost seen = { λ slot. slot };
+    ghost slot_view = { λ slot. slot };
 
     ghost steps = { λ k. sequence_steps k.row.settings k.settings k.kind };
 
@@ -103,9 +103,9 @@ impl SlotKind for SequenceKind {
 }
 
 /// A step was done: the sequence completes, or goes on.
-fn stepped(settings: &StepSettings, slot: &mut SequenceSlot) -> Outcome
-    ensures slot { slot.new ≡ (stepped settings.now slot.old).0 }
-    ensures outcome { result.items ≡ (stepped settings.now slot.old).1 }
+fn step_once(settings: &StepSettings, slot: &mut SequenceSlot) -> Outcome
+    ensures slot { slot.new ≡ (step_once settings.now slot.old).0 }
+    ensures outcome { result.items ≡ (step_once settings.now slot.old).1 }
 {
     let completes = slot.next == settings.steps;
     if completes {
@@ -116,7 +116,7 @@ fn stepped(settings: &StepSettings, slot: &mut SequenceSlot) -> Outcome
 
 /// The sequence completes.
 fn complete(settings: &StepSettings, slot: &mut SequenceSlot)
-    ensures { slot.new ≡ completed settings.now slot.old }
+    ensures { slot.new ≡ after_completion settings.now slot.old }
 {
     if settings.block.disable_on_complete {
         slot.enabled = false;
@@ -135,5 +135,5 @@ fn take_step(settings: &StepSettings, slot: &mut SequenceSlot, i: usize) -> Outc
         return Outcome::new();
     }
     slot.next = i + 1;
-    stepped(settings, slot)
+    step_once(settings, slot)
 }

@@ -1,28 +1,28 @@
 //! A timer.
 
 ghost use Rattle.std.specs.Prelude.{◌≡◌, ◌<◌, ◌^◌, if◌then◌else◌, [], ◌∷◌};
-ghost use Rattle.device_objects.specs.Values.{clamped};
-ghost use Rattle.device_objects.specs.Timer.{is_running, run, halt, completed, changed, act_step, timer_step};
+ghost use Rattle.device_objects.specs.Values.{clamp_value};
+ghost use Rattle.device_objects.specs.Timer.{is_running, run, halt, complete_timer, change_value, act_step, timer_step};
 ghost use Rattle.plan_tables.specs.declared.devices.Act.TheVariants as acts;
 ghost use Rattle.device_objects.specs.declared.device.Call.TheVariants as calls;
 ghost use Rattle.plan_tables.specs.declared.devices.Settings.TheVariants as kinds;
 
 use device_objects::outcome::one_list;
-use device_objects::values::{clamped, moved};
+use device_objects::values::{clamp_value, move_value};
 use device_objects::{Device, DeviceState, Outcome, TimerState, World};
 use machine_settings::TimerSettings;
 use plan_tables::{Act, DeviceRow, Settings};
 
 /// The list of a timer that starts to run.
-const STARTED: u16 = 0;
+const START_LIST: u16 = 0;
 /// The list of a timer that is stopped.
-const STOPPED: u16 = 1;
+const STOP_LIST: u16 = 1;
 /// The list of a timer that is paused.
-const PAUSED: u16 = 2;
+const PAUSE_LIST: u16 = 2;
 /// The list of a tick.
-const TICK: u16 = 3;
+const TICK_LIST: u16 = 3;
 /// The list of a timer that completes.
-const COMPLETE: u16 = 4;
+const COMPLETE_LIST: u16 = 4;
 
 /// A timer: while it runs its value goes on by one at each tick, and it completes at its end.
 #[derive(Drop)]
@@ -83,7 +83,7 @@ impl Device for Timer {
             return Outcome::new();
         }
         run(&self.settings, &mut self.state, now);
-        one_list(STARTED)
+        one_list(START_LIST)
     }
 
     fn stop(&mut self, _now: u64, _world: World) -> Outcome {
@@ -111,14 +111,14 @@ fn run(settings: &TimerSettings, state: &mut TimerState, now: u64)
 /// The timer completes.
 fn complete(settings: &TimerSettings, state: &mut TimerState, now: u64) -> Outcome
     requires { now < 2 ^ 40 }
-    ensures state { state.new ≡ (completed settings.now now state.old).0 }
-    ensures outcome { result.items ≡ (completed settings.now now state.old).1 }
+    ensures state { state.new ≡ (complete_timer settings.now now state.old).0 }
+    ensures outcome { result.items ≡ (complete_timer settings.now now state.old).1 }
 {
-    let mut lists = one_list(COMPLETE);
+    let mut lists = one_list(COMPLETE_LIST);
     if settings.restart {
         state.value = settings.start;
         run(settings, state, now);
-        lists.push(STARTED);
+        lists.push(START_LIST);
     } else {
         state.due = None;
     }
@@ -128,10 +128,11 @@ fn complete(settings: &TimerSettings, state: &mut TimerState, now: u64) -> Outco
 /// The value was changed: a timer that runs completes if it is at its end now.
 fn change(settings: &TimerSettings, state: &mut TimerState, value: i128, now: u64) -> Outcome
     requires { now < 2 ^ 40 }
-    ensures state { state.new ≡ (changed settings.now now (record state.old { value = clamped value })).0 }
-    ensures outcome { result.items ≡ (changed settings.now now (record state.old { value = clamped value })).1 }
+    ensures state { state.new ≡ (change_value settings.now now (record state.old { value = clamp_value value })).0 }
+    ensures outcome { result.items ≡ (change_value settings.now now
+        (record state.old { value = clamp_value value })).1 }
 {
-    state.value = clamped(value);
+    state.value = clamp_value(value);
     if state.due.is_some() && settings.direction.is_at_end(settings.end, state.value) {
         complete(settings, state, now)
     } else {
@@ -145,13 +146,13 @@ fn tick(settings: &TimerSettings, state: &mut TimerState, now: u64) -> Outcome
     ensures state { state.new ≡ (timer_step settings.now calls.Fire now state.old).0 }
     ensures outcome { result.items ≡ (timer_step settings.now calls.Fire now state.old).1 }
 {
-    state.value = moved(settings.direction, 1, state.value);
-    let mut lists = one_list(TICK);
+    state.value = move_value(settings.direction, 1, state.value);
+    let mut lists = one_list(TICK_LIST);
     if settings.direction.is_at_end(settings.end, state.value) {
-        lists.push(COMPLETE);
+        lists.push(COMPLETE_LIST);
         complete(settings, state, now);
         if settings.restart {
-            lists.push(STARTED);
+            lists.push(START_LIST);
         }
     } else {
         run(settings, state, now);
@@ -169,7 +170,7 @@ fn start(settings: &TimerSettings, state: &mut TimerState, now: u64) -> Outcome
         return Outcome::new();
     }
     run(settings, state, now);
-    one_list(STARTED)
+    one_list(START_LIST)
 }
 
 /// The timer stops running, if it runs, and this list is answered.
@@ -190,8 +191,8 @@ fn step(settings: &TimerSettings, state: &mut TimerState, act: Act, now: u64) ->
 {
     match act {
         Act::Start => start(settings, state, now),
-        Act::Stop => halt(state, STOPPED),
-        Act::Pause => halt(state, PAUSED),
+        Act::Stop => halt(state, STOP_LIST),
+        Act::Pause => halt(state, PAUSE_LIST),
         Act::Reset => {
             state.value = settings.start;
             Outcome::new()
@@ -199,7 +200,7 @@ fn step(settings: &TimerSettings, state: &mut TimerState, act: Act, now: u64) ->
         Act::Restart => {
             state.value = settings.start;
             run(settings, state, now);
-            one_list(STARTED)
+            one_list(START_LIST)
         }
         Act::Add(n) => change(
             settings,

@@ -13,12 +13,15 @@ module _ (plan : PlanView) where
   count-move x1 s = search rules
 
   count-does : {may : Move → Type 0} {c : Cost} {s t : Machine} → Does plan may c s t → length t.coils ≡ length s.coils
-  count-does {may} {c} {s} {t} d = does-keeps plan may (λ u. length u.coils ≡ length s.coils) (λ x u allowed h. count-move x u ∙ h) d refl
+  count-does {may} {c} {s} {t} d = does-keeps plan may (λ u. length u.coils ≡ length s.coils)
+      (λ x u allowed h. count-move x u ∙ h) d refl
 
   -- the actions of an effect list are within the plan
-  pub actions-within : HasEntries plan → (l : ListId) → l.0 < length plan.lists → All (IsActionWithin plan) (actions_at plan l)
+  pub actions-within : HasEntries plan → (l : ListId) → l.0 < length plan.lists
+      → All (IsActionWithin plan) (actions_at plan l)
   actions-within entries l there = All-get_or (All (IsActionWithin plan)) plan.lists l.0 [] there entries.lists
 
 -- moves, whichever modes run then
-pub can-does : {may : Move → Type 0} {c : Cost} (old : CoreView) (running : List Bool) (s : Machine) → Does old.plan may c old.machine s → CanCall old → CanCall (record old { running = running; machine = s })
+pub can-does : {may : Move → Type 0} {c : Cost} (old : CoreView) (running : List Bool) (s : Machine)
+    → Does old.plan may c old.machine s → CanCall old → CanCall (record old { running = running; machine = s })
 can-does old running s d h = search (rules, has_devices-does, count-does, moment-does)

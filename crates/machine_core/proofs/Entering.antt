@@ -8,7 +8,8 @@ use Rattle.written_machine.specs.Machine.{Machine, post, book, drain_if, enter_b
 use Rattle.machine_core.specs.{Core.{CoreView, CanCall, IsWithin, after}, Goes.{AlwaysGoes, Tell}}
 use Rattle.machine_core.proofs.{Going.{goes-post, goes-after_entry}, Room.room-before}
 
-module _ (tell : Tell) (goes : AlwaysGoes tell) (owner : Owner) (r : RowId) (drain : Bool) (e : EventId) (old : CoreView) (room : IsWithin old.room (enter_ball old.plan (tell old.plan) owner r e drain old.machine)) where
+module _ (tell : Tell) (goes : AlwaysGoes tell) (owner : Owner) (r : RowId) (drain : Bool) (e : EventId)
+    (old : CoreView) (room : IsWithin old.room (enter_ball old.plan (tell old.plan) owner r e drain old.machine)) where
   abbrev told : Machine
   told = book owner (calls_of_ledger.Enter r) old.machine
 
@@ -41,7 +42,9 @@ module _ (tell : Tell) (goes : AlwaysGoes tell) (owner : Owner) (r : RowId) (dra
       pub tell-room : is_awaited origin ≡ true → IsWithin now.room (tell now.plan (Arrived (Device r)) now.machine)
       tell-room awaited = search rules
 
-      pub entered-awaited : is_awaited origin ≡ true → (last : CoreView) → last ≡ after (tell now.plan (Arrived (Device r))) now → last ≡ after (enter_ball old.plan (tell old.plan) owner r e drain) old
+      pub entered-awaited : is_awaited origin ≡ true → (last : CoreView)
+          → last ≡ after (tell now.plan (Arrived (Device r))) now
+          → last ≡ after (enter_ball old.plan (tell old.plan) owner r e drain) old
       entered-awaited awaited last last_is = search rules
 
       pub drain-game : (drain ≡ true → HasGame old.plan) → drain ≡ true → HasGame now.plan
@@ -50,5 +53,7 @@ module _ (tell : Tell) (goes : AlwaysGoes tell) (owner : Owner) (r : RowId) (dra
       pub drain-room : is_awaited origin ≡ false → IsWithin now.room (drain_if now.plan owner drain now.machine)
       drain-room other = search rules
 
-      pub entered-other : is_awaited origin ≡ false → (last : CoreView) → last ≡ after (drain_if now.plan owner drain) now → last ≡ after (enter_ball old.plan (tell old.plan) owner r e drain) old
+      pub entered-other : is_awaited origin ≡ false → (last : CoreView)
+          → last ≡ after (drain_if now.plan owner drain) now
+          → last ≡ after (enter_ball old.plan (tell old.plan) owner r e drain) old
       entered-other other last last_is = search rules

@@ -6,8 +6,10 @@ use Rattle.device_objects.specs.declared.state.{DeviceState.DeviceState, World.W
 use Rattle.written_machine.specs.Machine.{device_state}
 use Rattle.machine_core.{specs.Stopping.stopped_state, proofs.Calling.{row-is, state-is, rows-kept}}
 
-module _ {A : Type 0} (row : A → DeviceRow) (state : A → DeviceState) (plan : PlanView) (items : List A) (at : RowId) (old new : A)
-    (rows : map row items ≡ plan.rows) (there : slice_get items at.0 ≡ Some old) (same_row : row new ≡ row_at plan at) (same_state : state new ≡ device_state (map state items) at) where
+module _ {A : Type 0} (row : A → DeviceRow) (state : A → DeviceState) (plan : PlanView) (items : List A) (at : RowId)
+    (old new : A)
+    (rows : map row items ≡ plan.rows) (there : slice_get items at.0 ≡ Some old) (same_row : row new ≡ row_at plan at)
+    (same_state : state new ≡ device_state (map state items) at) where
   within : at.0 < length items
   within = slice_get_within items at.0 old there
 
@@ -27,5 +29,7 @@ module _ {A : Type 0} (row : A → DeviceRow) (state : A → DeviceState) (plan 
   states-stay = map-set_same state items at.0 new old (same_state ∙ sym old-state ∙ ap state read)
 
   -- what the old device is, once it has stopped
-  pub old-stopped : (moment : ℕ) (world : World) → stopped_state moment world (row old) (state old) ≡ stopped_state moment world (row_at plan at) (device_state (map state items) at)
+  pub old-stopped : (moment : ℕ) (world : World)
+      → stopped_state moment world (row old) (state old)
+      ≡ stopped_state moment world (row_at plan at) (device_state (map state items) at)
   old-stopped moment world = λ i. stopped_state moment world (old-row i) (old-state i)

@@ -1,6 +1,7 @@
 -- Which devices are those of a plan.
-use Rattle.std.proofs.Common.{◌≡◌, ℕ, suc, ◌<◌, ◌≤◌, inl, inr, Some, None, List, [], ◌∷◌, length, map, replicate, get_or, refl, ap, sym, ◌∙◌, arith}
-use Rattle.std.{specs.Prelude.slice_get, proofs.lemmas.{Bool.cases_lt, List.{get_or-map, length-map}}}
+use Rattle.std.proofs.Common.{◌≡◌, ℕ, suc, ◌<◌, ◌≤◌, inl, inr, Some, None, List, [], ◌∷◌, length, map, replicate}
+use Rattle.std.{proofs.Common.{get_or, refl, ap, sym, ◌∙◌, arith}, specs.Prelude.slice_get}
+use Rattle.std.proofs.lemmas.{Bool.cases_lt, List.{get_or-map, length-map}}
 use Rattle.std.proofs.lemmas.Option.{slice_get-get_or, slice_get_within, same_Some}
 use Rattle.plan_tables.specs.{PlanView.{PlanView, no_row, row_at}, declared.devices.DeviceRow.DeviceRow}
 use Rattle.device_objects.specs.{declared.state.DeviceState.DeviceState, DeviceStep.{due_of, first_state}}
@@ -8,7 +9,8 @@ use Rattle.device_objects.proofs.Lawful.{nothing_is_due}
 use Rattle.machine_core.specs.Fit.{IsRight, IsFit, IsFirstWrong}
 
 -- lists with the same items are the same
-same-items : {X : Type 0} (xs ys : List X) → length xs ≡ length ys → ((i : ℕ) → i < length ys → slice_get xs i ≡ slice_get ys i) → xs ≡ ys
+same-items : {X : Type 0} (xs ys : List X) → length xs ≡ length ys
+    → ((i : ℕ) → i < length ys → slice_get xs i ≡ slice_get ys i) → xs ≡ ys
 same-items [] [] count each = refl
 same-items [] (y ∷ ys) count each = absurd (omega (arith, count))
 same-items (x ∷ xs) [] count each = absurd (omega (arith, count))
@@ -25,26 +27,35 @@ module _ {A : Type 0} (row : A → DeviceRow) (state : A → DeviceState) (plan 
   states = map state devices
 
   -- the device at a number is right
-  pub right-at : (i : ℕ) (d : A) → i < length plan.rows → i < length devices → d ≡ get_or devices i d → row d ≡ row_at plan (record { 0 = i }) → state d ≡ first_state (row_at plan (record { 0 = i })).settings → IsRight plan rows states i
+  pub right-at : (i : ℕ) (d : A) → i < length plan.rows → i < length devices → d ≡ get_or devices i d
+      → row d ≡ row_at plan (record { 0 = i }) → state d ≡ first_state (row_at plan (record { 0 = i })).settings
+      → IsRight plan rows states i
   right-at i d there within read row_is state_is = record {
     there = there;
-    row = slice_get-get_or rows i (row d) (omega (arith, within, length-map devices row)) ∙ ap Some (get_or-map row devices i d (row d) within ∙ ap row (sym read) ∙ row_is);
-    state = slice_get-get_or states i (state d) (omega (arith, within, length-map devices state)) ∙ ap Some (get_or-map state devices i d (state d) within ∙ ap state (sym read) ∙ state_is);
+    row = slice_get-get_or rows i (row d) (omega (arith, within, length-map devices row))
+        ∙ ap Some (get_or-map row devices i d (row d) within ∙ ap row (sym read) ∙ row_is);
+    state = slice_get-get_or states i (state d) (omega (arith, within, length-map devices state))
+        ∙ ap Some (get_or-map state devices i d (state d) within ∙ ap state (sym read) ∙ state_is);
   }
 
   -- only such a device is right
-  right-row : (i : ℕ) (d : A) → i < length devices → d ≡ get_or devices i d → IsRight plan rows states i → row d ≡ row_at plan (record { 0 = i })
+  right-row : (i : ℕ) (d : A) → i < length devices → d ≡ get_or devices i d → IsRight plan rows states i
+      → row d ≡ row_at plan (record { 0 = i })
   right-row i d within read right =
       same_Some (row d) (row_at plan (record { 0 = i }))
-      (sym (slice_get-get_or rows i (row d) (omega (arith, within, length-map devices row)) ∙ ap Some (get_or-map row devices i d (row d) within ∙ ap row (sym read))) ∙ right.row)
+      (sym (slice_get-get_or rows i (row d) (omega (arith, within, length-map devices row))
+      ∙ ap Some (get_or-map row devices i d (row d) within ∙ ap row (sym read))) ∙ right.row)
 
-  right-state : (i : ℕ) (d : A) → i < length devices → d ≡ get_or devices i d → IsRight plan rows states i → state d ≡ first_state (row_at plan (record { 0 = i })).settings
+  right-state : (i : ℕ) (d : A) → i < length devices → d ≡ get_or devices i d → IsRight plan rows states i
+      → state d ≡ first_state (row_at plan (record { 0 = i })).settings
   right-state i d within read right =
       same_Some (state d) (first_state (row_at plan (record { 0 = i })).settings)
-      (sym (slice_get-get_or states i (state d) (omega (arith, within, length-map devices state)) ∙ ap Some (get_or-map state devices i d (state d) within ∙ ap state (sym read))) ∙ right.state)
+      (sym (slice_get-get_or states i (state d) (omega (arith, within, length-map devices state))
+      ∙ ap Some (get_or-map state devices i d (state d) within ∙ ap state (sym read))) ∙ right.state)
 
   right-there : (i : ℕ) → IsRight plan rows states i → i < length devices
-  right-there i right = let inside = slice_get_within rows i (row_at plan (record { 0 = i })) right.row in omega (arith, inside, length-map devices row)
+  right-there i right = let inside = slice_get_within rows i (row_at plan (record { 0 = i })) right.row
+      in omega (arith, inside, length-map devices row)
 
   -- devices that fit are right
   pub fit-right : IsFit plan rows states → (i : ℕ) → i < length plan.rows → IsRight plan rows states i
@@ -53,42 +64,55 @@ module _ {A : Type 0} (row : A → DeviceRow) (state : A → DeviceState) (plan 
     row = ap (λ (rs : List DeviceRow). slice_get rs i) fit.rows_are ∙ slice_get-get_or plan.rows i no_row there;
     state =
         ap (λ (ss : List DeviceState). slice_get ss i) fit.states_are
-        ∙ slice_get-get_or (map (λ (r : DeviceRow). first_state r.settings) plan.rows) i (first_state no_row.settings) (omega (arith, there, length-map plan.rows (λ (r : DeviceRow). first_state r.settings)))
-        ∙ ap Some (get_or-map (λ (r : DeviceRow). first_state r.settings) plan.rows i no_row (first_state no_row.settings) there);
+        ∙ slice_get-get_or (map (λ (r : DeviceRow). first_state r.settings) plan.rows) i (first_state no_row.settings)
+        (omega (arith, there, length-map plan.rows (λ (r : DeviceRow). first_state r.settings)))
+        ∙ ap Some (get_or-map (λ (r : DeviceRow). first_state r.settings) plan.rows i no_row
+        (first_state no_row.settings) there);
   }
 
   -- the first that is not right
-  pub first-at : (i : ℕ) → i < length plan.rows → ((other : ℕ) → other < i → IsRight plan rows states other) → ¬ (IsRight plan rows states i) → IsFirstWrong plan rows states i
-  first-at i there before wrong = record { before = before; wrong = wrong; unfit = λ fit. wrong (fit-right fit i there) }
+  pub first-at : (i : ℕ) → i < length plan.rows → ((other : ℕ) → other < i → IsRight plan rows states other)
+      → ¬ (IsRight plan rows states i) → IsFirstWrong plan rows states i
+  first-at i there before wrong =
+      record { before = before; wrong = wrong; unfit = λ fit. wrong (fit-right fit i there) }
 
   pub too-few : (i : ℕ) → length devices ≤ i → ¬ (IsRight plan rows states i)
   too-few i past right = let inside = right-there i right in absurd (omega (arith, inside, past))
 
-  pub not-right : (i : ℕ) (d : A) → i < length devices → d ≡ get_or devices i d → ¬ ((row d ≡ row_at plan (record { 0 = i })) × (state d ≡ first_state (row_at plan (record { 0 = i })).settings)) → ¬ (IsRight plan rows states i)
+  pub not-right : (i : ℕ) (d : A) → i < length devices → d ≡ get_or devices i d
+      → ¬ ((row d ≡ row_at plan (record { 0 = i })) × (state d ≡ first_state (row_at plan (record { 0 = i })).settings))
+      → ¬ (IsRight plan rows states i)
   not-right i d within read other right = other (right-row i d within read right, right-state i d within read right)
 
   -- if each row has its device, and there are no more devices, they fit
-  module _ (all : (i : ℕ) → i < length plan.rows → IsRight plan rows states i) (few : length devices ≤ length plan.rows) where
+  module _ (all : (i : ℕ) → i < length plan.rows → IsRight plan rows states i)
+      (few : length devices ≤ length plan.rows) where
     count : length devices ≡ length plan.rows
     count =
         elim (cases_lt (length devices) (length plan.rows)) [
-          | inl short ↦ let inside = right-there (length devices) (all (length devices) short) in absurd (omega (arith, inside))
+          | inl short ↦ let inside = right-there (length devices) (all (length devices) short)
+              in absurd (omega (arith, inside))
           | inr enough ↦ omega (arith, few, enough)
         ]
 
     pub all-fit : IsFit plan rows states
     all-fit =
         let first : List DeviceState = map (λ (r : DeviceRow). first_state r.settings) plan.rows in
-        let firsts : length first ≡ length plan.rows = length-map plan.rows (λ (r : DeviceRow). first_state r.settings) in
+        let firsts : length first ≡ length plan.rows = length-map plan.rows (λ (r : DeviceRow). first_state r.settings)
+        in
         record {
-          rows_are = same-items rows plan.rows (omega (arith, count, length-map devices row)) (λ i there. (all i there).row ∙ sym (slice_get-get_or plan.rows i no_row there));
+          rows_are = same-items rows plan.rows (omega (arith, count, length-map devices row))
+              (λ i there. (all i there).row ∙ sym (slice_get-get_or plan.rows i no_row there));
           states_are = same-items states first (omega (arith, count, firsts, length-map devices state)) (λ i there.
               let inside : i < length plan.rows = omega (arith, there, firsts) in
               (all i inside).state
-              ∙ sym (slice_get-get_or first i (first_state no_row.settings) there ∙ ap Some (get_or-map (λ (r : DeviceRow). first_state r.settings) plan.rows i no_row (first_state no_row.settings) inside)));
+              ∙ sym (slice_get-get_or first i (first_state no_row.settings) there
+              ∙ ap Some (get_or-map (λ (r : DeviceRow). first_state r.settings) plan.rows i no_row
+              (first_state no_row.settings) inside)));
         }
 
 -- at first no device is due
-pub first-dues : (rows : List DeviceRow) → map due_of (map (λ (r : DeviceRow). first_state r.settings) rows) ≡ replicate (length rows) None
+pub first-dues : (rows : List DeviceRow) → map due_of (map (λ (r : DeviceRow). first_state r.settings) rows)
+    ≡ replicate (length rows) None
 first-dues [] = refl
 first-dues (r ∷ rows) = λ i. nothing_is_due.first r.settings i ∷ first-dues rows i

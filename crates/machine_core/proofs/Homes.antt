@@ -1,6 +1,6 @@
 -- How many balls are at home, one device after another.
-use Rattle.std.proofs.Common.{◌≡◌, ℕ, ◌+◌, ◌<◌, ◌≤◌, ◌^◌, Bool, true, false, List, length, filter, map, drop, ap, ◌∙◌, arith}
-use Rattle.std.proofs.lemmas.List.Sums.{sum_by-cons}
+use Rattle.std.proofs.Common.{◌≡◌, ℕ, ◌+◌, ◌<◌, ◌≤◌, ◌^◌, Bool, true, false, List, length, filter, map, drop, ap, ◌∙◌}
+use Rattle.std.proofs.{Common.arith, lemmas.List.Sums.sum_by-cons}
 use Rattle.plan_tables.specs.{PlanView.{PlanView, is_home, row_at, row_numbers}, declared.devices.RowId.RowId}
 use Rattle.ball_devices.{specs.Ledger.{Ledger, IsLedger, counted_in, total}, proofs.Ledgers.at_most_total}
 use Rattle.machine_core.proofs.Listing.{row-first, row-other, rows-end}
@@ -13,10 +13,12 @@ module _ (plan : PlanView) (l : Ledger) where
   abbrev pub home_from : ℕ → ℕ
   home_from i = total (map (counted_in l) (filter at_home (drop i (row_numbers plan))))
 
-  pub home-here : (i : ℕ) → i < length plan.rows → at_home (record { 0 = i }) ≡ true → home_from i ≡ counted_in l (record { 0 = i }) + home_from (i + 1)
+  pub home-here : (i : ℕ) → i < length plan.rows → at_home (record { 0 = i }) ≡ true
+      → home_from i ≡ counted_in l (record { 0 = i }) + home_from (i + 1)
   home-here i there is =
       let rest = filter at_home (drop (i + 1) (row_numbers plan)) in
-      ap (λ (rs : List RowId). total (map (counted_in l) rs)) (row-first plan at_home i there is) ∙ sum_by-cons (λ n. n) (counted_in l (record { 0 = i })) (map (counted_in l) rest)
+      ap (λ (rs : List RowId). total (map (counted_in l) rs)) (row-first plan at_home i there is)
+      ∙ sum_by-cons (λ n. n) (counted_in l (record { 0 = i })) (map (counted_in l) rest)
 
   pub home-other : (i : ℕ) → i < length plan.rows → at_home (record { 0 = i }) ≡ false → home_from i ≡ home_from (i + 1)
   home-other i there is = ap (λ (rs : List RowId). total (map (counted_in l) rs)) (row-other plan at_home i there is)
@@ -26,4 +28,5 @@ module _ (plan : PlanView) (l : Ledger) where
 
   -- a device has no more than are known
   pub counted-few : IsLedger l → (i : ℕ) → i < length l.counted → counted_in l (record { 0 = i }) ≤ 2 ^ 32
-  counted-few is i there = let most = at_most_total l.counted i there in let balanced = is.balanced in let few = is.few in omega arith
+  counted-few is i there = let most = at_most_total l.counted i there in let balanced = is.balance in let few = is.few
+      in omega arith

@@ -1,6 +1,7 @@
 -- The rows of a plan, one after another, and what their devices answer.
 use Rattle.std.specs.{Prelude.{◌&&◌, find}, List.All}
-use Rattle.std.proofs.Common.{rules, ◌≡◌, ℕ, ◌+◌, ◌<◌, ◌≤◌, Bool, true, false, Option, None, Some, List, [], ◌∷◌, length, filter, drop, refl, ap, sym, ◌∙◌, subst, arith}
+use Rattle.std.proofs.Common.{rules, ◌≡◌, ℕ, ◌+◌, ◌<◌, ◌≤◌, Bool, true, false, Option, None, Some, List, [], ◌∷◌}
+use Rattle.std.proofs.Common.{length, filter, drop, refl, ap, sym, ◌∙◌, subst, arith}
 use Rattle.std.proofs.lemmas.{Bool.and_parts, List.{drop_all, drop_more, Elements.All-get_or}}
 use Rattle.plan_tables.specs.{PlanView.{PlanView, is_owner, row_at, row_numbers}, Devices.list_count}
 use Rattle.plan_tables.specs.declared.{entries.ModeId.ModeId, devices.RowId.RowId}
@@ -8,7 +9,7 @@ use Rattle.plan_tables.specs.declared.entries.Owner.TheVariants as owners
 use Rattle.device_objects.specs.{declared.device.Call.Call, Laws.MayCome, DeviceStep.outcomes}
 use Rattle.device_objects.proofs.Lawful.{answers_are_outcomes, outcomes_of_row}
 use Rattle.cascade_rank.proofs.Rows.{length-rows, row_of}
-use Rattle.written_machine.specs.{Devices.HasDevices, Machine.{Machine, world_of, device_at, called, call_device}}
+use Rattle.written_machine.specs.{Devices.HasDevices, Machine.{Machine, world_of, device_at, call_row, call_device}}
 use Rattle.machine_core.{specs.Core.{CoreView, CanCall, after}, proofs.Going.{goes-can, goes-call}}
 
 module _ (plan : PlanView) where
@@ -19,10 +20,12 @@ module _ (plan : PlanView) where
   -- ---- rows, one after another
 
   -- those from a number on: the row of the number, and those after it
-  rows-more : (i : ℕ) → i < length plan.rows → drop i (row_numbers plan) ≡ record { 0 = i } ∷ drop (i + 1) (row_numbers plan)
+  rows-more : (i : ℕ) → i < length plan.rows
+      → drop i (row_numbers plan) ≡ record { 0 = i } ∷ drop (i + 1) (row_numbers plan)
   rows-more i there =
       let first : RowId = record { 0 = i } in
-      drop_more (row_numbers plan) i first (omega (arith, there, length-rows plan)) ∙ ap (λ (r : RowId). r ∷ drop (i + 1) (row_numbers plan)) (row_of plan i first there)
+      drop_more (row_numbers plan) i first (omega (arith, there, length-rows plan))
+      ∙ ap (λ (r : RowId). r ∷ drop (i + 1) (row_numbers plan)) (row_of plan i first there)
 
   -- those of them that are meant
   pub row-first : (test : RowId → Bool) (i : ℕ) → i < length plan.rows → test (record { 0 = i }) ≡ true
@@ -41,26 +44,35 @@ module _ (plan : PlanView) where
     abbrev pub first_from : ℕ → Option RowId
     first_from i = find meets (filter meant (drop i (row_numbers plan)))
 
-    pub first-here : (i : ℕ) → i < length plan.rows → (meant (record { 0 = i }) && meets (record { 0 = i })) ≡ true → first_from i ≡ Some (record { 0 = i })
+    pub first-here : (i : ℕ) → i < length plan.rows → (meant (record { 0 = i }) && meets (record { 0 = i })) ≡ true
+        → first_from i ≡ Some (record { 0 = i })
     first-here i there both = search (rules, and_parts, row-first)
 
-    pub first-later : (i : ℕ) → i < length plan.rows → (meant (record { 0 = i }) && meets (record { 0 = i })) ≡ false → first_from i ≡ first_from (i + 1)
+    pub first-later : (i : ℕ) → i < length plan.rows → (meant (record { 0 = i }) && meets (record { 0 = i })) ≡ false
+        → first_from i ≡ first_from (i + 1)
     first-later i there neither = by (meant (record { 0 = i })) (meets (record { 0 = i })) refl refl neither
       where
-        by : (m t : Bool) → meant (record { 0 = i }) ≡ m → meets (record { 0 = i }) ≡ t → (m && t) ≡ false → first_from i ≡ first_from (i + 1)
+        by : (m t : Bool) → meant (record { 0 = i }) ≡ m → meets (record { 0 = i }) ≡ t → (m && t) ≡ false
+            → first_from i ≡ first_from (i + 1)
         by x1 x2 is of h = search (rules, row-first, row-other)
 
     pub first-end : (i : ℕ) → length plan.rows ≤ i → first_from i ≡ None
     first-end i past = ap (λ (rs : List RowId). find meets (filter meant rs)) (rows-end i past)
 
   -- what a device answers are lists of its row
-  pub answer-lists : (call : Call) (r : RowId) (s : Machine) → r.0 < length plan.rows → HasDevices plan s.devices → MayCome call (device_at s r) → All (λ k. k < list_count (row_at plan r).settings) (called plan call r s).1
+  pub answer-lists : (call : Call) (r : RowId) (s : Machine) → r.0 < length plan.rows → HasDevices plan s.devices
+      → MayCome call (device_at s r) → All (λ k. k < list_count (row_at plan r).settings) (call_row plan call r s).1
   answer-lists call r s there has may =
       let settings = (row_at plan r).settings in
-      let answer = (called plan call r s).1 in
-      let (i, within, is) = answers_are_outcomes settings call s.moment (world_of s) (device_at s r) (has.shapes r there) may in
-      subst (All (λ k. k < list_count settings)) is (All-get_or (All (λ k. k < list_count settings)) (outcomes settings call) i answer within (outcomes_of_row settings call))
+      let answer = (call_row plan call r s).1 in
+      let (i, within, is) = answers_are_outcomes settings call s.moment (world_of s) (device_at s r)
+      (has.shapes r there) may in
+      subst (All (λ k. k < list_count settings)) is
+      (All-get_or (All (λ k. k < list_count settings)) (outcomes settings call) i answer within
+      (outcomes_of_row settings call))
 
 -- after a call they can be called as before
-pub call-calls : (call : Call) (r : RowId) (now next : CoreView) → next ≡ after (call_device now.plan call r) now → CanCall now → CanCall next
-call-calls call r now next is h = subst CanCall (sym is) (goes-can now (call_device now.plan call r) (goes-call now.plan call r now.machine) h)
+pub call-calls : (call : Call) (r : RowId) (now next : CoreView) → next ≡ after (call_device now.plan call r) now
+    → CanCall now → CanCall next
+call-calls call r now next is h = subst CanCall (sym is)
+    (goes-can now (call_device now.plan call r) (goes-call now.plan call r now.machine) h)

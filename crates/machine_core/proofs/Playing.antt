@@ -1,6 +1,6 @@
 -- What an event of the game leads to.
-use Rattle.std.proofs.Common.{rules, ◌≡◌, ℕ, ◌+◌, ◌-◌, ◌<◌, Bool, true, false, if◌then◌else◌, Option, None, Some, List, ◌∷◌, refl, ap, sym, ◌∙◌, subst, arith}
-use Rattle.std.specs.List.{range_with_len}
+use Rattle.std.proofs.Common.{rules, ◌≡◌, ℕ, ◌+◌, ◌-◌, ◌<◌, Bool, true, false, if◌then◌else◌, Option, None, Some, List}
+use Rattle.std.{proofs.Common.{◌∷◌, refl, ap, sym, ◌∙◌, subst, arith}, specs.List.range_with_len}
 use Rattle.plan_tables.specs.{PlanView.{PlanView, game_event}, Valid.HasGame}
 use Rattle.plan_tables.specs.declared.entries.GameEvent.{GameEvent, TheVariants.BallDrain}
 use Rattle.plan_tables.specs.declared.devices.{Act.TheVariants.Save, RowId.RowId}
@@ -8,10 +8,11 @@ use Rattle.device_objects.specs.declared.device.Call.TheVariants as calls
 use Rattle.player_game.specs.{Choices.is_drain, declared.game.GameWork.GameWork, GameStep.GameStep}
 use Rattle.plan_tables.specs.declared.entries.Owner.TheVariants as owners
 use Rattle.mode_stack.specs.{declared.phase.ModeState.ModeState, Modes.running_of}
-use Rattle.written_machine.specs.Machine.{Machine, all_do, ask_ball, do_game, drain_ball, end_multiballs, first_active_save, post_game, step_game, write_finals}
-use Rattle.machine_core.specs.{Core.{CoreView, CanCall, IsWithin, IsWorkOfGame, after, played, step_at}, Goes.Goes}
-use Rattle.machine_core.proofs.Going.{goes-none, goes-then, goes-can, goes-all, goes-post, goes-write, goes-call, goes-ask, goes-end}
-use Rattle.machine_core.proofs.Room.{room-before}
+use Rattle.written_machine.specs.Machine.{Machine, all_do, ask_ball, do_game, drain_ball, end_multiballs}
+use Rattle.written_machine.specs.Machine.{first_active_save, post_game, step_game, write_finals}
+use Rattle.machine_core.specs.{Core.{CoreView, CanCall, IsWithin, IsWorkOfGame, after, play_event, step_at}, Goes.Goes}
+use Rattle.machine_core.proofs.Going.{goes-none, goes-then, goes-can, goes-all, goes-post, goes-write, goes-call}
+use Rattle.machine_core.proofs.{Going.{goes-ask, goes-end}, Room.room-before}
 
 -- ---- what is told, asked and posted
 
@@ -21,20 +22,34 @@ module _ (plan : PlanView) where
   goes-finals false s = goes-none plan s
 
   goes-events : (events : List GameEvent) (s : Machine) → Goes plan s (all_do (post_game plan) events s)
-  goes-events events s = goes-all plan (post_game plan) (λ e t. goes-post plan owners.Machine (game_event plan e) t) events s
+  goes-events events s = goes-all plan (post_game plan) (λ e t. goes-post plan owners.Machine (game_event plan e) t)
+      events s
 
   -- the game goes on
-  goes-gone : (which : GameEvent) (s : Machine) → Goes plan s (played plan which s)
-  goes-gone which s = record { grows = record { lines = omega arith; waiting = omega arith; known = omega arith; bookings = omega arith }; modes = refl; moment = refl; coils = refl; devices = λ h. h }
+  goes-gone : (which : GameEvent) (s : Machine) → Goes plan s (play_event plan which s)
+  goes-gone which s =
+      record {
+        grows = record {
+          lines = omega arith;
+          waiting = omega arith;
+          known = omega arith;
+          bookings = omega arith;
+        };
+        modes = refl;
+        moment = refl;
+        coils = refl;
+        devices = λ h. h;
+      }
 
   pub goes-step : (which : GameEvent) (s : Machine) → Goes plan s (step_game plan which s)
   goes-step which s =
       let step = step_at plan which s in
-      let gone = played plan which s in
+      let gone = play_event plan which s in
       let told = write_finals plan step.finals gone in
       let asked = ask_ball plan step.requests told in
       goes-then plan s asked (step_game plan which s)
-      (goes-then plan s told asked (goes-then plan s gone told (goes-gone which s) (goes-finals step.finals gone)) (goes-ask plan step.requests told))
+      (goes-then plan s told asked (goes-then plan s gone told (goes-gone which s) (goes-finals step.finals gone))
+      (goes-ask plan step.requests told))
       (goes-events step.posts asked)
 
   -- a ball drains
@@ -47,7 +62,8 @@ module _ (plan : PlanView) where
   goes-game_work : (which : GameEvent) (s : Machine) → Goes plan s (do_game plan which s)
   goes-game_work which s = by (is_drain which)
     where
-      by : (drains : Bool) → Goes plan s (if drains then drain_ball plan (first_active_save plan s) s else step_game plan which s)
+      by : (drains : Bool) → Goes plan s (if drains then drain_ball plan (first_active_save plan s) s else step_game
+          plan which s)
       by true = goes-drained (first_active_save plan s) s
       by false = goes-step which s
 
@@ -57,17 +73,19 @@ module _ (plan : PlanView) where
 
 -- ---- scores, one player after another
 
-pub finals-first : (place count : ℕ) → place < count → range_with_len (place + 1) (count - place) ≡ (place + 1) ∷ range_with_len (place + 1 + 1) (count - (place + 1))
+pub finals-first : (place count : ℕ) → place < count
+    → range_with_len (place + 1) (count - place) ≡ (place + 1) ∷ range_with_len (place + 1 + 1) (count - (place + 1))
 finals-first place count there = search rules
 
 -- ---- the game goes on, scores are told, a ball is asked for, and events are posted
 
-module _ (which : GameEvent) (old next : CoreView) (next_is : next ≡ after (played old.plan which) old) (work : GameWork) (work_is : IsWorkOfGame old.plan which old.machine work) where
+module _ (which : GameEvent) (old next : CoreView) (next_is : next ≡ after (play_event old.plan which) old)
+    (work : GameWork) (work_is : IsWorkOfGame old.plan which old.machine work) where
   abbrev step : GameStep
   step = step_at old.plan which old.machine
 
   abbrev gone : Machine
-  gone = played old.plan which old.machine
+  gone = play_event old.plan which old.machine
 
   abbrev scored : Machine
   scored = write_finals old.plan step.finals gone
@@ -75,7 +93,8 @@ module _ (which : GameEvent) (old next : CoreView) (next_is : next ≡ after (pl
   abbrev asked_machine : Machine
   asked_machine = ask_ball old.plan step.requests scored
 
-  pub scores-room : IsWithin old.room (step_game old.plan which old.machine) → IsWithin next.room (write_finals next.plan work.finals next.machine)
+  pub scores-room : IsWithin old.room (step_game old.plan which old.machine)
+      → IsWithin next.room (write_finals next.plan work.finals next.machine)
   scores-room room = search (rules, room-before, goes-ask, goes-events)
 
   -- once scores are told
@@ -86,9 +105,11 @@ module _ (which : GameEvent) (old next : CoreView) (next_is : next ≡ after (pl
     pub told-calls : CanCall old → CanCall told
     told-calls h =
         subst CanCall (sym told-is)
-        (goes-can (after (played old.plan which) old) (λ s. scored) (goes-finals old.plan step.finals gone) (record { devices = h.devices; coils = h.coils; early = h.early }))
+        (goes-can (after (play_event old.plan which) old) (λ s. scored) (goes-finals old.plan step.finals gone)
+        (record { devices = h.devices; coils = h.coils; early = h.early }))
 
-    pub ask-room : IsWithin old.room (step_game old.plan which old.machine) → IsWithin told.room (ask_ball told.plan work.requests told.machine)
+    pub ask-room : IsWithin old.room (step_game old.plan which old.machine)
+        → IsWithin told.room (ask_ball told.plan work.requests told.machine)
     ask-room room = search (rules, told-is, room-before, goes-events)
 
     -- and a ball is asked for
@@ -100,8 +121,11 @@ module _ (which : GameEvent) (old next : CoreView) (next_is : next ≡ after (pl
       asked-game game = subst (λ (v : CoreView). HasGame v.plan) (sym asked-is) game
 
       module _ (posts : List GameEvent) (posts_is : posts ≡ work.posts.items) where
-        pub events-room : IsWithin old.room (step_game old.plan which old.machine) → IsWithin asked.room (all_do (post_game asked.plan) posts asked.machine)
+        pub events-room : IsWithin old.room (step_game old.plan which old.machine)
+            → IsWithin asked.room (all_do (post_game asked.plan) posts asked.machine)
         events-room room = search rules
 
-        pub game-done : (last : CoreView) → last ≡ after (all_do (post_game asked.plan) posts) asked → last ≡ after (step_game old.plan which) old
-        game-done last last_is = last_is ∙ (λ i. after (all_do (post_game (asked-is i).plan) ((posts_is ∙ work_is.posts) i)) (asked-is i))
+        pub game-done : (last : CoreView) → last ≡ after (all_do (post_game asked.plan) posts) asked
+            → last ≡ after (step_game old.plan which) old
+        game-done last last_is = last_is ∙ (λ i. after
+            (all_do (post_game (asked-is i).plan) ((posts_is ∙ work_is.posts) i)) (asked-is i))

@@ -8,7 +8,8 @@ use Rattle.written_machine.specs.{Machine.{Machine, all_do, do_handler}, EventSt
 use Rattle.written_machine.proofs.{Does.grows-does, Growth.{all_do-grows, handler-grows}, Silence.handlers-still}
 use Rattle.written_machine.proofs.Parts.{does-handlers, does-before, does-after}
 use Rattle.machine_core.specs.Core.{CoreView, CanCall, HasHandlers, IsWithin, after, follow, after_taken}
-use Rattle.machine_core.{specs.Inside.kept_at, proofs.{Following.follow-nothing, Room.room-before, Callable.can-does}}
+use Rattle.machine_core.specs.RareActions.{kept_at}
+use Rattle.machine_core.proofs.{Following.follow-nothing, Room.room-before, Callable.can-does}
 
 -- ---- whether the machine has work at an event
 
@@ -20,17 +21,20 @@ kept-none x1 s is = search rules
 
 -- ---- devices can still be called
 
-pub before-calls : (work : Work) (old ready : CoreView) → ready ≡ follow (do_before old.plan work) old → CanCall old → CanCall ready
+pub before-calls : (work : Work) (old ready : CoreView) → ready ≡ follow (do_before old.plan work) old → CanCall old
+    → CanCall ready
 before-calls work old ready is h =
     let s = do_before old.plan work old.machine in
     subst CanCall (sym is) (can-does old (running_of s.modes) s (does-before old.plan work old.machine) h)
 
-pub handled-calls : (order : List BindingId) (old then : CoreView) → then ≡ after (all_do (do_handler old.plan) order) old → CanCall old → CanCall then
+pub handled-calls : (order : List BindingId) (old then : CoreView)
+    → then ≡ after (all_do (do_handler old.plan) order) old → CanCall old → CanCall then
 handled-calls order old then is h =
     let does = does-handlers old.plan (λ owner. Unit {0}) ⊥ tt order (λ i d there. tt) old.machine in
     subst CanCall (sym is) (can-does old old.running (all_do (do_handler old.plan) order old.machine) does h)
 
-pub taken-calls : (event : EventId) (old last : CoreView) → last ≡ follow (after_taken old.plan event) old → CanCall old → CanCall last
+pub taken-calls : (event : EventId) (old last : CoreView) → last ≡ follow (after_taken old.plan event) old → CanCall old
+    → CanCall last
 taken-calls event old last is h =
     let plan = old.plan in
     let opened = follow (do_before plan (work_of plan event)) old in
@@ -53,7 +57,8 @@ module _ (event : EventId) where
   abbrev whole : PlanView → Work → Bool → Machine → Machine
   whole plan work kept s = do_after plan kept work (handled plan (do_before plan work s))
 
-  module _ (old : CoreView) (room : IsWithin old.room (after_taken old.plan event old.machine)) (work : Work) (work_is : work ≡ work_of old.plan event)
+  module _ (old : CoreView) (room : IsWithin old.room (after_taken old.plan event old.machine)) (work : Work)
+      (work_is : work ≡ work_of old.plan event)
       (ready : CoreView) (ready_is : ready ≡ follow (do_before old.plan work) old) where
     pub ready-handles : HasHandlers ready
     ready-handles = subst HasHandlers (sym ready_is) refl
@@ -68,14 +73,19 @@ module _ (event : EventId) where
       pub before-room : IsWithin old.room (do_before old.plan work old.machine)
       before-room =
           let opened = do_before old.plan work old.machine in
-          room-before old.room opened (handled old.plan opened) (all_do-grows (do_handler old.plan) (handler-grows old.plan) (in_order old.plan (running_of opened.modes) event) opened) room-handled
+          room-before old.room opened (handled old.plan opened)
+          (all_do-grows (do_handler old.plan) (handler-grows old.plan)
+          (in_order old.plan (running_of opened.modes) event) opened) room-handled
 
       pub ready-room : IsWithin ready.room (handled ready.plan ready.machine)
       ready-room = subst (λ (c : CoreView). IsWithin c.room (handled c.plan c.machine)) (sym ready_is) room-handled
 
-      module _ (then : CoreView) (then_is : then ≡ after (all_do (do_handler ready.plan) (in_order ready.plan (running_of ready.machine.modes) event)) ready) where
+      module _ (then : CoreView) (then_is : then
+          ≡ after (all_do (do_handler ready.plan) (in_order ready.plan (running_of ready.machine.modes) event))
+          ready) where
         pub then-handles : HasHandlers then
-        then-handles = subst HasHandlers (sym then_is) (ready-handles ∙ sym (handlers-still ready.plan ready.machine event))
+        then-handles = subst HasHandlers (sym then_is)
+            (ready-handles ∙ sym (handlers-still ready.plan ready.machine event))
 
         then-plan : then.plan ≡ old.plan
         then-plan = ap (λ (c : CoreView). c.plan) then_is ∙ ap (λ (c : CoreView). c.plan) ready_is
@@ -86,12 +96,15 @@ module _ (event : EventId) where
         pub then-room : IsWithin then.room (do_after then.plan kept (work_of then.plan event) then.machine)
         then-room = search rules
 
-        work-is : (last : CoreView) → last ≡ follow (do_after then.plan kept work) then → last ≡ follow (after_taken old.plan event) old
+        work-is : (last : CoreView) → last ≡ follow (do_after then.plan kept work) then
+            → last ≡ follow (after_taken old.plan event) old
         work-is last is = search rules
 
-        pub last-is : (last : CoreView) → last ≡ follow (do_after then.plan kept (work_of then.plan event)) then → last ≡ follow (after_taken old.plan event) old
+        pub last-is : (last : CoreView) → last ≡ follow (do_after then.plan kept (work_of then.plan event)) then
+            → last ≡ follow (after_taken old.plan event) old
         last-is last is = work-is last (is ∙ ap (λ (w : Work). follow (do_after then.plan kept w) then) (sym then-work))
 
         -- if the machine has no work, the handlers were the last
         pub none-is : work ≡ Nothing → then ≡ follow (after_taken old.plan event) old
-        none-is none = work-is then (follow-nothing then then-handles ∙ ap (λ (w : Work). follow (do_after then.plan kept w) then) (sym none))
+        none-is none = work-is then (follow-nothing then then-handles
+            ∙ ap (λ (w : Work). follow (do_after then.plan kept w) then) (sym none))

@@ -59,8 +59,8 @@ after_taken plan e s =
 abbrev pub step_at : PlanView → GameEvent → Machine → GameStep
 step_at plan which s = game_step plan.game plan which (home_of plan s) s.game s.players
 
-abbrev pub played : PlanView → GameEvent → Machine → Machine
-played plan which s = set_players (step_at plan which s).players (set_game (step_at plan which s).game s)
+abbrev pub play_event : PlanView → GameEvent → Machine → Machine
+play_event plan which s = set_players (step_at plan which s).players (set_game (step_at plan which s).game s)
 
 -- what else the event leads to
 pub record IsWorkOfGame (plan : PlanView) (which : GameEvent) (s : Machine) (work : GameWork) : Type 0 where
@@ -81,7 +81,8 @@ pub record IsWhole (c : CoreView) : Type 0 where
 -- the event that waits first is taken, if one waits
 abbrev pub TakesFirst : Option Posted → CoreView → CoreView → Type 0
 TakesFirst None old new = (old.machine.waiting ≡ []) × (new ≡ old)
-TakesFirst (Some first) old new = (rest : List Posted) × (old.machine.waiting ≡ first ∷ rest) × (new ≡ after (λ s. record s { waiting = rest }) old)
+TakesFirst (Some first) old new = (rest : List Posted) × (old.machine.waiting ≡ first ∷ rest)
+    × (new ≡ after (λ s. record s { waiting = rest }) old)
 
 -- the moment is not too late, a change is that of a switch which there is, and an alarm is the next one
 abbrev pub IsPlayable : CoreView → Stimulus → Type 0
@@ -93,7 +94,7 @@ IsPlayable c (Wait at) = at < 2 ^ 40
 pub record IsWithin (room : ℕ) (s : Machine) : Type 0 where
   pub waiting : length s.waiting ≤ room
   pub lines : length s.lines ≤ room
-  pub kept : s.bookings_left_out ≡ 0
+  pub none_left_out : s.bookings_left_out ≡ 0
   pub few : s.ledger.known < 2 ^ 32
 
 -- the machine stays within these bounds after each number of event steps in plan order

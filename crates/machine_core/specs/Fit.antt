@@ -15,7 +15,8 @@ pub record IsFit (plan : PlanView) (rows : List DeviceRow) (states : List Device
   pub states_are : states ≡ map (λ row. first_state row.settings) plan.rows
 
 -- the first number at which a row has no such device, or a device no row
-pub record IsFirstWrong (plan : PlanView) (rows : List DeviceRow) (states : List DeviceState) (number : ℕ) : Type 0 where
+pub record IsFirstWrong (plan : PlanView) (rows : List DeviceRow) (states : List DeviceState) (number : ℕ) : Type
+    0 where
   pub before : (other : ℕ) → other < number → IsRight plan rows states other
   pub wrong : ¬ (IsRight plan rows states number)
   pub unfit : ¬ (IsFit plan rows states)

@@ -8,7 +8,8 @@ use Rattle.player_game.specs.{GameStep.GameView, Players.PlayersView}
 use Rattle.ball_devices.specs.Ledger.{Ledger}
 
 -- The parts of a core fit together. Its devices have these rows and states.
-pub record FitTogether (plan : PlanView) (modes : ModesView) (handlers : HandlersView) (players : PlayersView) (game : GameView) (ledger : Ledger) (rows : List DeviceRow) (states : List DeviceState)
+pub record FitTogether (plan : PlanView) (modes : ModesView) (handlers : HandlersView) (players : PlayersView)
+    (game : GameView) (ledger : Ledger) (rows : List DeviceRow) (states : List DeviceState)
     (alarms : List (Option ℕ)) (queue : QueueView) (most_lines : ℕ) : Type 0 where
   -- The modes, the handlers, the players and the game are those of the plan.
   pub modes_are : modes.plan ≡ plan

@@ -6,4 +6,4 @@ pub mod Stopping
 pub mod Held
 pub mod Goes
 pub mod Balls
-pub mod Inside
+pub mod RareActions

@@ -7,7 +7,7 @@ ghost use Rattle.written_machine.specs.Machine.{add_balls, do_action_by, drain_i
 ghost use Rattle.machine_core.specs.Balls.{IsTellingThere};
 ghost use Rattle.machine_core.specs.Core.{CanCall, IsWithin, after};
 ghost use Rattle.machine_core.specs.Goes.{AlwaysGoes, Tell};
-ghost use Rattle.machine_core.specs.Inside.{IsRare};
+ghost use Rattle.machine_core.specs.RareActions.{IsRare};
 
 use crate::balls::BallCall;
 use crate::core_state::Core;
@@ -33,7 +33,8 @@ pub(crate) fn run_by<D: Device, T: Tells>(core: &mut Core<'_, D>, owner: Owner, 
     requires action { IsActionWithin core.old.plan action.now }
     requires goes { AlwaysGoes T.tell }
     requires calls { CanCall core.old }
-    requires room { IsWithin core.old.room (do_action_by core.old.plan (T.tell core.old.plan) owner action.now core.old.machine) }
+    requires room { IsWithin core.old.room
+        (do_action_by core.old.plan (T.tell core.old.plan) owner action.now core.old.machine) }
     ensures { core.new ≡ after (do_action_by core.old.plan (T.tell core.old.plan) owner action.now) core.old }
 {
     match *action {
@@ -57,7 +58,8 @@ fn run_rare_by<D: Device, T: Tells>(core: &mut Core<'_, D>, owner: Owner, action
     requires action { IsActionWithin core.old.plan action.now }
     requires goes { AlwaysGoes T.tell }
     requires calls { CanCall core.old }
-    requires room { IsWithin core.old.room (do_action_by core.old.plan (T.tell core.old.plan) owner action.now core.old.machine) }
+    requires room { IsWithin core.old.room
+        (do_action_by core.old.plan (T.tell core.old.plan) owner action.now core.old.machine) }
     ensures { core.new ≡ after (do_action_by core.old.plan (T.tell core.old.plan) owner action.now) core.old }
 {
     match *action {
@@ -97,13 +99,14 @@ fn enter<D: Device, T: Tells>(
     requires game { drain ≡ true → HasGame core.old.plan }
     requires goes { AlwaysGoes T.tell }
     requires calls { CanCall core.old }
-    requires room { IsWithin core.old.room (enter_ball core.old.plan (T.tell core.old.plan) owner device event drain core.old.machine) }
+    requires room { IsWithin core.old.room
+        (enter_ball core.old.plan (T.tell core.old.plan) owner device event drain core.old.machine) }
     ensures { core.new ≡ after (enter_ball core.old.plan (T.tell core.old.plan) owner device event drain) core.old }
 {
-    let awaited = core.awaits(device);
+    let is_awaited = core.awaits(device);
     core.book(owner, BallCall::Enter(device));
     core.post(owner, event);
-    if awaited {
+    if is_awaited {
         T::tell(core, Telling::Arrived(BallTarget::Device(device)));
     } else {
         post_drain(core, owner, drain);

@@ -3,7 +3,7 @@
 ghost use Rattle.std.specs.Prelude.{◌≡◌, ◌<◌, ◌^◌, map, true, length};
 ghost use Rattle.plan_tables.specs.PlanView.{home_rows};
 ghost use Rattle.ball_devices.specs.Ledger.{counted_in, total};
-ghost use Rattle.ball_devices.specs.Bookings.{after_call, booked, can_book};
+ghost use Rattle.ball_devices.specs.Bookings.{after_call, booking_of, can_book};
 ghost use Rattle.written_machine.specs.Machine.{counts_of};
 ghost use Rattle.machine_core.specs.Balls.{ledger_call};
 
@@ -27,7 +27,7 @@ pub(crate) enum BallCall {
 /// Books this, which the ledger may. Reports what is booked.
 pub(crate) fn book(ledger: &mut BallLedger, call: BallCall) -> Booking
     requires { can_book (ledger_call call) ledger.old ≡ true }
-    ensures booked { result ≡ booked (ledger_call call) ledger.old }
+    ensures booked { result ≡ booking_of (ledger_call call) ledger.old }
     ensures ledger { ledger.new ≡ after_call (ledger_call call) ledger.old }
 {
     match call {

@@ -1,28 +1,33 @@
 //! The state of a machine, with room for the events that wait and the lines.
 
-ghost use Rattle.std.specs.Prelude.{◌≡◌, ◌^◌, ◌<◌, ◌≤◌, ℕ, [], None, Some, true, false, IfOk, IfSome, IsSome, is_some, length, map, option_map, replicate, slice_get, slice_set, vec_capacity};
+ghost use Rattle.std.specs.Prelude.{◌≡◌, ◌^◌, ◌<◌, ◌≤◌, ℕ, [], None, Some, true, false, IfOk, IfSome, IsSome, is_some};
+ghost use Rattle.std.specs.Prelude.{length, map, option_map, replicate, slice_get, slice_set, vec_capacity};
 ghost use Rattle.event_queue.specs.Handlers.{none_running};
 ghost use Rattle.event_queue.specs.Queue.{empty};
 ghost use Rattle.event_queue.specs.Alarms.{least_of};
 ghost use Rattle.event_queue.specs.PlanOrder.{in_order};
-ghost use Rattle.mode_stack.specs.ModeStep.{starts, started, stopped, stop_answer, entered, ended};
+ghost use Rattle.mode_stack.specs.ModeStep.{starts, after_start, after_stop, stop_answer, entered, ended};
 ghost use Rattle.mode_stack.specs.Modes.{idle_modes, needs_game, mode_state};
-ghost use Rattle.switch_core.specs.Switches.{IsComplete, all_idle, after_change, reported_by_change, next_due, after_fire, reported_by_fire};
+ghost use Rattle.switch_core.specs.Switches.{IsComplete, all_idle, after_change, reported_by_change, next_due};
+ghost use Rattle.switch_core.specs.Switches.{after_fire, reported_by_fire};
 ghost use Rattle.coil_guard.specs.Asked.{limits_of};
 ghost use Rattle.coil_guard.specs.Coils.{all_off, after_release, answer_release};
 ghost use Rattle.coil_guard.specs.SentCommands.{coil_of};
 ghost use Rattle.device_objects.specs.Laws.{MayCome};
-ghost use Rattle.written_machine.specs.Machine.{initial, write, post, set_switches, set_mode, set_device, set_coils, set_game, ask_coil, book, device_at, called, change_variable, has_game, drop_hold, is_post, world_of, write_final};
-ghost use Rattle.written_machine.specs.Run.{arrived};
+ghost use Rattle.written_machine.specs.Machine.{initial, write, post, set_switches, set_mode, set_device, set_coils};
+ghost use Rattle.written_machine.specs.Machine.{set_game, ask_coil, book, device_at, call_row};
+ghost use Rattle.written_machine.specs.Machine.{change_variable, has_game};
+ghost use Rattle.written_machine.specs.Machine.{drop_hold, is_post, world_of, write_final};
+ghost use Rattle.written_machine.specs.Run.{arrive};
 ghost use Rattle.device_objects.specs.DeviceStep.{device_step, due_of};
 ghost use Rattle.plan_tables.specs.PlanView.{row_at};
 ghost use Rattle.plan_tables.specs.Valid.{IsConditionWithin};
-ghost use Rattle.player_game.specs.GameStep.{ends_ball, held, in_play, is_ball_on, missing, more_balls};
+ghost use Rattle.player_game.specs.GameStep.{ends_ball, hold, in_play, is_ball_on, missing, more_balls};
 ghost use Rattle.player_game.specs.Players.{is_met, no_players};
 ghost use Rattle.ball_devices.specs.Bookings.{is_awaited};
 ghost use Rattle.ball_devices.specs.Ledger.{no_balls, origin_of};
 ghost use Rattle.machine_core.specs.Balls.{IsThere, ledger_call};
-ghost use Rattle.machine_core.specs.Core.{played, IsWorkOfGame};
+ghost use Rattle.machine_core.specs.Core.{play_event, IsWorkOfGame};
 ghost use Rattle.written_machine.specs.NextAlarm.{next_alarm, is_due_by, first_of};
 ghost use Rattle.written_machine.specs.Run.{switch as of_switch, device as of_device};
 ghost use Rattle.machine_core.specs.Core.{IsWithin, IsWhole, TakesFirst, after};
@@ -86,12 +91,28 @@ impl<'p, D: Device> Model for Core<'p, D> {
     ghost view = { λ c. record {
       plan = c.plan.now;
       running = c.handlers.running;
-      machine = record { moment = c.moment; switches = c.switches; modes = c.modes.modes; devices = map D.state_of c.devices.items; coils = c.coils; ledger = c.ledger; players = c.players.state; game = c.game.state; waiting = c.queue.waiting; lines = c.lines.items; bookings_left_out = 0 };
+      machine =
+          record {
+            moment = c.moment;
+            switches = c.switches;
+            modes = c.modes.modes;
+            devices = map D.state_of c.devices.items;
+            coils = c.coils;
+            ledger = c.ledger;
+            players =
+                c.players.state;
+            game = c.game.state;
+            waiting = c.queue.waiting;
+            lines = c.lines.items;
+            bookings_left_out =
+                0;
+          };
       room = c.queue.size;
     } };
 
     ghost invariant = { λ c.
-        FitTogether c.plan.now c.modes c.handlers c.players c.game c.ledger (map D.row_of c.devices.items) (map D.state_of c.devices.items)
+        FitTogether c.plan.now c.modes c.handlers c.players c.game c.ledger (map D.row_of c.devices.items)
+        (map D.state_of c.devices.items)
         c.alarms c.queue (vec_capacity c.lines) };
 }
 
@@ -204,7 +225,8 @@ impl<'p, D: Device> Core<'p, D> {
         ensures whole { IfOk result (λ c. IsWhole c) }
         ensures room { IfOk result (λ c. c.room ≡ room) }
         ensures fit { IfOk result (λ c. IsFit plan.now (map D.row_of devices.items) (map D.state_of devices.items)) }
-        ensures wrong { (row : ℕ) → result ≡ Err (CoreFault.WrongDevice (record { 0 = row })) → IsFirstWrong plan.now (map D.row_of devices.items) (map D.state_of devices.items) row }
+        ensures wrong { (row : ℕ) → result ≡ Err (CoreFault.WrongDevice (record { 0 = row }))
+            → IsFirstWrong plan.now (map D.row_of devices.items) (map D.state_of devices.items) row }
     {
         let first = first_parts(alloc, plan)?;
         let waiting = waiting_parts(alloc, plan, room)?;
@@ -277,7 +299,7 @@ impl<'p, D: Device> Core<'p, D> {
 
     /// A stimulus comes: it is a new moment, with no line yet.
     pub(crate) fn arrive(&mut self, at: u64)
-        ensures { self.new ≡ after (arrived at) self.old }
+        ensures { self.new ≡ after (arrive at) self.old }
     {
         self.moment = at;
         self.lines.clear();
@@ -330,8 +352,11 @@ impl<'p, D: Device> Core<'p, D> {
     /// A mode is told to start. Reports whether it starts.
     pub(crate) fn start(&mut self, mode: ModeId) -> bool
         requires { mode.0 < length self.old.plan.modes }
-        ensures started { self.new ≡ after (set_mode mode (started (needs_game self.old.plan mode) (has_game self.old.machine) (mode_state self.old.machine.modes mode))) self.old }
-        ensures starts { result ≡ starts (needs_game self.old.plan mode) (has_game self.old.machine) (mode_state self.old.machine.modes mode).phase }
+        ensures started { self.new ≡ after
+            (set_mode mode (after_start (needs_game self.old.plan mode) (has_game self.old.machine)
+            (mode_state self.old.machine.modes mode))) self.old }
+        ensures starts { result ≡ starts (needs_game self.old.plan mode) (has_game self.old.machine)
+            (mode_state self.old.machine.modes mode).phase }
     {
         let game = self.has_game();
         self.modes.start(mode, game)
@@ -340,7 +365,7 @@ impl<'p, D: Device> Core<'p, D> {
     /// A mode holds the end of the ball from now on.
     pub(crate) fn hold(&mut self, mode: ModeId)
         requires { mode.0 < 64 }
-        ensures { self.new ≡ after (λ s. set_game (held mode s.game) s) self.old }
+        ensures { self.new ≡ after (λ s. set_game (hold mode s.game) s) self.old }
     {
         self.game.hold(mode);
     }
@@ -393,7 +418,8 @@ impl<'p, D: Device> Core<'p, D> {
     /// A mode is told to stop. Reports whether its event for that is to be posted.
     pub(crate) fn stop(&mut self, mode: ModeId) -> bool
         requires { mode.0 < length self.old.plan.modes }
-        ensures stopped { self.new ≡ after (set_mode mode (stopped (mode_state self.old.machine.modes mode))) self.old }
+        ensures stopped { self.new ≡ after (set_mode mode (after_stop (mode_state self.old.machine.modes mode)))
+            self.old }
         ensures posts { result ≡ is_post (stop_answer (mode_state self.old.machine.modes mode).phase) }
     {
         match self.modes.stop(mode) {
@@ -405,8 +431,11 @@ impl<'p, D: Device> Core<'p, D> {
     /// A mode is active, and its bindings are handlers. Reports whether a stop was kept for it.
     pub(crate) fn enter(&mut self, mode: ModeId) -> bool
         requires { mode.0 < length self.old.plan.modes }
-        ensures entered { self.new ≡ record self.old { machine = set_mode mode (entered (mode_state self.old.machine.modes mode)) self.old.machine; running = slice_set self.old.running mode.0 true } }
-        ensures kept { result ≡ (mode_state self.old.machine.modes mode).kept }
+        ensures entered { self.new ≡ record self.old {
+          machine = set_mode mode (entered (mode_state self.old.machine.modes mode)) self.old.machine;
+          running = slice_set self.old.running mode.0 true;
+        } }
+        ensures kept { result ≡ (mode_state self.old.machine.modes mode).keeps_stop }
     {
         self.handlers.add_owner(mode);
         self.modes.entered(mode)
@@ -415,7 +444,10 @@ impl<'p, D: Device> Core<'p, D> {
     /// A mode is idle, and its bindings are no handlers.
     pub(crate) fn end(&mut self, mode: ModeId)
         requires { mode.0 < length self.old.plan.modes }
-        ensures { self.new ≡ record self.old { machine = set_mode mode (ended (mode_state self.old.machine.modes mode)) self.old.machine; running = slice_set self.old.running mode.0 false } }
+        ensures { self.new ≡ record self.old {
+          machine = set_mode mode (ended (mode_state self.old.machine.modes mode)) self.old.machine;
+          running = slice_set self.old.running mode.0 false;
+        } }
     {
         self.handlers.drop_owner(mode);
         self.modes.ended(mode);
@@ -445,8 +477,9 @@ impl<'p, D: Device> Core<'p, D> {
         requires row { row.0 < length self.old.machine.devices }
         requires moment { self.old.machine.moment < 2 ^ 40 }
         requires may { MayCome call (device_at self.old.machine row) }
-        ensures called { self.new ≡ after (set_device row (called self.old.plan call row self.old.machine).0) self.old }
-        ensures lists { result.items ≡ (called self.old.plan call row self.old.machine).1 }
+        ensures called { self.new ≡ after (set_device row (call_row self.old.plan call row self.old.machine).0)
+            self.old }
+        ensures lists { result.items ≡ (call_row self.old.plan call row self.old.machine).1 }
     {
         let world = self.game.world(&self.players);
         let device = &mut self.devices[row.0 as usize];
@@ -477,7 +510,8 @@ impl<'p, D: Device> Core<'p, D> {
         event: EventId,
     )
         requires variable { variable.0 < length self.old.plan.variables }
-        requires room { IsWithin self.old.room (change_variable self.old.plan owner variable action number event self.old.machine) }
+        requires room { IsWithin self.old.room
+            (change_variable self.old.plan owner variable action number event self.old.machine) }
         ensures { self.new ≡ after (change_variable self.old.plan owner variable action number event) self.old }
     {
         let player = self.players.current();
@@ -508,7 +542,7 @@ impl<'p, D: Device> Core<'p, D> {
 
     /// The game and its players go on as an event of the game says. Reports what else it leads to.
     pub(crate) fn play(&mut self, event: GameEvent) -> GameWork
-        ensures played { self.new ≡ after (played self.old.plan event) self.old }
+        ensures played { self.new ≡ after (play_event self.old.plan event) self.old }
         ensures work { IsWorkOfGame self.old.plan event self.old.machine result }
     {
         let home = home(self.plan, &self.ledger);
@@ -561,7 +595,8 @@ impl<'p, D: Device> Core<'p, D> {
     pub(crate) fn change(&mut self, at: u64, switch: SwitchId, level: bool) -> Option<Change>
         requires at { at < 2 ^ 40 }
         requires switch { switch.0 < length self.old.machine.switches.kinds }
-        ensures changed { self.new ≡ after (set_switches (after_change switch level at self.old.machine.switches)) self.old }
+        ensures changed { self.new ≡ after (set_switches (after_change switch level at self.old.machine.switches))
+            self.old }
         ensures reported { result ≡ reported_by_change switch level at self.old.machine.switches }
     {
         self.switches.change(switch, level, at)
@@ -571,7 +606,8 @@ impl<'p, D: Device> Core<'p, D> {
     /// stimulus, which has to be before 2^40 ms, that its mode stops. What it answers is left out.
     pub fn stop_devices(self) -> Vec<D>
         requires { self.machine.moment < 2 ^ 40 }
-        ensures { AreStopped self.entry.plan self.entry.machine (map D.row_of result.items) (map D.state_of result.items) }
+        ensures { AreStopped self.entry.plan self.entry.machine (map D.row_of result.items)
+            (map D.state_of result.items) }
     {
         let world = self.game.world(&self.players);
         let mut devices = self.devices;
@@ -591,12 +627,14 @@ impl<'p, D: Device> Core<'p, D> {
         requires state { D.state_of device ≡ device_at self.old.machine row }
         ensures same { self.new ≡ self.old }
         ensures row { D.row_of result ≡ row_at self.old.plan row }
-        ensures stopped { D.state_of result ≡ stopped_state self.old.machine.moment (world_of self.old.machine) (row_at self.old.plan row) (device_at self.old.machine row) }
+        ensures stopped { D.state_of result
+            ≡ stopped_state self.old.machine.moment (world_of self.old.machine) (row_at self.old.plan row)
+            (device_at self.old.machine row) }
     {
         let world = self.game.world(&self.players);
-        let mut taken = put_in_place(&mut self.devices, row, device);
-        stop_one(&mut taken, self.moment, world);
-        taken
+        let mut former = put_in_place(&mut self.devices, row, device);
+        stop_one(&mut former, self.moment, world);
+        former
     }
 
     /// The raw level of the switch that is due next is accepted, which one must be.
@@ -616,8 +654,10 @@ fn call_one<D: Device>(device: &mut D, call: Call, now: u64, world: World) -> Ou
     requires moment { now < 2 ^ 40 }
     requires may { MayCome call (D.state_of device.old) }
     ensures row { D.row_of device.new ≡ D.row_of device.old }
-    ensures state { D.state_of device.new ≡ (device_step (D.row_of device.old).settings call now world (D.state_of device.old)).0 }
-    ensures lists { result.items ≡ (device_step (D.row_of device.old).settings call now world (D.state_of device.old)).1 }
+    ensures state { D.state_of device.new ≡ (device_step (D.row_of device.old).settings call now world
+        (D.state_of device.old)).0 }
+    ensures lists { result.items ≡ (device_step (D.row_of device.old).settings call now world
+        (D.state_of device.old)).1 }
 {
     match call {
         Call::ModeStart => device.start(now, world),
@@ -631,7 +671,8 @@ fn call_one<D: Device>(device: &mut D, call: Call, now: u64, world: World) -> Ou
 fn stop_all<D: Device>(devices: &mut [D], moment: u64, world: World)
     requires { moment < 2 ^ 40 }
     ensures rows { map D.row_of devices.new ≡ map D.row_of devices.old }
-    ensures states { map D.state_of devices.new ≡ map (λ d. stopped_state moment world (D.row_of d) (D.state_of d)) devices.old }
+    ensures states { map D.state_of devices.new
+        ≡ map (λ d. stopped_state moment world (D.row_of d) (D.state_of d)) devices.old }
 {
     for device in devices {
         stop_one(device, moment, world);
@@ -650,7 +691,8 @@ fn stop_one<D: Device>(device: &mut D, now: u64, world: World)
 /// Of an alarm of a switch and one of a device the one that comes first: the switch's, if they
 /// are due at one moment.
 fn first_of(switch: Option<(u64, SwitchId)>, device: Option<(u64, RowId)>) -> Option<(u64, Source)>
-    ensures { option_map alarm_view result ≡ first_of (option_map (λ d. (d.0, of_switch d.1)) switch) (option_map (λ d. (d.0, of_device d.1)) device) }
+    ensures { option_map alarm_view result
+        ≡ first_of (option_map (λ d. (d.0, of_switch d.1)) switch) (option_map (λ d. (d.0, of_device d.1)) device) }
 {
     match (switch, device) {
         (None, None) => None,

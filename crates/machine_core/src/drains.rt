@@ -5,7 +5,8 @@ ghost use Rattle.plan_tables.specs.PlanView.{is_save, multiball_rows, row_at};
 ghost use Rattle.plan_tables.specs.Valid.{HasGame};
 ghost use Rattle.plan_tables.specs.declared.devices.Act.TheVariants.{End};
 ghost use Rattle.device_objects.specs.declared.device.Call.TheVariants as calls;
-ghost use Rattle.written_machine.specs.Machine.{all_do, call_device, device_at, end_multiballs, first_active_save, is_active_save};
+ghost use Rattle.written_machine.specs.Machine.{all_do, call_device, device_at, end_multiballs, first_active_save};
+ghost use Rattle.written_machine.specs.Machine.{is_active_save};
 ghost use Rattle.written_machine.specs.Devices.{HasDevices};
 ghost use Rattle.machine_core.specs.Core.{CanCall, IsWithin, after};
 ghost use Rattle.machine_core.specs.Balls.{drain_now};
@@ -57,7 +58,8 @@ fn first_active_save<D: Device>(core: &Core<'_, D>) -> Option<RowId>
 fn may_save<D: Device>(core: &Core<'_, D>, row: RowId) -> bool
     requires row { row.0 < length core.now.plan.rows }
     requires devices { HasDevices core.now.plan core.now.machine.devices }
-    ensures { result ≡ (is_save (row_at core.now.plan row).settings && is_active_save (device_at core.now.machine row)) }
+    ensures { result ≡ (is_save (row_at core.now.plan row).settings
+        && is_active_save (device_at core.now.machine row)) }
 {
     core.plan().row(row).settings.is_save() && is_active_save(&core.state(row))
 }
@@ -86,8 +88,10 @@ fn end_multiballs<D: Device>(core: &mut Core<'_, D>)
 /// Each multiball ends, in the order of the rows.
 fn end_each<D: Device>(core: &mut Core<'_, D>)
     requires calls { CanCall core.old }
-    requires room { IsWithin core.old.room (all_do (call_device core.old.plan (calls.Act End)) (multiball_rows core.old.plan) core.old.machine) }
-    ensures { core.new ≡ after (all_do (call_device core.old.plan (calls.Act End)) (multiball_rows core.old.plan)) core.old }
+    requires room { IsWithin core.old.room
+        (all_do (call_device core.old.plan (calls.Act End)) (multiball_rows core.old.plan) core.old.machine) }
+    ensures { core.new ≡ after (all_do (call_device core.old.plan (calls.Act End)) (multiball_rows core.old.plan))
+        core.old }
 {
     let plan = core.plan();
     for number in 0..plan.rows().len() {

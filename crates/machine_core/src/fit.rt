@@ -13,7 +13,8 @@ use plan_tables::{Plan, RowId};
 /// without a row.
 pub(crate) fn first_wrong<D: Device>(plan: &Plan, devices: &[D]) -> Option<RowId>
     ensures fit { IfNone result (IsFit plan.now (map D.row_of devices.now) (map D.state_of devices.now)) }
-    ensures wrong { IfSome result (λ row. IsFirstWrong plan.now (map D.row_of devices.now) (map D.state_of devices.now) row.0) }
+    ensures wrong { IfSome result (λ row. IsFirstWrong plan.now (map D.row_of devices.now) (map D.state_of devices.now)
+        row.0) }
 {
     let rows = plan.rows().len();
     for number in 0..rows {
@@ -31,9 +32,10 @@ pub(crate) fn first_wrong<D: Device>(plan: &Plan, devices: &[D]) -> Option<RowId
 /// Whether a device is the one of the row, in its first state.
 fn is_right<D: Device>(plan: &Plan, row: RowId, device: &D) -> bool
     requires { row.0 < length plan.now.rows }
-    ensures { IsTrue result ↔ ((D.row_of device.now ≡ row_at plan.now row) × (D.state_of device.now ≡ first_state (row_at plan.now row).settings)) }
+    ensures { IsTrue result ↔ ((D.row_of device.now ≡ row_at plan.now row)
+        × (D.state_of device.now ≡ first_state (row_at plan.now row).settings)) }
 {
-    let expected = plan.row(row);
-    is_same_row(&device.row(), &expected)
-        && is_same_state(&device.state(), &first_state(&expected.settings))
+    let plan_row = plan.row(row);
+    is_same_row(&device.row(), &plan_row)
+        && is_same_state(&device.state(), &first_state(&plan_row.settings))
 }

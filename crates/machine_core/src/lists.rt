@@ -21,7 +21,8 @@ pub(crate) fn call_by<D: Device, T: Tells>(core: &mut Core<'_, D>, row: RowId, c
     requires may { MayCome call (device_at core.old.machine row) }
     requires goes { AlwaysGoes T.tell }
     requires calls { CanCall core.old }
-    requires room { IsWithin core.old.room (call_device_by core.old.plan (T.tell core.old.plan) call row core.old.machine) }
+    requires room { IsWithin core.old.room
+        (call_device_by core.old.plan (T.tell core.old.plan) call row core.old.machine) }
     ensures { core.new ≡ after (call_device_by core.old.plan (T.tell core.old.plan) call row) core.old }
 {
     let lists = core.call(row, call);
@@ -34,7 +35,8 @@ fn lists_by<D: Device, T: Tells>(core: &mut Core<'_, D>, row: RowId, lists: &[u1
     requires lists { All (λ list. list < list_count (row_at core.old.plan row).settings) lists.now }
     requires goes { AlwaysGoes T.tell }
     requires calls { CanCall core.old }
-    requires room { IsWithin core.old.room (do_answer_by core.old.plan (T.tell core.old.plan) row lists.now core.old.machine) }
+    requires room { IsWithin core.old.room
+        (do_answer_by core.old.plan (T.tell core.old.plan) row lists.now core.old.machine) }
     ensures { core.new ≡ after (do_answer_by core.old.plan (T.tell core.old.plan) row lists.now) core.old }
 {
     let plan = core.plan();
@@ -53,7 +55,8 @@ pub(crate) fn actions_by<D: Device, T: Tells>(
     requires actions { All (IsActionWithin core.old.plan) actions.now }
     requires goes { AlwaysGoes T.tell }
     requires calls { CanCall core.old }
-    requires room { IsWithin core.old.room (all_do (do_action_by core.old.plan (T.tell core.old.plan) owner) actions.now core.old.machine) }
+    requires room { IsWithin core.old.room
+        (all_do (do_action_by core.old.plan (T.tell core.old.plan) owner) actions.now core.old.machine) }
     ensures { core.new ≡ after (all_do (do_action_by core.old.plan (T.tell core.old.plan) owner) actions.now) core.old }
 {
     for action in actions {

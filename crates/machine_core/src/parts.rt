@@ -8,12 +8,15 @@ ghost use Rattle.plan_tables.specs.PlanView.{work_of};
 ghost use Rattle.mode_stack.specs.Modes.{running_of};
 ghost use Rattle.event_queue.specs.PlanOrder.{in_order};
 ghost use Rattle.std.specs.List.{All};
-ghost use Rattle.written_machine.specs.Machine.{all_do, post, post_if, release_ball_end, start_mode, stop_mode, release_coils, tell_listener, do_target, do_binding, do_game, do_handler, confirm_on_playfield, do_accepted, change_switch};
+ghost use Rattle.written_machine.specs.Machine.{all_do, post, post_if, release_ball_end, start_mode, stop_mode};
+ghost use Rattle.written_machine.specs.Machine.{release_coils, tell_listener, do_target, do_binding, do_game};
+ghost use Rattle.written_machine.specs.Machine.{do_handler, confirm_on_playfield, do_accepted, change_switch};
 ghost use Rattle.written_machine.specs.EventStep.{is_kept, do_before, do_after};
 ghost use Rattle.written_machine.specs.Run.{begin as begun, fire as fired};
 ghost use Rattle.written_machine.specs.NextAlarm.{next_alarm};
-ghost use Rattle.machine_core.specs.Core.{IsWhole, CanCall, HasHandlers, IsWorkOf, IsPlayable, IsWithin, StaysWithin, HasAdvanced, HasSettled, after, follow, after_taken};
-ghost use Rattle.machine_core.specs.Inside.{kept_at};
+ghost use Rattle.machine_core.specs.Core.{IsWhole, CanCall, HasHandlers, IsWorkOf, IsPlayable, IsWithin, StaysWithin};
+ghost use Rattle.machine_core.specs.Core.{HasAdvanced, HasSettled, after, follow, after_taken};
+ghost use Rattle.machine_core.specs.RareActions.{kept_at};
 ghost use Rattle.machine_core.specs.Stimuli.{source_view, stimulus_view};
 
 use crate::calls::{call_device, call_devices, run_actions};
@@ -104,7 +107,8 @@ fn run_accepted<D: Device>(core: &mut Core<'_, D>, change: Change)
 fn tell_listeners<D: Device>(core: &mut Core<'_, D>, active: bool, listeners: &[Listener])
     requires listeners { All (IsListenerWithin (length core.old.plan.rows)) listeners.now }
     requires calls { CanCall core.old }
-    requires room { IsWithin core.old.room (all_do (tell_listener core.old.plan active) listeners.now core.old.machine) }
+    requires room { IsWithin core.old.room
+        (all_do (tell_listener core.old.plan active) listeners.now core.old.machine) }
     ensures { core.new ≡ after (all_do (tell_listener core.old.plan active) listeners.now) core.old }
 {
     for listener in listeners {
@@ -179,10 +183,10 @@ fn take_step<D: Device>(core: &mut Core<'_, D>, event: EventId)
     requires room { IsWithin core.old.room (after_taken core.old.plan event core.old.machine) }
     ensures { core.new ≡ follow (after_taken core.old.plan event) core.old }
 {
-    let kept = work_before(core, event);
+    let keeps_stop = work_before(core, event);
     handle(core, event);
-    if let Some(kept) = kept {
-        work_after(core, kept, event);
+    if let Some(keeps_stop) = keeps_stop {
+        work_after(core, keeps_stop, event);
     }
 }
 
@@ -225,42 +229,44 @@ fn mode_before<D: Device>(core: &mut Core<'_, D>, mode: ModeId, which: ModeEvent
 {
     match which {
         ModeEvent::Started => {
-            let kept = core.enter(mode);
+            let keeps_stop = core.enter(mode);
             call_devices(core, mode, Call::ModeStart);
-            kept
+            keeps_stop
         }
         _ => false,
     }
 }
 
 /// The machine's work after them.
-fn work_after<D: Device>(core: &mut Core<'_, D>, kept: bool, event: EventId)
+fn work_after<D: Device>(core: &mut Core<'_, D>, keeps_stop: bool, event: EventId)
     requires handlers { HasHandlers core.old }
     requires calls { CanCall core.old }
-    requires room { IsWithin core.old.room (do_after core.old.plan kept (work_of core.old.plan event) core.old.machine) }
-    ensures { core.new ≡ follow (do_after core.old.plan kept (work_of core.old.plan event)) core.old }
+    requires room { IsWithin core.old.room
+        (do_after core.old.plan keeps_stop (work_of core.old.plan event) core.old.machine) }
+    ensures { core.new ≡ follow (do_after core.old.plan keeps_stop (work_of core.old.plan event)) core.old }
 {
     match work_of(core.plan(), event) {
         Work::Nothing => {}
-        Work::Mode(mode, which) => mode_after(core, kept, mode, which),
+        Work::Mode(mode, which) => mode_after(core, keeps_stop, mode, which),
         Work::Game(which) => play(core, which),
     }
 }
 
 /// The next step in the life of a mode, after the handlers of its event.
-fn mode_after<D: Device>(core: &mut Core<'_, D>, kept: bool, mode: ModeId, which: ModeEvent)
+fn mode_after<D: Device>(core: &mut Core<'_, D>, keeps_stop: bool, mode: ModeId, which: ModeEvent)
     requires mode { mode.0 < length core.old.plan.modes }
     requires handlers { HasHandlers core.old }
     requires calls { CanCall core.old }
-    requires room { IsWithin core.old.room (do_after core.old.plan kept (works.Mode mode which) core.old.machine) }
-    ensures { core.new ≡ follow (do_after core.old.plan kept (works.Mode mode which)) core.old }
+    requires room { IsWithin core.old.room (do_after core.old.plan keeps_stop (works.Mode mode which)
+        core.old.machine) }
+    ensures { core.new ≡ follow (do_after core.old.plan keeps_stop (works.Mode mode which)) core.old }
 {
     let events = core.plan().mode(mode).events;
     match which {
         ModeEvent::WillStart => core.post(Owner::Machine, events.starting),
         ModeEvent::Starting => core.post(Owner::Machine, events.started),
         ModeEvent::Started => {
-            if kept {
+            if keeps_stop {
                 stop(core, mode);
             }
         }
@@ -293,8 +299,11 @@ fn play<D: Device>(core: &mut Core<'_, D>, event: GameEvent)
 fn handle<D: Device>(core: &mut Core<'_, D>, event: EventId)
     requires handlers { HasHandlers core.old }
     requires calls { CanCall core.old }
-    requires room { IsWithin core.old.room (all_do (do_handler core.old.plan) (in_order core.old.plan (running_of core.old.machine.modes) event) core.old.machine) }
-    ensures { core.new ≡ after (all_do (do_handler core.old.plan) (in_order core.old.plan (running_of core.old.machine.modes) event)) core.old }
+    requires room { IsWithin core.old.room
+        (all_do (do_handler core.old.plan) (in_order core.old.plan (running_of core.old.machine.modes) event)
+        core.old.machine) }
+    ensures { core.new ≡ after (all_do (do_handler core.old.plan)
+        (in_order core.old.plan (running_of core.old.machine.modes) event)) core.old }
 {
     let plan = core.plan();
     let mut k = 0;

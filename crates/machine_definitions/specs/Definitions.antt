@@ -1,12 +1,12 @@
 -- The coils, switches and ball devices of the machine text, by name. Here `machine` is the sections of that text.
 use Rattle.std.specs.Prelude.{ℕ, Bool, false, if◌then◌else◌, List, [], Option, None, Some, fold, unwrap_or}
 use Rattle.std.specs.{List.{flat_map, list_any}, Str.bytes_eq}
-use Rattle.mpf_sections.specs.{Rows.{Coil, BallDevice, SectionRows}, TypedCoils.{coils_in, quick_switches}}
+use Rattle.mpf_sections.specs.{Rows.{Coil, BallDeviceEntry, SectionRows}, TypedCoils.{coils_in, quick_switches}}
 use Rattle.mpf_sections.specs.{Typed.switches_in, TypedBalls.ball_devices_in}
 
 -- the coil of this name, if there is one; of two the later
 abbrev pub latest_coil : List ℕ → Option Coil → Coil → Option Coil
-latest_coil name found c = if bytes_eq name c.name.text then Some c else found
+latest_coil name earlier c = if bytes_eq name c.name.text then Some c else earlier
 
 abbrev pub coil_called : List SectionRows → List ℕ → Option Coil
 coil_called machine name = fold (latest_coil name) None (flat_map coils_in machine)
@@ -36,15 +36,15 @@ abbrev pub makes_quick : List SectionRows → List ℕ → Bool
 makes_quick machine name = list_any (bytes_eq name) (flat_map quick_switches machine)
 
 -- the ball devices of sections, in plan order
-abbrev pub ball_devices_of : List SectionRows → List BallDevice
+abbrev pub ball_devices_of : List SectionRows → List BallDeviceEntry
 ball_devices_of sections = flat_map ball_devices_in sections
 
 -- of these ball devices the one of this name, if there is one; of two the later
-abbrev pub latest_ball_device : List ℕ → Option BallDevice → BallDevice → Option BallDevice
-latest_ball_device name found d = if bytes_eq name d.name.text then Some d else found
+abbrev pub latest_ball_device : List ℕ → Option BallDeviceEntry → BallDeviceEntry → Option BallDeviceEntry
+latest_ball_device name earlier d = if bytes_eq name d.name.text then Some d else earlier
 
-abbrev pub ball_device_among : List BallDevice → List ℕ → Option BallDevice
+abbrev pub ball_device_among : List BallDeviceEntry → List ℕ → Option BallDeviceEntry
 ball_device_among devices name = fold (latest_ball_device name) None devices
 
-abbrev pub ball_device_called : List SectionRows → List ℕ → Option BallDevice
+abbrev pub ball_device_called : List SectionRows → List ℕ → Option BallDeviceEntry
 ball_device_called machine name = ball_device_among (ball_devices_of machine) name

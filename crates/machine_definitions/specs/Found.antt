@@ -2,23 +2,26 @@
 use Rattle.std.specs.Prelude.{◌≡◌, ◌||◌, ℕ, Bool, List, fold, map, Option, Some, option_map}
 use Rattle.std.specs.{List.{filter_map, flat_map, list_any}, Str.bytes_eq, HashMap.HashMap}
 use Rattle.std.specs.{Borrow.Bor, HashSet.HashSet, Map.lookup}
-use Rattle.mpf_sections.specs.{Rows.{Coil, SectionRows, Shot, BallDevice}, declared.section.Section.Section}
+use Rattle.mpf_sections.specs.Rows.{Coil, SectionRows, Shot, BallDeviceEntry}
+use Rattle.mpf_sections.specs.{declared.section.Section.Section, Typed.switch_of, TypedBalls.ball_device_of}
 use Rattle.section_tables.specs.declared.rows.Entry as entry_rows
 use Rattle.setting_values.specs.declared.values.Fields as field_rows
-use Rattle.mpf_sections.specs.{View.{entry_view, fields_view, section_view}, Typed.switch_of, TypedBalls.ball_device_of}
+use Rattle.mpf_sections.specs.View.{entry_view, fields_view, section_view}
 use Rattle.mpf_sections.specs.TypedCoils.{coil_of, names_at, quick_switches}
 use Rattle.mpf_sections.specs.TypedShots.{shot_of, state_of, shot_profile_of, shots_in, shot_profiles_in}
 use Rattle.mpf_config.specs.Rows.{Rows}
 use Rattle.machine_definitions.specs.declared.profile.Profile as profiles
-use Rattle.machine_definitions.specs.Definitions.{latest_coil, coil_called, has_switch, makes_quick, latest_ball_device, ball_device_called}
-use Rattle.machine_definitions.specs.Shots.{latest_shot, shot_called, Profile, profile_of, standard_profile, latest_profile, profile_called}
+use Rattle.machine_definitions.specs.Definitions.{latest_coil, coil_called, has_switch, makes_quick, latest_ball_device}
+use Rattle.machine_definitions.specs.{Definitions.ball_device_called, Shots.{latest_profile, profile_called}}
+use Rattle.machine_definitions.specs.Shots.{latest_shot, shot_called, Profile, profile_of, standard_profile}
 
 -- the names of states
 abbrev pub names_view : List (Bor (List ℕ)) → List (List ℕ)
 names_view names = map (λ n. n.now) names
 
 abbrev pub profile_view : profiles.Profile → Profile
-profile_view p = record { name = p.name.now; states = names_view p.states.items; advance_on_hit = p.advance_on_hit; loops = p.loops }
+profile_view p =
+    record { name = p.name.now; states = names_view p.states.items; advance_on_hit = p.advance_on_hit; loops = p.loops }
 
 -- a key that has these bytes
 abbrev pub has_bytes : List ℕ → Bor (List ℕ) → Bool
@@ -28,7 +31,7 @@ has_bytes name key = bytes_eq name key.now
 abbrev pub as_coil : Bor entry_rows.Entry → Coil
 as_coil e = coil_of (entry_view e.now)
 
-abbrev pub as_ball_device : Bor entry_rows.Entry → BallDevice
+abbrev pub as_ball_device : Bor entry_rows.Entry → BallDeviceEntry
 as_ball_device e = ball_device_of (entry_view e.now)
 
 abbrev pub as_shot : Bor entry_rows.Entry → Shot
@@ -41,14 +44,15 @@ found_coil coils name = option_map as_coil (lookup (has_bytes name) coils.entrie
 abbrev pub is_found : {S : Type 0} → HashSet (Bor (List ℕ)) S → List ℕ → Bool
 is_found names name = list_any (has_bytes name) names.keys
 
-abbrev pub found_ball_device : {S : Type 0} → HashMap (Bor (List ℕ)) (Bor entry_rows.Entry) S → List ℕ → Option BallDevice
+abbrev pub found_ball_device : {S : Type 0} → HashMap (Bor (List ℕ)) (Bor entry_rows.Entry) S → List ℕ
+    → Option BallDeviceEntry
 found_ball_device devices name = option_map as_ball_device (lookup (has_bytes name) devices.entries)
 
 abbrev pub found_shot : {S : Type 0} → HashMap (Bor (List ℕ)) (Bor entry_rows.Entry) S → List ℕ → Option Shot
 found_shot shots name = option_map as_shot (lookup (has_bytes name) shots.entries)
 
 abbrev pub found_profile : {S : Type 0} → HashMap (Bor (List ℕ)) profiles.Profile S → List ℕ → Option Profile
-found_profile found name = option_map profile_view (lookup (has_bytes name) found.entries)
+found_profile table name = option_map profile_view (lookup (has_bytes name) table.entries)
 
 -- by each name the coil that has it is found
 abbrev pub HasCoils : {S : Type 0} → List SectionRows → HashMap (Bor (List ℕ)) (Bor entry_rows.Entry) S → Type 0
@@ -70,7 +74,7 @@ abbrev pub HasShots : {S : Type 0} → Rows → HashMap (Bor (List ℕ)) (Bor en
 HasShots rows shots = (name : List ℕ) → found_shot shots name ≡ shot_called rows name
 
 abbrev pub HasProfiles : {S : Type 0} → Rows → HashMap (Bor (List ℕ)) profiles.Profile S → Type 0
-HasProfiles rows found = (name : List ℕ) → found_profile found name ≡ profile_called rows name
+HasProfiles rows table = (name : List ℕ) → found_profile table name ≡ profile_called rows name
 
 -- ---- what a map gains
 
@@ -78,14 +82,17 @@ HasProfiles rows found = (name : List ℕ) → found_profile found name ≡ prof
 abbrev pub GainsCoils : {S : Type 0} → (old new : HashMap (Bor (List ℕ)) (Bor entry_rows.Entry) S) → List Coil → Type 0
 GainsCoils old new more = (name : List ℕ) → found_coil new name ≡ fold (latest_coil name) (found_coil old name) more
 
-abbrev pub GainsBallDevices : {S : Type 0} → (old new : HashMap (Bor (List ℕ)) (Bor entry_rows.Entry) S) → List BallDevice → Type 0
-GainsBallDevices old new more = (name : List ℕ) → found_ball_device new name ≡ fold (latest_ball_device name) (found_ball_device old name) more
+abbrev pub GainsBallDevices : {S : Type 0} → (old new : HashMap (Bor (List ℕ)) (Bor entry_rows.Entry) S)
+    → List BallDeviceEntry → Type 0
+GainsBallDevices old new more = (name : List ℕ)
+    → found_ball_device new name ≡ fold (latest_ball_device name) (found_ball_device old name) more
 
 abbrev pub GainsShots : {S : Type 0} → (old new : HashMap (Bor (List ℕ)) (Bor entry_rows.Entry) S) → List Shot → Type 0
 GainsShots old new more = (name : List ℕ) → found_shot new name ≡ fold (latest_shot name) (found_shot old name) more
 
 abbrev pub GainsProfiles : {S : Type 0} → (old new : HashMap (Bor (List ℕ)) profiles.Profile S) → List Profile → Type 0
-GainsProfiles old new more = (name : List ℕ) → found_profile new name ≡ fold (latest_profile name) (found_profile old name) more
+GainsProfiles old new more = (name : List ℕ)
+    → found_profile new name ≡ fold (latest_profile name) (found_profile old name) more
 
 -- a name is found that was found, or that is one of these
 abbrev pub GainsNames : {S : Type 0} → (old new : HashSet (Bor (List ℕ)) S) → (is_one : List ℕ → Bool) → Type 0
@@ -96,7 +103,7 @@ GainsNames old new is_one = (name : List ℕ) → is_found new name ≡ (is_foun
 abbrev pub as_coils : List entry_rows.Entry → List Coil
 as_coils entries = map coil_of (map entry_view entries)
 
-abbrev pub as_ball_devices : List entry_rows.Entry → List BallDevice
+abbrev pub as_ball_devices : List entry_rows.Entry → List BallDeviceEntry
 as_ball_devices entries = map ball_device_of (map entry_view entries)
 
 abbrev pub as_shots : List entry_rows.Entry → List Shot
@@ -137,12 +144,14 @@ abbrev pub profiles_among : List Section → List Profile
 profiles_among sections = map profile_of (flat_map shot_profiles_in (section_rows sections))
 
 -- what all fields of `Definitions` hold, if it is of these rows
-pub record IsDefined {S : Type 0} (rows : Rows) (coils : HashMap (Bor (List ℕ)) (Bor entry_rows.Entry) S) (switches quick : HashSet (Bor (List ℕ)) S) (devices : HashMap (Bor (List ℕ)) (Bor entry_rows.Entry) S) (shots : HashMap (Bor (List ℕ)) (Bor entry_rows.Entry) S)
-    (found : HashMap (Bor (List ℕ)) profiles.Profile S) (standard : profiles.Profile) : Type 0 where
+pub record IsDefined {S : Type 0} (rows : Rows) (coils : HashMap (Bor (List ℕ)) (Bor entry_rows.Entry) S)
+    (switches quick : HashSet (Bor (List ℕ)) S) (devices : HashMap (Bor (List ℕ)) (Bor entry_rows.Entry) S)
+    (shots : HashMap (Bor (List ℕ)) (Bor entry_rows.Entry) S)
+    (table : HashMap (Bor (List ℕ)) profiles.Profile S) (standard : profiles.Profile) : Type 0 where
   pub coils_found : HasCoils rows.machine coils
   pub switches_found : HasSwitches rows.machine switches
   pub quick_found : HasQuick rows.machine quick
   pub devices_found : HasBallDevices rows.machine devices
   pub shots_found : HasShots rows shots
-  pub profiles_found : HasProfiles rows found
+  pub profiles_found : HasProfiles rows table
   pub standard_is : profile_view standard ≡ standard_profile

@@ -1,6 +1,6 @@
 -- The shots of all texts, and their profiles, by name.
-use Rattle.std.specs.Prelude.{ℕ, Bool, true, false, ◌||◌, if◌then◌else◌, List, [], ◌∷◌, ◌++◌, map, fold, Option, None, Some, is_some, unwrap_or, codes}
-use Rattle.std.specs.{List.flat_map, Str.bytes_eq}
+use Rattle.std.specs.Prelude.{ℕ, Bool, true, false, ◌||◌, if◌then◌else◌, List, [], ◌∷◌, ◌++◌, map, fold, Option, None}
+use Rattle.std.specs.{Prelude.{Some, is_some, unwrap_or, codes}, List.flat_map, Str.bytes_eq}
 use Rattle.mpf_sections.specs.Rows.{Shot, ShotProfile, SectionRows}
 use Rattle.mpf_sections.specs.TypedShots.{default_profile, shots_in, shot_profiles_in}
 use Rattle.mpf_config.specs.Rows.{Rows}
@@ -13,7 +13,7 @@ all_sections rows = rows.machine ++ flat_map (λ m. m.sections) rows.modes
 
 -- the shot of this name, if there is one; of two the later
 abbrev pub latest_shot : List ℕ → Option Shot → Shot → Option Shot
-latest_shot name found s = if bytes_eq name s.name.text then Some s else found
+latest_shot name earlier s = if bytes_eq name s.name.text then Some s else earlier
 
 abbrev pub shot_called : Rows → List ℕ → Option Shot
 shot_called rows name = fold (latest_shot name) None (flat_map shots_in (all_sections rows))
@@ -46,11 +46,12 @@ standard_profile = record {
 }
 
 abbrev pub latest_profile : List ℕ → Option Profile → Profile → Option Profile
-latest_profile name found p = if bytes_eq name p.name then Some p else found
+latest_profile name earlier p = if bytes_eq name p.name then Some p else earlier
 
 -- the profile that an entry defines under this name, if there is one; of two the later
 abbrev pub profile_called : Rows → List ℕ → Option Profile
-profile_called rows name = fold (latest_profile name) None (map profile_of (flat_map shot_profiles_in (all_sections rows)))
+profile_called rows name = fold (latest_profile name) None
+    (map profile_of (flat_map shot_profiles_in (all_sections rows)))
 
 -- whether there is a profile of this name: the standard one, or one that an entry defines
 abbrev pub has_profile : Rows → List ℕ → Bool

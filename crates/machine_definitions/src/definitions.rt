@@ -6,7 +6,9 @@ ghost use Rattle.mpf_sections.specs.View.{coil_view, shot_view, ball_device_view
 ghost use Rattle.mpf_config.specs.View.{rows_view};
 ghost use Rattle.machine_definitions.specs.Definitions.{coil_called, has_switch, makes_quick, ball_device_called};
 ghost use Rattle.machine_definitions.specs.Shots.{shot_called, has_profile, profile_of_name};
-ghost use Rattle.machine_definitions.specs.Found.{profile_view, HasCoils, HasSwitches, HasQuick, HasBallDevices, GainsBallDevices, GainsCoils, GainsNames, as_ball_devices, as_coils, defines_switch, is_made_quick, is_named_at, section_rows};
+ghost use Rattle.machine_definitions.specs.Found.{profile_view, HasCoils, HasSwitches, HasQuick, HasBallDevices};
+ghost use Rattle.machine_definitions.specs.Found.{GainsBallDevices, GainsCoils, GainsNames, as_ball_devices, as_coils};
+ghost use Rattle.machine_definitions.specs.Found.{defines_switch, is_made_quick, is_named_at, section_rows};
 
 use crate::by_name::{ByName, Names};
 use crate::profile::Profile;
@@ -15,7 +17,7 @@ use indexmap::{IndexMap, IndexSet};
 use mpf_config::config::Config;
 use mpf_config::{Coil, Entry, Section, Shot, as_coil, as_shot, min_balls};
 use mpf_sections::coil_rules::{needed_name, quick_switch};
-use mpf_sections::{BallDevice, as_ball_device};
+use mpf_sections::{BallDeviceEntry, as_ball_device};
 use mpf_tables::tables::{BALL_DEVICES_NAME, COILS_NAME, DEFAULT_PROFILE, SWITCHES_NAME};
 use std::alloc::{AllocError, Global};
 use std::marker::Model;
@@ -45,7 +47,8 @@ impl<'a> Model for Definitions<'a> {
 
     ghost view = { λ d. rows_view d.config.now };
 
-    ghost invariant = { λ d. IsDefined (rows_view d.config.now) d.coils d.switches d.quick d.ball_devices d.shots d.profiles d.standard };
+    ghost invariant = { λ d. IsDefined (rows_view d.config.now) d.coils d.switches d.quick d.ball_devices d.shots
+        d.profiles d.standard };
 }
 
 impl<'a> Definitions<'a> {
@@ -113,7 +116,7 @@ impl<'a> Definitions<'a> {
     }
 
     /// The ball device of this name, if there is one.
-    pub fn ball_device(&self, name: &[u8]) -> Option<BallDevice<'a>>
+    pub fn ball_device(&self, name: &[u8]) -> Option<BallDeviceEntry<'a>>
         ensures { option_map ball_device_view result ≡ ball_device_called self.now.machine name.now }
     {
         match self.ball_devices.get(name) {

@@ -3,7 +3,9 @@
 ghost use Rattle.std.specs.Prelude.{◌≡◌, IfOk, OnOk};
 ghost use Rattle.mpf_config.specs.View.{rows_view};
 ghost use Rattle.machine_definitions.specs.Shots.{standard_profile};
-ghost use Rattle.machine_definitions.specs.Found.{names_view, profile_view, HasShots, HasProfiles, GainsProfiles, GainsShots, as_profile, as_profiles, as_shots, as_states, profiles_among, shots_among};
+ghost use Rattle.machine_definitions.specs.Found.{names_view, profile_view, HasShots, HasProfiles, GainsProfiles};
+ghost use Rattle.machine_definitions.specs.Found.{GainsShots, as_profile, as_profiles, as_shots, as_states};
+ghost use Rattle.machine_definitions.specs.Found.{profiles_among, shots_among};
 
 use crate::by_name::ByName;
 use crate::profile::Profile;

@@ -1,9 +1,9 @@
 -- The bundle of a machine, of texts at their paths.
-use Rattle.std.specs.Prelude.{◌≡◌, ◌<◌, ◌⊎◌, ℕ, Option, None, Some, option_map, Result, Ok, Err, List, [], ◌∷◌, ◌++◌, codes, length, slice_index, string_bytes, IfSome}
-use Rattle.std.specs.{Global.Vec, Str.Lossy.utf8_lossy}
+use Rattle.std.specs.Prelude.{◌≡◌, ◌<◌, ◌⊎◌, ℕ, Option, None, Some, option_map, Result, Ok, Err, List, [], ◌∷◌, ◌++◌}
+use Rattle.std.specs.{Prelude.{codes, length, slice_index, string_bytes, IfSome}, Global.Vec, Str.Lossy.utf8_lossy}
 use Rattle.memchr.specs.Find.{OccursAt}
 use Rattle.mpf_config.specs.{Rows.RowsFault, BundleText.{machine_name, mode_text_name}, Reading.mode_names_at}
-use Rattle.pinball_shell.specs.{declared.fault.{ShellFault.ShellFault, Failure.Failure}, Joined.joined}
+use Rattle.pinball_shell.specs.{declared.fault.{ShellFault.ShellFault, Failure.Failure}, Joined.join_text}
 use Rattle.pinball_shell.specs.declared.fault.ShellFault.TheVariants.{NoMemory, Read, Write, TooLong, WrongDevice}
 
 -- ---- what is at a path
@@ -14,7 +14,7 @@ Known = Option (Option (List ℕ))
 
 -- what was found is what is known to be there
 abbrev pub IsTextAt : Known → Option (Vec ℕ) → Type 0
-IsTextAt known found = IfSome known (λ text. option_map (λ t. t.items) found ≡ text)
+IsTextAt known text_there = IfSome known (λ text. option_map (λ t. t.items) text_there ≡ text)
 
 -- the path of a text in a folder
 abbrev pub path_of : List ℕ → List ℕ → List ℕ
@@ -42,29 +42,31 @@ pub record AreListed (text : List ℕ) (modes : List (List ℕ)) : Type 0 where
 abbrev pub IsMachineRead : Known → List ℕ → List (List ℕ) → Type 0
 IsMachineRead None bundle modes = Unit {0}
 IsMachineRead (Some None) bundle modes = ⊥
-IsMachineRead (Some (Some text)) bundle modes = (bundle ≡ joined [] machine_name text) × AreListed text modes
+IsMachineRead (Some (Some text)) bundle modes = (bundle ≡ join_text [] machine_name text) × AreListed text modes
 
 -- a bundle with the text of a name, where there is one
 abbrev pub with_text : List ℕ → List ℕ → Option (List ℕ) → List ℕ
 with_text bundle name None = bundle
-with_text bundle name (Some text) = joined bundle name text
+with_text bundle name (Some text) = join_text bundle name text
 
 -- the text of a mode is joined to a bundle, where it has one
 abbrev pub IsModeJoined : (List ℕ → Known) → (folder mode before after : List ℕ) → Type 0
 IsModeJoined text_at folder mode before after =
-    IfSome (text_at (path_of folder (mode_text_name mode))) (λ text. after ≡ with_text before (mode_text_name mode) text)
+    IfSome (text_at (path_of folder (mode_text_name mode)))
+    (λ text. after ≡ with_text before (mode_text_name mode) text)
 
 -- so are those of all these modes, one after another
 abbrev pub AreJoined : (List ℕ → Known) → (folder : List ℕ) → (modes : List (List ℕ)) → (before after : List ℕ) → Type 0
 AreJoined text_at folder [] before after = after ≡ before
-AreJoined text_at folder (mode ∷ more) before after = (mid : List ℕ) × IsModeJoined text_at folder mode before mid × AreJoined text_at folder more mid after
+AreJoined text_at folder (mode ∷ more) before after =
+    (mid : List ℕ) × IsModeJoined text_at folder mode before mid × AreJoined text_at folder more mid after
 
 -- It is the bundle of the machine in the folder: the machine text, and the texts of the modes that it lists, joined.
 pub record IsBundleIn (text_at : List ℕ → Known) (folder bundle : List ℕ) : Type 0 where
   pub machine : List ℕ
   pub modes : List (List ℕ)
   pub begun : IsMachineRead (text_at (path_of folder machine_name)) machine modes
-  pub joined : AreJoined text_at folder modes machine bundle
+  pub bundle_is : AreJoined text_at folder modes machine bundle
 
 -- ---- a text that cannot be read
 
@@ -82,9 +84,11 @@ MayLack known = (known ≡ None) ⊎ (known ≡ Some None)
 
 -- It is not known what is at this path; or it is that of the machine text, which is not there.
 abbrev pub MayBeUnread : (List ℕ → Known) → (folder path : List ℕ) → Type 0
-MayBeUnread text_at folder path = (text_at path ≡ None) ⊎ ((path ≡ path_of folder machine_name) × MayLack (text_at path))
+MayBeUnread text_at folder path = (text_at path ≡ None)
+    ⊎ ((path ≡ path_of folder machine_name) × MayLack (text_at path))
 
 -- If the fault is `Read`, the file is that of such a text.
 abbrev pub NamesUnread : (List ℕ → Known) → (folder : List ℕ) → Failure → Type 0
 NamesUnread text_at folder failure =
-    failure.fault ≡ Read → (path : List ℕ) × (option_map string_bytes failure.file ≡ Some path) × MayBeUnread text_at folder path
+    failure.fault ≡ Read → (path : List ℕ) × (option_map string_bytes failure.file ≡ Some path)
+    × MayBeUnread text_at folder path

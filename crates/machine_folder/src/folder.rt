@@ -1,10 +1,11 @@
 //! Texts are read by their paths, and joined into a bundle.
 
 ghost use Rattle.std.specs.Prelude.{◌≡◌, ◌≤◌, ◌^◌, None, map, IfOk, IfErr, IfSome, OnOk, string_bytes, vec_len};
-ghost use Rattle.mpf_config.specs.Inside.{names_only_view};
-ghost use Rattle.machine_folder.specs.Bundles.{path_of, with_text, IsMachineRead, IsModeJoined, AreJoined, IsBundleIn, MayLack, NamesUnread, IsOfReading};
+ghost use Rattle.mpf_config.specs.CodeViews.{names_only_view};
+ghost use Rattle.machine_folder.specs.Bundles.{path_of, with_text, IsMachineRead, IsModeJoined, AreJoined, IsBundleIn};
+ghost use Rattle.machine_folder.specs.Bundles.{MayLack, NamesUnread, IsOfReading};
 
-use crate::modes::listed_modes;
+use crate::modes::readable_mode_names;
 use mpf_config::{MACHINE_NAME, mode_text_name};
 use pinball_shell::{Failure, ShellFault, append_text, join};
 use std::alloc::{AllocError, Global};
@@ -64,7 +65,8 @@ fn read_machine<T: Texts>(
     texts: &T,
     path: &str,
 ) -> Result<(Vec<u8>, Vec<Vec<u8>>), ShellFault>
-    ensures read { IfOk result (λ read. IsMachineRead (T.text_at texts.now path.now) read.0.items (names_only_view read.1)) }
+    ensures read { IfOk result (λ read. IsMachineRead (T.text_at texts.now path.now) read.0.items
+        (names_only_view read.1)) }
     ensures within { IfOk result (λ read. vec_len read.0 ≤ 2 ^ 23) }
     ensures unread { IfErr result (λ e. e ≡ ShellFault.Read → MayLack (T.text_at texts.now path.now)) }
     ensures only { IfErr result (λ e. IsOfReading e) }
@@ -72,7 +74,7 @@ fn read_machine<T: Texts>(
     let Some(text) = texts.text(alloc, path)? else {
         return Err(ShellFault::Read);
     };
-    let modes = listed_modes(alloc, &text)?;
+    let modes = readable_mode_names(alloc, &text)?;
     let bundle = join(alloc, b"", MACHINE_NAME, &text)?;
     Ok((bundle, modes))
 }
@@ -86,7 +88,8 @@ fn append_modes<T: Texts>(
     bundle: &mut Vec<u8>,
 ) -> Result<(), Failure>
     requires { vec_len bundle.old ≤ 2 ^ 23 }
-    ensures joined { OnOk result (AreJoined (T.text_at texts.now) folder.now (map (λ mode. mode.items) modes.now) bundle.old.items bundle.new.items) }
+    ensures joined { OnOk result (AreJoined (T.text_at texts.now) folder.now (map (λ mode. mode.items) modes.now)
+        bundle.old.items bundle.new.items) }
     ensures within { OnOk result (vec_len bundle.new ≤ 2 ^ 23) }
     ensures read { IfErr result (λ failure. NamesUnread (T.text_at texts.now) folder.now failure) }
     ensures only { IfErr result (λ failure. IsOfReading failure.fault) }
@@ -106,7 +109,8 @@ fn append_mode<T: Texts>(
     bundle: &mut Vec<u8>,
 ) -> Result<(), Failure>
     requires { vec_len bundle.old ≤ 2 ^ 23 }
-    ensures joined { OnOk result (IsModeJoined (T.text_at texts.now) folder.now mode.now bundle.old.items bundle.new.items) }
+    ensures joined { OnOk result (IsModeJoined (T.text_at texts.now) folder.now mode.now bundle.old.items
+        bundle.new.items) }
     ensures within { OnOk result (vec_len bundle.new ≤ 2 ^ 23) }
     ensures read { IfErr result (λ failure. NamesUnread (T.text_at texts.now) folder.now failure) }
     ensures only { IfErr result (λ failure. IsOfReading failure.fault) }
@@ -128,7 +132,8 @@ fn append_text_at<T: Texts>(
     bundle: &mut Vec<u8>,
 ) -> Result<(), ShellFault>
     requires { vec_len bundle.old ≤ 2 ^ 23 }
-    ensures joined { OnOk result (IfSome (T.text_at texts.now path.now) (λ text. bundle.new.items ≡ with_text bundle.old.items name.now text)) }
+    ensures joined { OnOk result (IfSome (T.text_at texts.now path.now)
+        (λ text. bundle.new.items ≡ with_text bundle.old.items name.now text)) }
     ensures within { OnOk result (vec_len bundle.new ≤ 2 ^ 23) }
     ensures read { IfErr result (λ e. e ≡ ShellFault.Read → T.text_at texts.now path.now ≡ None) }
     ensures only { IfErr result (λ e. IsOfReading e) }

@@ -2,7 +2,7 @@
 
 ghost use Rattle.std.specs.Prelude.{◌≡◌, ◌↔◌, IfOk, IfErr, IsTrue};
 ghost use Rattle.machine_folder.specs.Bundles.{AreListed, MayListModes};
-ghost use Rattle.mpf_config.specs.Inside.{names_only_view};
+ghost use Rattle.mpf_config.specs.CodeViews.{names_only_view};
 
 use memchr::{memchr, memmem};
 use mpf_config::{ConfigFault, MODES_NAME, mode_names};
@@ -11,7 +11,7 @@ use std::alloc::Global;
 
 /// The names of the modes that a machine text lists. None where it has a fault: what reads the
 /// bundle reports that. Fails only by memory.
-pub fn listed_modes(alloc: Global, text: &[u8]) -> Result<Vec<Vec<u8>>, ShellFault>
+pub fn readable_mode_names(alloc: Global, text: &[u8]) -> Result<Vec<Vec<u8>>, ShellFault>
     ensures names { IfOk result (λ names. AreListed text.now (names_only_view names)) }
     ensures only { IfErr result (λ e. e ≡ ShellFault.NoMemory) }
 {

@@ -5,7 +5,7 @@ use crate::words::Direction;
 /// The settings that all logic blocks have.
 #[derive(Clone, Copy, PartialEq, Eq)]
 pub struct BlockSettings {
-    /// Whether the block is enabled at first: no event enables it.
+    /// Whether the block is enabled at first: it has no `enable_events`.
     pub enabled: bool,
     /// Whether completing resets it.
     pub reset_on_complete: bool,

@@ -6,7 +6,7 @@ use Rattle.mode_stack.specs.declared.phase.StopAnswer.{StopAnswer, TheVariants.{
 
 -- a mode in a phase, with no stop kept
 abbrev pub in_phase : Phase → ModeState
-in_phase phase = record { phase = phase; kept = false }
+in_phase phase = record { phase = phase; keeps_stop = false }
 
 -- whether a mode's bindings handle events
 abbrev pub is_running : Phase → Bool
@@ -24,20 +24,20 @@ starts needs game Starting = false
 starts needs game Active = false
 starts needs game Stopping = false
 
-abbrev pub started : Bool → Bool → ModeState → ModeState
-started needs game s = if starts needs game s.phase then in_phase Starting else s
+abbrev pub after_start : Bool → Bool → ModeState → ModeState
+after_start needs game s = if starts needs game s.phase then in_phase Starting else s
 
 -- ---- stop
 
 -- An active mode is stopping then, and for a starting one the stop is kept.
 abbrev pub stopped_from : Phase → ModeState → ModeState
 stopped_from Idle s = s
-stopped_from Starting s = record { phase = Starting; kept = true }
+stopped_from Starting s = record { phase = Starting; keeps_stop = true }
 stopped_from Active s = in_phase Stopping
 stopped_from Stopping s = s
 
-abbrev pub stopped : ModeState → ModeState
-stopped s = stopped_from s.phase s
+abbrev pub after_stop : ModeState → ModeState
+after_stop s = stopped_from s.phase s
 
 abbrev pub stop_answer : Phase → StopAnswer
 stop_answer Idle = Ignored

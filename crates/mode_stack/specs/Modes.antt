@@ -2,7 +2,7 @@
 use Rattle.std.specs.Prelude.{◌≡◌, ℕ, Bool, List, length, map, replicate, slice_index_or, slice_set}
 use Rattle.plan_tables.specs.{declared.entries.ModeId.ModeId, PlanView.{PlanView, mode_at}}
 use Rattle.mode_stack.specs.declared.phase.{Phase.TheVariants.Idle, ModeState.ModeState}
-use Rattle.mode_stack.specs.ModeStep.{in_phase, is_running, started, stopped}
+use Rattle.mode_stack.specs.ModeStep.{in_phase, is_running, after_start, after_stop}
 
 -- a plan, and the state of each of its modes, by number
 pub record ModesView : Type 0 where
@@ -37,5 +37,7 @@ running_of modes = map (λ s. is_running s.phase) modes
 
 -- No mode begins or ceases to run by being told to start or to stop.
 pub record StartingKeepsWhoRuns : Type 0 where
-  pub start : (modes : List ModeState) (m : ModeId) (needs game : Bool) → running_of (slice_set modes m.0 (started needs game (mode_state modes m))) ≡ running_of modes
-  pub stop : (modes : List ModeState) (m : ModeId) → running_of (slice_set modes m.0 (stopped (mode_state modes m))) ≡ running_of modes
+  pub start : (modes : List ModeState) (m : ModeId) (needs game : Bool)
+      → running_of (slice_set modes m.0 (after_start needs game (mode_state modes m))) ≡ running_of modes
+  pub stop : (modes : List ModeState) (m : ModeId)
+      → running_of (slice_set modes m.0 (after_stop (mode_state modes m))) ≡ running_of modes

@@ -24,7 +24,7 @@ impl<'p> Model for Modes<'p> {
 
 impl<'p> Modes<'p> {
     ghost use Rattle.std.specs.Prelude.{◌≡◌, ◌<◌, length, slice_set, IfOk};
-    ghost use Rattle.mode_stack.specs.ModeStep.{started, starts, stopped, stop_answer, entered, ended};
+    ghost use Rattle.mode_stack.specs.ModeStep.{after_start, starts, after_stop, stop_answer, entered, ended};
     ghost use Rattle.mode_stack.specs.Modes.{IsComplete, needs_game, mode_state, idle_modes};
 
     /// All modes of the plan, idle, with no stop kept.
@@ -54,14 +54,17 @@ impl<'p> Modes<'p> {
     /// whether it starts. If not, nothing has changed.
     pub fn start(&mut self, mode: ModeId, game: bool) -> bool
         requires { mode.0 < length self.old.plan.modes }
-        ensures state { self.new ≡ record self.old { modes = slice_set self.old.modes mode.0 (started (needs_game self.old.plan mode) game (mode_state self.old.modes mode)) } }
+        ensures state { self.new ≡ record self.old {
+          modes = slice_set self.old.modes mode.0
+              (after_start (needs_game self.old.plan mode) game (mode_state self.old.modes mode));
+        } }
         ensures starts { result ≡ starts (needs_game self.old.plan mode) game (mode_state self.old.modes mode).phase }
         ensures complete { IsComplete self.new }
     {
         let needs = self.plan.mode(mode).game;
         let number = mode.0 as usize;
         let old = self.states[number];
-        self.states[number] = old.started(needs, game);
+        self.states[number] = old.after_start(needs, game);
         old.starts(needs, game)
     }
 
@@ -69,33 +72,36 @@ impl<'p> Modes<'p> {
     /// event `stopping`. For a starting mode the stop is kept. In the other phases nothing changes.
     pub fn stop(&mut self, mode: ModeId) -> StopAnswer
         requires { mode.0 < length self.old.plan.modes }
-        ensures state { self.new ≡ record self.old { modes = slice_set self.old.modes mode.0 (stopped (mode_state self.old.modes mode)) } }
+        ensures state { self.new ≡ record self.old
+            { modes = slice_set self.old.modes mode.0 (after_stop (mode_state self.old.modes mode)) } }
         ensures answer { result ≡ stop_answer (mode_state self.old.modes mode).phase }
         ensures complete { IsComplete self.new }
     {
         let number = mode.0 as usize;
         let old = self.states[number];
-        self.states[number] = old.stopped();
+        self.states[number] = old.after_stop();
         old.stop_answer()
     }
 
     /// Makes a mode of the plan active. Reports whether a stop was kept for it. None is kept after.
     pub fn entered(&mut self, mode: ModeId) -> bool
         requires { mode.0 < length self.old.plan.modes }
-        ensures state { self.new ≡ record self.old { modes = slice_set self.old.modes mode.0 (entered (mode_state self.old.modes mode)) } }
-        ensures kept { result ≡ (mode_state self.old.modes mode).kept }
+        ensures state { self.new ≡ record self.old
+            { modes = slice_set self.old.modes mode.0 (entered (mode_state self.old.modes mode)) } }
+        ensures kept { result ≡ (mode_state self.old.modes mode).keeps_stop }
         ensures complete { IsComplete self.new }
     {
         let number = mode.0 as usize;
         let old = self.states[number];
         self.states[number] = ModeState::in_phase(Phase::Active);
-        old.kept
+        old.keeps_stop
     }
 
     /// Makes a mode of the plan idle, with no stop kept.
     pub fn ended(&mut self, mode: ModeId)
         requires { mode.0 < length self.old.plan.modes }
-        ensures state { self.new ≡ record self.old { modes = slice_set self.old.modes mode.0 (ended (mode_state self.old.modes mode)) } }
+        ensures state { self.new ≡ record self.old
+            { modes = slice_set self.old.modes mode.0 (ended (mode_state self.old.modes mode)) } }
         ensures complete { IsComplete self.new }
     {
         self.states[mode.0 as usize] = ModeState::in_phase(Phase::Idle);

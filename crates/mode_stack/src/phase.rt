@@ -1,7 +1,7 @@
 //! One mode.
 
 ghost use Rattle.std.specs.Prelude.{◌≡◌};
-ghost use Rattle.mode_stack.specs.ModeStep.{in_phase, starts, started, stopped, stop_answer};
+ghost use Rattle.mode_stack.specs.ModeStep.{in_phase, starts, after_start, after_stop, stop_answer};
 
 /// How far a mode has come.
 #[derive(Clone, Copy)]
@@ -20,7 +20,7 @@ pub enum Phase {
 #[derive(Clone, Copy)]
 pub struct ModeState {
     pub phase: Phase,
-    pub kept: bool,
+    pub keeps_stop: bool,
 }
 
 /// What a call of `stop` did.
@@ -39,7 +39,10 @@ impl ModeState {
     pub(crate) fn in_phase(phase: Phase) -> ModeState
         ensures { result ≡ in_phase phase }
     {
-        ModeState { phase, kept: false }
+        ModeState {
+            phase,
+            keeps_stop: false,
+        }
     }
 
     /// Whether a mode starts when it is told to. `needs` is whether it starts only in a game, and
@@ -54,8 +57,8 @@ impl ModeState {
     }
 
     /// The state after a mode is told to start.
-    pub(crate) fn started(self, needs: bool, game: bool) -> ModeState
-        ensures { result ≡ started needs game self }
+    pub(crate) fn after_start(self, needs: bool, game: bool) -> ModeState
+        ensures { result ≡ after_start needs game self }
     {
         if self.starts(needs, game) {
             ModeState::in_phase(Phase::Starting)
@@ -65,14 +68,14 @@ impl ModeState {
     }
 
     /// The state after a mode is told to stop.
-    pub(crate) fn stopped(self) -> ModeState
-        ensures { result ≡ stopped self }
+    pub(crate) fn after_stop(self) -> ModeState
+        ensures { result ≡ after_stop self }
     {
         match self.phase {
             Phase::Active => ModeState::in_phase(Phase::Stopping),
             Phase::Starting => ModeState {
                 phase: Phase::Starting,
-                kept: true,
+                keeps_stop: true,
             },
             Phase::Idle | Phase::Stopping => self,
         }

@@ -5,17 +5,19 @@ use Rattle.yaml_subset.specs.Keys.{is_among}
 use Rattle.mpf_sections.specs.{Rows.{Entry, SectionRows}, Typed.entries_in}
 use Rattle.config_faults.specs.declared.fault.ConfigFault.{ConfigFault}
 use Rattle.config_faults.specs.declared.fault.ConfigFault.TheVariants as faults
-use Rattle.mpf_config.specs.{View.FailsRows, Reading.entries_new_at, Inside.or_machine}
+use Rattle.mpf_config.specs.{View.FailsRows, Reading.entries_new_at, CodeViews.or_machine}
 use Rattle.mpf_config.specs.Apart.{EntryName, AreDistinct, entry_names}
 use Rattle.mpf_config.proofs.{NewNames.nothing_in, EntryKeys.new_complete}
 
 -- a section without entries adds none
-pub none_here : {R : Type 0} (s : SectionRows) (ss all : List SectionRows) (view : R → Entry) (rows : List R) → all ≡ s ∷ ss
+pub none_here : {R : Type 0} (s : SectionRows) (ss all : List SectionRows) (view : R → Entry) (rows : List R)
+    → all ≡ s ∷ ss
     → map view rows ≡ entries_in s.content → (length rows == 0) ≡ true → entry_names ss ≡ entry_names all
 none_here s ss all view rows is are empty = search (rules, nil_from_length, eqb-true)
 
 -- the entries of the machine text are new if none is taken, so they fail only if memory runs out
-pub only_memory : (e : ConfigFault) (text : List ℕ) (keys : List (List ℕ)) (es : List EntryName) → keys ≡ [] → AreDistinct es → FailsRows e (entries_new_at text keys es) → e ≡ faults.NoMemory
+pub only_memory : (e : ConfigFault) (text : List ℕ) (keys : List (List ℕ)) (es : List EntryName) → keys ≡ []
+    → AreDistinct es → FailsRows e (entries_new_at text keys es) → e ≡ faults.NoMemory
 only_memory x1 text keys es none distinct h = search (rules, new_complete, nothing_in)
 
 only_right : (a b : Bool) → false ≡ (a || b) → b ≡ (a || b)

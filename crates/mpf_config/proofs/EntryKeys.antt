@@ -1,9 +1,9 @@
 -- Entries of which each is new, by their keys.
-use Rattle.std.proofs.Common.{◌≡◌, ◌≢◌, ℕ, suc, zero, List, [], ◌∷◌, map, Ok, refl, sym, ap, subst, ◌⊎◌, inl, inr, arith}
-use Rattle.std.specs.List.{Contains, flat_map}
+use Rattle.std.proofs.Common.{◌≡◌, ◌≢◌, ℕ, suc, zero, List, [], ◌∷◌, map, Ok, refl, sym, ap, subst, ◌⊎◌, inl, inr}
+use Rattle.std.{proofs.Common.arith, specs.List.{Contains, flat_map}}
 use Rattle.yaml_subset.{specs.Keys.is_among, proofs.KeySets.{fresh_sound, fresh_complete}}
-use Rattle.config_faults.specs.{declared.fault.FaultKind.TheVariants.Duplicate, Faults.rows_fault_at}
-use Rattle.mpf_config.specs.Apart.{EntryName, Differ, AreDistinct, joined, entry_key, entry_keys}
+use Rattle.config_faults.specs.{declared.fault.BundleFaultKind.TheVariants.Duplicate, Faults.rows_fault_at}
+use Rattle.mpf_config.specs.Apart.{EntryName, Differ, AreDistinct, join_texts, entry_key, entry_keys}
 use Rattle.mpf_config.{specs.{ModeReads.ModeRead, Reading.{entries_new_at, taken_by}}, proofs.NewNames.nothing_in}
 use Rattle.yaml_bytes.proofs.{Steps.guard_false, Each.{here, there}}
 use Rattle.std.proofs.lemmas.List.Elements.{Contains-append_cases, Contains-append_left, Contains-append_right}
@@ -18,12 +18,12 @@ abbrev behind_first : List ℕ → List ℕ
 behind_first [] = []
 behind_first (x ∷ xs) = xs
 
-joined_same : (s t n m : List ℕ) → joined s n ≡ joined t m → (s ≡ t) × (n ≡ m)
+joined_same : (s t n m : List ℕ) → join_texts s n ≡ join_texts t m → (s ≡ t) × (n ≡ m)
 joined_same [] [] n m e = (refl, ap behind_first e)
 joined_same [] (c ∷ t) n m e = let no : 0 ≡ 1 = ap first_of e in absurd (omega (arith, no))
 joined_same (b ∷ s) [] n m e = let no : 1 ≡ 0 = ap first_of e in absurd (omega (arith, no))
 joined_same (b ∷ s) (c ∷ t) n m e =
-    let rest : b ∷ joined s n ≡ c ∷ joined t m = ap behind_first e in
+    let rest : b ∷ join_texts s n ≡ c ∷ join_texts t m = ap behind_first e in
     let first : b ≡ c = ap first_of rest in
     let a = joined_same s t n m (ap behind_first rest) in
     (λ i. first i ∷ a.0 i, a.1)
@@ -33,7 +33,7 @@ pub not_same : (e f : EntryName) → Differ e f → entry_key e ≢ entry_key f
 not_same e f differ same = let a = joined_same e.section f.section e.name.text f.name.text same in differ a.0 a.1
 
 pub differ_by : (e f : EntryName) → entry_key e ≢ entry_key f → Differ e f
-differ_by e f other section name = other (λ i. joined (section i) (name i))
+differ_by e f other section name = other (λ i. join_texts (section i) (name i))
 
 -- ---- what lists contain
 
@@ -48,13 +48,17 @@ module _ {A B : Type 0} (f : A → List B) where
 
   in_all : (xs : List A) (x : A) (z : B) → Contains xs x → Contains (f x) z → Contains (flat_map f xs) z
   in_all [] x z c h = absurd (nothing_in x c)
-  in_all (y ∷ xs) x z (zero, lt, at) h = Contains-append_left (f y) (flat_map f xs) z (subst (λ w. Contains (f w) z) (sym at) h)
-  in_all (y ∷ xs) x z (suc k, lt, at) h = Contains-append_right (f y) (flat_map f xs) z (in_all xs x z (k, omega (arith, lt), at) h)
+  in_all (y ∷ xs) x z (zero, lt, at) h = Contains-append_left (f y) (flat_map f xs) z
+      (subst (λ w. Contains (f w) z) (sym at) h)
+  in_all (y ∷ xs) x z (suc k, lt, at) h = Contains-append_right (f y) (flat_map f xs) z
+      (in_all xs x z (k, omega (arith, lt), at) h)
 
-pub in_mapped : {A B : Type 0} (f : A → B) (xs : List A) (y : B) → Contains (map f xs) y → (x : A) × Contains xs x × (f x ≡ y)
+pub in_mapped : {A B : Type 0} (f : A → B) (xs : List A) (y : B) → Contains (map f xs) y
+    → (x : A) × Contains xs x × (f x ≡ y)
 in_mapped f [] y c = absurd (nothing_in y c)
 in_mapped f (x ∷ xs) y (zero, lt, at) = (x, here x xs, at)
-in_mapped f (x ∷ xs) y (suc k, lt, at) = let a = in_mapped f xs y (k, omega (arith, lt), at) in (a.0, there x a.0 xs a.1, a.2)
+in_mapped f (x ∷ xs) y (suc k, lt, at) = let a = in_mapped f xs y (k, omega (arith, lt), at)
+    in (a.0, there x a.0 xs a.1, a.2)
 
 -- ---- keys that are taken
 
@@ -70,10 +74,12 @@ taken_one machine modes k c =
       | inr h ↦ inr (in_one keys_of modes k h)
     ]
 
-pub by_machine : (machine : List (List ℕ)) (modes : List ModeRead) (k : List ℕ) → Contains machine k → Contains (taken_by machine modes) k
+pub by_machine : (machine : List (List ℕ)) (modes : List ModeRead) (k : List ℕ) → Contains machine k
+    → Contains (taken_by machine modes) k
 by_machine machine modes k c = Contains-append_left machine (flat_map keys_of modes) k c
 
-pub by_mode : (machine : List (List ℕ)) (modes : List ModeRead) (m : ModeRead) (k : List ℕ) → Contains modes m → Contains (entry_keys m.mode.sections) k
+pub by_mode : (machine : List (List ℕ)) (modes : List ModeRead) (m : ModeRead) (k : List ℕ) → Contains modes m
+    → Contains (entry_keys m.mode.sections) k
     → Contains (taken_by machine modes) k
 by_mode machine modes m k c h = Contains-append_right machine (flat_map keys_of modes) k (in_all keys_of modes m k c h)
 
@@ -83,11 +89,15 @@ by_mode machine modes m k c h = Contains-append_right machine (flat_map keys_of 
 abbrev pub AreFresh : List (List ℕ) → List EntryName → Type 0
 AreFresh keys es = (e : EntryName) → Contains es e → Contains keys (entry_key e) → ⊥
 
-fresh_all : (keys : List (List ℕ)) (e : EntryName) (es : List EntryName) → (Contains keys (entry_key e) → ⊥) → AreFresh (entry_key e ∷ keys) es → AreFresh keys (e ∷ es)
-fresh_all keys e es fresh rest f (zero, lt, at) old = fresh (subst (λ (x : EntryName). Contains keys (entry_key x)) (sym at) old)
-fresh_all keys e es fresh rest f (suc k, lt, at) old = rest f (k, omega (arith, lt), at) (there (entry_key e) (entry_key f) keys old)
+fresh_all : (keys : List (List ℕ)) (e : EntryName) (es : List EntryName) → (Contains keys (entry_key e) → ⊥)
+    → AreFresh (entry_key e ∷ keys) es → AreFresh keys (e ∷ es)
+fresh_all keys e es fresh rest f (zero, lt, at) old =
+    fresh (subst (λ (x : EntryName). Contains keys (entry_key x)) (sym at) old)
+fresh_all keys e es fresh rest f (suc k, lt, at) old =
+    rest f (k, omega (arith, lt), at) (there (entry_key e) (entry_key f) keys old)
 
-pub new_sound : (text : List ℕ) (keys : List (List ℕ)) (es : List EntryName) (u : Unit {0}) → entries_new_at text keys es ≡ Ok u → AreDistinct es × AreFresh keys es
+pub new_sound : (text : List ℕ) (keys : List (List ℕ)) (es : List EntryName) (u : Unit {0})
+    → entries_new_at text keys es ≡ Ok u → AreDistinct es × AreFresh keys es
 new_sound text keys [] u h = (tt, λ e c old. nothing_in e c)
 new_sound text keys (e ∷ es) u h =
     let fault = rows_fault_at Duplicate (record { text = text; line = e.name.line; key = e.name.text }) in
@@ -97,12 +107,15 @@ new_sound text keys (e ∷ es) u h =
     λ f c. differ_by e f (λ same. rest.1 f c (subst (Contains (entry_key e ∷ keys)) same (here (entry_key e) keys))) in
     ((others, rest.0), fresh_all keys e es (fresh_sound keys (entry_key e) a.0) rest.1)
 
-still_fresh : (keys : List (List ℕ)) (e : EntryName) (es : List EntryName) → ((f : EntryName) → Contains es f → Differ e f) → AreFresh keys es → AreFresh (entry_key e ∷ keys) es
+still_fresh : (keys : List (List ℕ)) (e : EntryName) (es : List EntryName)
+    → ((f : EntryName) → Contains es f → Differ e f) → AreFresh keys es → AreFresh (entry_key e ∷ keys) es
 still_fresh keys e es differ new f c (zero, lt, at) = not_same e f (differ f c) at
 still_fresh keys e es differ new f c (suc k, lt, at) = new f c (k, omega (arith, lt), at)
 
-pub new_complete : (text : List ℕ) (keys : List (List ℕ)) (es : List EntryName) → AreDistinct es → AreFresh keys es → entries_new_at text keys es ≡ Ok tt
+pub new_complete : (text : List ℕ) (keys : List (List ℕ)) (es : List EntryName) → AreDistinct es → AreFresh keys es
+    → entries_new_at text keys es ≡ Ok tt
 new_complete text keys [] distinct new = refl
 new_complete text keys (e ∷ es) distinct new =
     let behind : AreFresh keys es = λ f c. new f (there e f es c) in
-    rw (fresh_complete keys (entry_key e) (new e (here e es))) (new_complete text (entry_key e ∷ keys) es distinct.1 (still_fresh keys e es distinct.0 behind))
+    rw (fresh_complete keys (entry_key e) (new e (here e es)))
+    (new_complete text (entry_key e ∷ keys) es distinct.1 (still_fresh keys e es distinct.0 behind))

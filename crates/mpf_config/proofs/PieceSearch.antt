@@ -1,6 +1,6 @@
 -- A piece of a bundle ends before the first `@` after a line end.
-use Rattle.std.proofs.Common.{rules, ◌≡◌, ℕ, zero, suc, ◌+◌, ◌<◌, false, List, [], ◌∷◌, length, Some, None, refl, ap, ◌∙◌, arith}
-use Rattle.std.proofs.lemmas.Bool.{eq-eqb}
+use Rattle.std.proofs.Common.{rules, ◌≡◌, ℕ, zero, suc, ◌+◌, ◌<◌, false, List, [], ◌∷◌, length, Some, None, refl, ap}
+use Rattle.std.proofs.{Common.{◌∙◌, arith}, lemmas.Bool.eq-eqb}
 use Rattle.memchr.specs.Find.{OccursAt, FindsNeedle}
 use Rattle.mpf_config.specs.BundleText.{piece_len}
 
@@ -20,11 +20,14 @@ goes_on : (b : ℕ) (bs : List ℕ) → ¬ (OccursAt (b ∷ bs) line_at 0) → p
 goes_on b [] not_here = refl
 goes_on b (c ∷ cs) not_here = search rules
 
-pub whole : (text : List ℕ) → ((k : ℕ) → k < length text + 1 → ¬ (OccursAt text line_at k)) → piece_len false text ≡ length text
+pub whole : (text : List ℕ) → ((k : ℕ) → k < length text + 1 → ¬ (OccursAt text line_at k))
+    → piece_len false text ≡ length text
 whole [] nowhere = refl
-whole (b ∷ bs) nowhere = goes_on b bs (nowhere 0 (omega arith)) ∙ ap suc (whole bs (λ k l at. nowhere (suc k) (omega (arith, l)) (later b bs k at)))
+whole (b ∷ bs) nowhere = goes_on b bs (nowhere 0 (omega arith))
+    ∙ ap suc (whole bs (λ k l at. nowhere (suc k) (omega (arith, l)) (later b bs k at)))
 
-pub up_to : (text : List ℕ) (k : ℕ) → OccursAt text line_at k → ((j : ℕ) → j < k → ¬ (OccursAt text line_at j)) → piece_len false text ≡ k + 1
+pub up_to : (text : List ℕ) (k : ℕ) → OccursAt text line_at k → ((j : ℕ) → j < k → ¬ (OccursAt text line_at j))
+    → piece_len false text ≡ k + 1
 up_to [] k at before = let fits = at.fits in absurd (omega (arith, fits))
 up_to (b ∷ []) k at before = let fits = at.fits in absurd (omega (arith, fits))
 up_to (b ∷ c ∷ cs) zero at before =

@@ -5,9 +5,9 @@ use Rattle.std.specs.{List.{All, AllZip, cons_option, filter_map}, Str.bytes_eq}
 use Rattle.std.proofs.lemmas.{List.Elements.{All-nil, All-map}, Slice.Zip.AllZip-long, Bool.and_parts}
 use Rattle.yaml_bytes.proofs.Words.{word_is}
 use Rattle.yaml_subset.specs.Node.{Node, Pair}
-use Rattle.setting_values.specs.{Values.{Written, Plain, name, Fields, Value}, ValueOf.{IsField, pass, AreFields}}
-use Rattle.setting_values.specs.Kinds.{Field, a_name, between, fits, required, named_maps}
-use Rattle.setting_values.specs.KeyRules.{field_key, field_default, field_lacks}
+use Rattle.setting_values.specs.Values.{WrittenName, Plain, name, Fields, Value}
+use Rattle.setting_values.specs.{ValueOf.{IsField, pass, AreFields}, KeyRules.{field_key, field_default, field_lacks}}
+use Rattle.setting_values.specs.Kinds.{Field, a_name, between, fits, mandatory, named_maps}
 use Rattle.section_tables.specs.{Rows.Entry, Shapes.{Setting, by_entries}, Keys.is_ignored}
 use Rattle.section_tables.specs.Tables.{setting_key, setting_default, setting_lacks}
 use Rattle.section_tables.specs.EntryOf.{IsSetting, IsEntry, IsOtherEntry}
@@ -16,8 +16,8 @@ use Rattle.mpf_tables.specs.SectionTables.{profile_state, shot_profiles, shot_pr
 use Rattle.mpf_sections.specs.Rows.{Content, entries, SectionRows}
 use Rattle.mpf_sections.specs.Typed.{name_in, listed_maps, entries_in, listed_modes}
 use Rattle.mpf_sections.specs.TypedShots.{few, state_of, shot_profile_of, shot_profiles_in}
-use Rattle.mpf_config.specs.{Rows.Rows, BundleText.Text, Unread.{read_of, present_of}}
-use Rattle.mpf_config.specs.{Reading.rows_at, ModeReads.ModeRead}
+use Rattle.mpf_config.specs.{Rows.Rows, Unread.{read_of, present_of}, Reading.rows_at}
+use Rattle.mpf_config.specs.{BundleText.NamedText, ModeReads.ModeRead}
 use Rattle.mpf_config.specs.States.{HasState, HasStatesSection, HasStatesMode, HaveStates}
 use Rattle.mpf_config.specs.RowsOf.{Sizes, within_limits, IsContent, IsSection, IsModeRead}
 use Rattle.mpf_config.proofs.{FirstSettings.{First, first_written}, Theorem.rows_sound, Each.All-from_zip}
@@ -25,23 +25,25 @@ use Rattle.mpf_config.proofs.{FirstSettings.{First, first_written}, Theorem.rows
 -- ---- states
 
 abbrev IsSomeName : Plain → Type 0
-IsSomeName v = (w : Written) × (v ≡ name w)
+IsSomeName v = (w : WrittenName) × (v ≡ name w)
 
-first_name : (row : List Plain) → First IsSomeName row → (w : Written) × (name_in (slice_get row 0) ≡ Some w)
+first_name : (row : List Plain) → First IsSomeName row → (w : WrittenName) × (name_in (slice_get row 0) ≡ Some w)
 first_name [] first = absurd first
 first_name (v ∷ vs) first = (first.0, rw first.1 refl)
 
 abbrev state_name : Field
-state_name = record { key = codes "name"; kind = a_name; absent = required }
+state_name = record { key = codes "name"; kind = a_name; absent = mandatory }
 
 -- the name of a state is required
-state_named : (node : Node) (m : Fields) → AreFields profile_state true node m → (w : Written) × (state_of m ≡ Some w)
+state_named : (node : Node) (m : Fields) → AreFields profile_state true node m
+    → (w : WrittenName) × (state_of m ≡ Some w)
 unfolding state_of
 state_named node m h =
     let in_rows = first_written field_key IsField (pass true) field_default field_lacks state_name [] IsSomeName in
     first_name m.values (in_rows (λ n v is. (_, is.2.1)) refl node m.values h.row)
 
-one_or_more : (o : Option Written) (ws : List Written) (w : Written) → o ≡ Some w → 1 ≤ length (cons_option o ws)
+one_or_more : (o : Option WrittenName) (ws : List WrittenName) (w : WrittenName) → o ≡ Some w
+    → 1 ≤ length (cons_option o ws)
 one_or_more o ws w is = rw is (omega arith)
 
 -- of 1 to 16 states the first is one
@@ -71,7 +73,7 @@ first_states [] first = absurd first
 first_states (v ∷ vs) first = first
 
 abbrev states : Setting
-states = record { key = codes "states"; kind = named_maps profile_state true (between 1 16); absent = required }
+states = record { key = codes "states"; kind = named_maps profile_state true (between 1 16); absent = mandatory }
 
 module _ (longest : ℕ) where
   -- the states of a profile are required
@@ -117,7 +119,7 @@ module _ (sizes : Sizes) (kind : TextKind) where
 
 -- ---- the rows
 
-mode_has_states : (texts : List Text) (w : Written) (m : ModeRead) → IsModeRead within_limits texts w m
+mode_has_states : (texts : List NamedText) (w : WrittenName) (m : ModeRead) → IsModeRead within_limits texts w m
     → HasStatesMode m.mode
 mode_has_states texts w m h = sections_have_states within_limits Mode (read_of h.sections) m.mode.sections h.rows.each
 

@@ -1,10 +1,10 @@
 -- How a bundle holds texts, and how a text begins.
-use Rattle.std.specs.Prelude.{ℕ, suc, ◌+◌, Bool, true, false, ◌&&◌, ◌==◌, if◌then◌else◌, List, [], ◌∷◌, ◌++◌, Option, Some, None, unwrap_or, codes}
-use Rattle.std.specs.{List.count_by, Str.bytes_eq}
-use Rattle.yaml_bytes.specs.{Bytes.is_blank, Lines.cut_line, Scanning.{behind_blanks, trimmed}}
+use Rattle.std.specs.Prelude.{ℕ, suc, ◌+◌, Bool, true, false, ◌&&◌, ◌==◌, if◌then◌else◌, List, [], ◌∷◌, ◌++◌, Option}
+use Rattle.std.specs.{Prelude.{Some, None, unwrap_or, codes}, List.count_by, Str.bytes_eq}
+use Rattle.yaml_bytes.specs.{Bytes.is_blank, Lines.cut_line, Scanning.{behind_blanks, trim_blanks}}
 
 -- a text, and the name in the line `@ NAME` in front of it
-pub record Text : Type 0 where
+pub record NamedText : Type 0 where
   pub name : List ℕ
   pub text : List ℕ
 
@@ -35,7 +35,7 @@ behind_first_line text = unwrap_or (cut_line text).1 []
 abbrev pub name_in : List ℕ → Option (List ℕ)
 name_in [] = None
 name_in (a ∷ []) = None
-name_in (a ∷ b ∷ rest) = if (a == 64) && is_blank b then Some (trimmed (behind_blanks rest)) else None
+name_in (a ∷ b ∷ rest) = if (a == 64) && is_blank b then Some (trim_blanks (behind_blanks rest)) else None
 
 -- ---- pieces of a bundle: each a line that begins with `@`, and what stands behind it up to the next
 
@@ -69,12 +69,12 @@ abbrev pub line_ends : List ℕ → ℕ
 line_ends piece = count_by (λ b. b == 10) piece
 
 -- each piece with the number of its first line, counted from this one
-abbrev pub numbered : ℕ → List (List ℕ) → List (ℕ × List ℕ)
-numbered line [] = []
-numbered line (piece ∷ pieces) = (line, piece) ∷ numbered (line + line_ends piece) pieces
+abbrev pub number_lines : ℕ → List (List ℕ) → List (ℕ × List ℕ)
+number_lines line [] = []
+number_lines line (piece ∷ pieces) = (line, piece) ∷ number_lines (line + line_ends piece) pieces
 
 -- ---- the version
 
 -- whether a text begins with the line of the version that is read
 abbrev pub has_version : List ℕ → Bool
-has_version text = bytes_eq (trimmed (first_line text)) version_line
+has_version text = bytes_eq (trim_blanks (first_line text)) version_line

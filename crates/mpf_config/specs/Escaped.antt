@@ -13,5 +13,5 @@ hex_digit n = if nat_lt n 10 then 48 + n else 87 + n
 abbrev pub escaped_byte : ℕ → List ℕ
 escaped_byte b = if is_control b then 92 ∷ 120 ∷ hex_digit (b / 16) ∷ hex_digit (b % 16) ∷ [] else b ∷ []
 
-unfoldable pub escaped : List ℕ → List ℕ
-escaped text = flat_map escaped_byte text
+unfoldable pub escape_bytes : List ℕ → List ℕ
+escape_bytes text = flat_map escaped_byte text

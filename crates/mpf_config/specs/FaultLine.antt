@@ -1,12 +1,12 @@
 -- The line that a fault is printed as.
 use Rattle.std.specs.{Prelude.{ℕ, List, [], ◌∷◌, ◌++◌, codes}, Fmt.decimal}
-use Rattle.yaml_subset.specs.declared.fault.FaultKind as yaml
-use Rattle.yaml_subset.specs.declared.fault.FaultKind.TheVariants as yaml_kinds
+use Rattle.yaml_subset.specs.declared.fault.TextFaultKind as yaml
+use Rattle.yaml_subset.specs.declared.fault.TextFaultKind.TheVariants as yaml_kinds
 use Rattle.config_faults.specs.FaultNames.{number_of, kind_name}
-use Rattle.mpf_config.specs.{Rows.RowsFault, Escaped.escaped}
+use Rattle.mpf_config.specs.{Rows.RowsFault, Escaped.escape_bytes}
 
 -- the name of a kind of the YAML reader, which is the key of such a fault
-abbrev pub yaml_kind_name : yaml.FaultKind → List ℕ
+abbrev pub yaml_kind_name : yaml.TextFaultKind → List ℕ
 yaml_kind_name yaml_kinds.NotUtf8 = codes "NotUtf8"
 yaml_kind_name yaml_kinds.Tab = codes "Tab"
 yaml_kind_name yaml_kinds.Indent = codes "Indent"
@@ -18,11 +18,11 @@ yaml_kind_name yaml_kinds.TooDeep = codes "TooDeep"
 yaml_kind_name yaml_kinds.TooLong = codes "TooLong"
 
 -- a word, and the space in front of it
-abbrev pub spaced : List ℕ → List ℕ
-spaced word = 32 ∷ word
+abbrev pub with_blank : List ℕ → List ℕ
+with_blank word = 32 ∷ word
 
 -- `error NUMBER NAME TEXT LINE KEY`, and LF; no text or key makes a line of its own
 abbrev pub fault_line : RowsFault → List ℕ
 fault_line f =
-    codes "error" ++ spaced (decimal (number_of f.kind)) ++ spaced (kind_name f.kind)
-    ++ spaced (escaped f.text) ++ spaced (decimal f.line) ++ spaced (escaped f.key) ++ 10 ∷ []
+    codes "error" ++ with_blank (decimal (number_of f.kind)) ++ with_blank (kind_name f.kind)
+    ++ with_blank (escape_bytes f.text) ++ with_blank (decimal f.line) ++ with_blank (escape_bytes f.key) ++ 10 ∷ []

@@ -14,18 +14,22 @@ use Rattle.section_tables.specs.TableView.{shape_view}
 use Rattle.setting_values.specs.View.{names_view, pairs_view, pairs_in_view, found_view}
 use Rattle.mpf_sections.specs.declared.section.Content as contents
 use Rattle.mpf_sections.specs.{declared.section.Section.Section, View.{content_view, section_view}}
-use Rattle.mpf_sections.specs.Rows.{Written, Content, SectionRows}
+use Rattle.mpf_sections.specs.Rows.{WrittenName, Content, SectionRows}
 use Rattle.mpf_config.specs.declared.config.Note as notes
 use Rattle.mpf_config.specs.declared.{config.{ModeText.ModeText, Config.Config}, listed_mode.ListedMode.ListedMode}
-use Rattle.mpf_config.specs.declared.texts.Text as texts
+use Rattle.mpf_config.specs.declared.texts.NamedText as texts
 use Rattle.mpf_config.specs.declared.bundle.MachineRead as machines
 use Rattle.mpf_config.specs.declared.modes.ModeRead as modes
-use Rattle.mpf_config.specs.{Rows.{Note, Rows, RowsFault}, BundleText.Text, ModeReads.{MachineRead, ModeRead}}
-use Rattle.mpf_config.specs.Unread.{absent_of, mode_text_of, skipped_note, absent_note, unlisted_note, machine_notes, mode_notes, unlisted_notes}
+use Rattle.mpf_config.specs.{Rows.{Note, Rows, RowsFault}, ModeReads.{MachineRead, ModeRead}}
+use Rattle.mpf_config.specs.{BundleText.NamedText, Unread.{mode_notes, unlisted_notes}, CodeViews.placed_keys}
+use Rattle.mpf_config.specs.Unread.{absent_of, mode_text_of, skipped_note, absent_note, unlisted_note, machine_notes}
 use Rattle.mpf_config.specs.Apart.{EntryName, AreDistinct, entries_named, entry_names, entry_keys}
-use Rattle.mpf_config.specs.Reading.{modes_new_at, modes_at, content_at, section_at, sections_in, sections_at, machine_at, machine_read_at, mode_read_at, entries_new_at, new_mode_at, placed_at, found_of, modes_from, none_found, modes_in_texts}
+use Rattle.mpf_config.specs.Reading.{modes_new_at, modes_at, content_at, section_at, sections_in, sections_at}
+use Rattle.mpf_config.specs.Reading.{machine_at, machine_read_at, mode_read_at, entries_new_at, new_mode_at, placed_at}
+use Rattle.mpf_config.specs.Reading.{found_of, modes_from, none_found, modes_in_texts}
 use Rattle.mpf_config.specs.View.{name_view, mode_view, note_view, rows_view, GivesRows}
-use Rattle.mpf_config.specs.Inside.{bytes_view, text_view, texts_view, notes_view, names_only_view, sections_view, modes_view, machine_read_view, mode_read_view, found_modes_view, or_machine, placed_keys}
+use Rattle.mpf_config.specs.CodeViews.{bytes_view, text_view, texts_view, notes_view, names_only_view, sections_view}
+use Rattle.mpf_config.specs.CodeViews.{modes_view, machine_read_view, mode_read_view, found_modes_view, or_machine}
 
 -- ---- sections
 
@@ -42,7 +46,7 @@ abbrev pub GivesPairs : Result MapPairs ConfigFault → Result (List Pair) RowsF
 GivesPairs result read = GivesRows pairs_in_view result read
 
 -- it gives these names
-abbrev pub GivesNames : Result (Vec Name) ConfigFault → Result (List Written) RowsFault → Type 0
+abbrev pub GivesNames : Result (Vec Name) ConfigFault → Result (List WrittenName) RowsFault → Type 0
 GivesNames result read = GivesRows names_view result read
 
 -- it gives this, which stands in a section
@@ -66,7 +70,7 @@ abbrev pub modes_all_new : spots.Spot → List Name → Result (Unit {0}) RowsFa
 modes_all_new spot names = modes_new_at (spot_view spot) [] (map name_view names)
 
 -- the modes that an entry of a text lists
-abbrev pub modes_of_entry : List ℕ → (Key × Tree) → Result (List Written) RowsFault
+abbrev pub modes_of_entry : List ℕ → (Key × Tree) → Result (List WrittenName) RowsFault
 modes_of_entry text entry = modes_at text (pair_view entry)
 
 -- what stands in an entry of a text, as a section of this shape
@@ -97,15 +101,16 @@ keys_of_sections sections = entry_keys (map section_view sections)
 
 -- whether a key is not among those of a set
 abbrev pub is_new_key : {S : Type 0} → HashSet (CowSlice ℕ Global) S → List ℕ → Bool
-is_new_key taken key = not (is_among (copies_view taken) key)
+is_new_key known_keys key = not (is_among (copies_view known_keys) key)
 
 -- a key is in the set that is one of these, or that was in it
 abbrev pub TakesKeys : {S : Type 0} → (old new : HashSet (CowSlice ℕ Global) S) → (is_one : List ℕ → Bool) → Type 0
 TakesKeys old new is_one = (q : List ℕ) → is_among (copies_view new) q ≡ (is_one q || is_among (copies_view old) q)
 
 -- none of these entries is taken, and none is the same as an earlier one
-abbrev pub entries_all_new : {S : Type 0} → List ℕ → HashSet (CowSlice ℕ Global) S → List EntryName → Result (Unit {0}) RowsFault
-entries_all_new text taken entries = entries_new_at text (copies_view taken) entries
+abbrev pub entries_all_new : {S : Type 0} → List ℕ → HashSet (CowSlice ℕ Global) S → List EntryName
+    → Result (Unit {0}) RowsFault
+entries_all_new text known_keys entries = entries_new_at text (copies_view known_keys) entries
 
 -- no two entries of these sections are the same
 abbrev pub AreEntriesDistinct : List Section → Type 0
@@ -113,19 +118,23 @@ AreEntriesDistinct sections = AreDistinct (entries_of_sections sections)
 
 -- the keys that are taken beside a machine text of these sections
 abbrev pub keys_taken : {S : Type 0} → List Section → HashSet (CowSlice ℕ Global) S → List (List ℕ)
-keys_taken machine taken = or_machine (keys_of_sections machine) (copies_view taken)
+keys_taken machine known_keys = or_machine (keys_of_sections machine) (copies_view known_keys)
 
 -- a set has these keys, in any order
 abbrev pub AreTaken : {S : Type 0} → HashSet (CowSlice ℕ Global) S → List (List ℕ) → Type 0
-AreTaken taken keys = (q : List ℕ) → is_among (copies_view taken) q ≡ is_among keys q
+AreTaken known_keys keys = (q : List ℕ) → is_among (copies_view known_keys) q ≡ is_among keys q
 
 -- a key is taken that is one of these, or that was taken
-abbrev pub GainsKeys : {S : Type 0} → List Section → (old new : HashSet (CowSlice ℕ Global) S) → (is_one : List ℕ → Bool) → Type 0
-GainsKeys machine old new is_one = (q : List ℕ) → is_among (keys_taken machine new) q ≡ (is_one q || is_among (keys_taken machine old) q)
+abbrev pub GainsKeys : {S : Type 0} → List Section → (old new : HashSet (CowSlice ℕ Global) S)
+    → (is_one : List ℕ → Bool) → Type 0
+GainsKeys machine old new is_one = (q : List ℕ)
+    → is_among (keys_taken machine new) q ≡ (is_one q || is_among (keys_taken machine old) q)
 
 -- none of the entries of these sections is taken beside the machine text, and none is the same as an earlier one
-abbrev pub entries_new_beside : {S : Type 0} → List ℕ → List Section → HashSet (CowSlice ℕ Global) S → List Section → Result (Unit {0}) RowsFault
-entries_new_beside text machine taken sections = entries_new_at text (keys_taken machine taken) (entries_of_sections sections)
+abbrev pub entries_new_beside : {S : Type 0} → List ℕ → List Section → HashSet (CowSlice ℕ Global) S → List Section
+    → Result (Unit {0}) RowsFault
+entries_new_beside text machine known_keys sections =
+    entries_new_at text (keys_taken machine known_keys) (entries_of_sections sections)
 
 -- ---- modes
 
@@ -135,59 +144,71 @@ AreListed names modes = modes_view modes ≡ map name_view names
 
 -- the mode whose text has this name, with its place, if there is one
 abbrev pub IsModeOfText : List ListedMode → List ℕ → Option (ℕ × Bor Name) → Type 0
-IsModeOfText modes text found = found_view name_view found ≡ found_in mode_text_of text (modes_view modes)
+IsModeOfText modes text mode_text = found_view name_view mode_text ≡ found_in mode_text_of text (modes_view modes)
 
 -- it gives this mode, with the notes on its text
 abbrev pub GivesMode : Result modes.ModeRead ConfigFault → Result ModeRead RowsFault → Type 0
 GivesMode result read = GivesRows mode_read_view result read
 
 -- it gives for each listed mode that, or none
-abbrev pub GivesModes : Result (Vec (Option modes.ModeRead)) ConfigFault → Result (List (Option ModeRead)) RowsFault → Type 0
-GivesModes result read = GivesRows (λ found. found_modes_view found.items) result read
+abbrev pub GivesModes : Result (Vec (Option modes.ModeRead)) ConfigFault → Result (List (Option ModeRead)) RowsFault
+    → Type 0
+GivesModes result read = GivesRows (λ mode_text. found_modes_view mode_text.items) result read
 
 -- it leaves that here, at the places of the listed modes
-abbrev pub LeavesModes : List (Option modes.ModeRead) → Result (Unit {0}) ConfigFault → Result (List (Option ModeRead)) RowsFault → Type 0
-LeavesModes found result read = GivesRows (λ _. found_modes_view found) result read
+abbrev pub LeavesModes : List (Option modes.ModeRead) → Result (Unit {0}) ConfigFault
+    → Result (List (Option ModeRead)) RowsFault → Type 0
+LeavesModes mode_text result read = GivesRows (λ _. found_modes_view mode_text) result read
 
 -- the mode of this name by its text
-abbrev pub mode_of_text : Name → texts.Text → Result ModeRead RowsFault
+abbrev pub mode_of_text : Name → texts.NamedText → Result ModeRead RowsFault
 mode_of_text name text = mode_read_at (name_view name) (text_view text)
 
 -- the mode of this name by its text, if none of its entries is taken
-abbrev pub new_mode_of_text : {S : Type 0} → List Section → HashSet (CowSlice ℕ Global) S → Name → texts.Text → Result ModeRead RowsFault
-new_mode_of_text machine taken name text = new_mode_at (keys_taken machine taken) (name_view name) (text_view text)
+abbrev pub new_mode_of_text : {S : Type 0} → List Section → HashSet (CowSlice ℕ Global) S → Name → texts.NamedText
+    → Result ModeRead RowsFault
+new_mode_of_text machine known_keys name text =
+    new_mode_at (keys_taken machine known_keys) (name_view name) (text_view text)
 
 -- the keys of the entries of a mode
 abbrev pub keys_of_mode : modes.ModeRead → List (List ℕ)
 keys_of_mode read = entry_keys (mode_read_view read).mode.sections
 
 -- what is found, with the mode of this text at its place
-abbrev pub with_mode_of_text : {S : Type 0} → List Section → HashSet (CowSlice ℕ Global) S → List ListedMode → List (Option modes.ModeRead) → texts.Text → Result (List (Option ModeRead)) RowsFault
-with_mode_of_text machine taken modes found text = placed_at (text_view text) (keys_taken machine taken) (found_modes_view found) (found_in mode_text_of text.name.now (modes_view modes))
+abbrev pub with_mode_of_text : {S : Type 0} → List Section → HashSet (CowSlice ℕ Global) S → List ListedMode
+    → List (Option modes.ModeRead) → texts.NamedText → Result (List (Option ModeRead)) RowsFault
+with_mode_of_text machine known_keys modes mode_text text =
+    placed_at (text_view text) (keys_taken machine known_keys) (found_modes_view mode_text)
+    (found_in mode_text_of text.name.now (modes_view modes))
 
 -- the keys of the entries of the mode that is found at the place of this text
-abbrev pub keys_at_text : List ListedMode → List (Option modes.ModeRead) → texts.Text → List (List ℕ)
-keys_at_text modes found text = placed_keys (found_modes_view found) (found_in mode_text_of text.name.now (modes_view modes))
+abbrev pub keys_at_text : List ListedMode → List (Option modes.ModeRead) → texts.NamedText → List (List ℕ)
+keys_at_text modes mode_text text = placed_keys (found_modes_view mode_text)
+    (found_in mode_text_of text.name.now (modes_view modes))
 
 -- none is found of these modes
 abbrev pub IsNoneFound : List ListedMode → List (Option modes.ModeRead) → Type 0
-IsNoneFound modes found = found_modes_view found ≡ none_found (modes_view modes)
+IsNoneFound modes mode_text = found_modes_view mode_text ≡ none_found (modes_view modes)
 
 -- what is found, with the modes of these texts at their places
-abbrev pub with_modes_of_texts : {S : Type 0} → List Section → HashSet (CowSlice ℕ Global) S → List ListedMode → List (Option modes.ModeRead) → List texts.Text → Result (List (Option ModeRead)) RowsFault
-with_modes_of_texts machine taken modes found texts = modes_from (keys_taken machine taken) (modes_view modes) [] (found_modes_view found) (texts_view texts)
+abbrev pub with_modes_of_texts : {S : Type 0} → List Section → HashSet (CowSlice ℕ Global) S → List ListedMode
+    → List (Option modes.ModeRead) → List texts.NamedText → Result (List (Option ModeRead)) RowsFault
+with_modes_of_texts machine known_keys modes mode_text texts =
+    modes_from (keys_taken machine known_keys) (modes_view modes) [] (found_modes_view mode_text) (texts_view texts)
 
 -- the modes of these texts at their places
-abbrev pub modes_of_texts : {S : Type 0} → List Section → HashSet (CowSlice ℕ Global) S → List ListedMode → List texts.Text → Result (List (Option ModeRead)) RowsFault
-modes_of_texts machine taken modes texts = modes_from (keys_taken machine taken) (modes_view modes) [] (none_found (modes_view modes)) (texts_view texts)
+abbrev pub modes_of_texts : {S : Type 0} → List Section → HashSet (CowSlice ℕ Global) S → List ListedMode
+    → List texts.NamedText → Result (List (Option ModeRead)) RowsFault
+modes_of_texts machine known_keys modes texts =
+    modes_from (keys_taken machine known_keys) (modes_view modes) [] (none_found (modes_view modes)) (texts_view texts)
 
 -- the modes that were found
 abbrev pub AreModesFound : List (Option modes.ModeRead) → List ModeText → Type 0
-AreModesFound found modes = map mode_view modes ≡ map (λ m. m.mode) (found_of (found_modes_view found))
+AreModesFound mode_text modes = map mode_view modes ≡ map (λ m. m.mode) (found_of (found_modes_view mode_text))
 
 -- the notes on the texts of the modes that were found
 abbrev pub notes_found : List (Option modes.ModeRead) → List Note
-notes_found found = flat_map (λ m. m.notes) (found_of (found_modes_view found))
+notes_found mode_text = flat_map (λ m. m.notes) (found_of (found_modes_view mode_text))
 
 -- ---- notes
 
@@ -204,20 +225,21 @@ abbrev pub IsAbsentNote : Name → notes.Note → Type 0
 IsAbsentNote mode note = note_view note ≡ absent_note (name_view mode)
 
 -- the note on an unlisted text
-abbrev pub IsUnlistedNote : texts.Text → notes.Note → Type 0
+abbrev pub IsUnlistedNote : texts.NamedText → notes.Note → Type 0
 IsUnlistedNote text note = note_view note ≡ unlisted_note (text_view text)
 
 -- the notes on the listed modes that have no text
-abbrev pub notes_on_absent : List texts.Text → List ListedMode → List Note
+abbrev pub notes_on_absent : List texts.NamedText → List ListedMode → List Note
 notes_on_absent texts modes = map absent_note (absent_of (texts_view texts) (modes_view modes))
 
 -- the notes on the unlisted texts
-abbrev pub notes_on_unlisted : List texts.Text → List ListedMode → List Note
+abbrev pub notes_on_unlisted : List texts.NamedText → List ListedMode → List Note
 notes_on_unlisted texts modes = unlisted_notes (modes_view modes) (texts_view texts)
 
 -- the notes on the sections of the machine text
-abbrev pub AreMachineNotes : List texts.Text → List ListedMode → List (Key × Tree) → Vec notes.Note → Type 0
-AreMachineNotes texts modes sections notes = notes_view notes ≡ machine_notes (texts_view texts) (modes_view modes) (pairs_view sections)
+abbrev pub AreMachineNotes : List texts.NamedText → List ListedMode → List (Key × Tree) → Vec notes.Note → Type 0
+AreMachineNotes texts modes sections notes =
+    notes_view notes ≡ machine_notes (texts_view texts) (modes_view modes) (pairs_view sections)
 
 -- the notes on the sections of the text of a mode
 abbrev pub AreModeNotes : List ℕ → List (Key × Tree) → Vec notes.Note → Type 0
@@ -238,12 +260,14 @@ abbrev pub GivesModeNames : Result (Vec (Vec ℕ)) ConfigFault → Result (List 
 GivesModeNames result read = GivesRows names_only_view result read
 
 -- what the texts of a bundle say of the machine
-abbrev pub machine_in_texts : List texts.Text → Result MachineRead RowsFault
+abbrev pub machine_in_texts : List texts.NamedText → Result MachineRead RowsFault
 machine_in_texts texts = machine_read_at (texts_view texts)
 
 -- the modes that a machine text of these sections lists, by the texts of the bundle
-abbrev pub modes_of_machine : List Section → List ListedMode → List texts.Text → Result (List (Option ModeRead)) RowsFault
-modes_of_machine sections listed texts = modes_in_texts (map section_view sections) (modes_view listed) (texts_view texts)
+abbrev pub modes_of_machine : List Section → List ListedMode → List texts.NamedText
+    → Result (List (Option ModeRead)) RowsFault
+modes_of_machine sections modes_listed texts =
+    modes_in_texts (map section_view sections) (modes_view modes_listed) (texts_view texts)
 
 -- the names as they are written
 abbrev pub AreTextsOf : List Name → Vec (Vec ℕ) → Type 0
@@ -252,11 +276,11 @@ AreTextsOf names texts = names_only_view texts ≡ map (λ w. w.text) (map name_
 -- ---- texts and their names
 
 -- it gives this text of a bundle
-abbrev pub GivesText : Result texts.Text ConfigFault → Result Text RowsFault → Type 0
+abbrev pub GivesText : Result texts.NamedText ConfigFault → Result NamedText RowsFault → Type 0
 GivesText result read = GivesRows text_view result read
 
 -- it gives these texts of a bundle
-abbrev pub GivesTexts : Result (Vec texts.Text) ConfigFault → Result (List Text) RowsFault → Type 0
+abbrev pub GivesTexts : Result (Vec texts.NamedText) ConfigFault → Result (List NamedText) RowsFault → Type 0
 GivesTexts result read = GivesRows (λ texts. texts_view texts.items) result read
 
 -- it gives these bytes
@@ -264,5 +288,5 @@ abbrev pub GivesBytes : Result (Bor (List ℕ)) ConfigFault → Result (List ℕ
 GivesBytes result read = GivesRows bytes_view result read
 
 -- the machine text among these texts
-abbrev pub machine_text_in : List texts.Text → Result (List ℕ) RowsFault
+abbrev pub machine_text_in : List texts.NamedText → Result (List ℕ) RowsFault
 machine_text_in texts = machine_at (texts_view texts)

@@ -11,7 +11,7 @@ pub mod FewModes
 pub mod Reading
 pub mod ModeView
 pub mod View
-pub mod Inside
+pub mod CodeViews
 pub mod Gives
 pub mod Escaped
 pub mod FaultLine

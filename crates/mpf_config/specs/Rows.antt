@@ -2,7 +2,7 @@
 use Rattle.std.specs.Prelude.{ℕ, List}
 use Rattle.mpf_sections.specs.Rows.{SectionRows}
 use Rattle.mpf_config.specs.declared.config.NoteKind.{NoteKind}
-pub use Rattle.setting_values.specs.Values.{Written}
+pub use Rattle.setting_values.specs.Values.{WrittenName}
 pub use Rattle.config_faults.specs.Faults.{RowsFault}
 
 -- a part of the bundle that is not read, and is no fault: in which text, at which line, and of which name

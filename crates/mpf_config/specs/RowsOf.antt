@@ -7,9 +7,9 @@ use Rattle.mpf_tables.specs.declared.tables.TextKind.{TextKind, TheVariants.{Mac
 use Rattle.section_tables.specs.Shapes.{Setting, PlayerKinds, by_entries, by_players, by_entry, by_names}
 use Rattle.mpf_tables.specs.SectionTables.{mode_name, shape_of}
 use Rattle.section_tables.specs.EntryOf.{IsEntry, AreEntries, ArePlayers, AreNamesListed}
-use Rattle.mpf_sections.specs.Rows.{Written, Content, entries, players, entry, listed, SectionRows, ModeSettings}
+use Rattle.mpf_sections.specs.Rows.{WrittenName, Content, entries, players, entry, name_list, SectionRows, ModeSettings}
 use Rattle.mpf_config.specs.{Rows.Rows, ModeReads.{ModeRead, rows_notes}, Apart.AreNamesApart}
-use Rattle.mpf_config.specs.BundleText.{Text, machine_name, machine_owner, version_line}
+use Rattle.mpf_config.specs.BundleText.{NamedText, machine_name, machine_owner, version_line}
 use Rattle.mpf_sections.specs.Typed.{mode_settings_of, ball_ending, listed_modes}
 use Rattle.mpf_config.specs.Unread.{read_of, mode_text_of, present_of, mode_notes}
 
@@ -38,7 +38,7 @@ pub record IsBare (name : List ℕ) : Type 0 where
   pub last : EndsInNoBlank name
 
 -- A line `@ NAME`, and a text behind it: no other line begins with `@`.
-pub record IsPiece (piece : List ℕ) (t : Text) : Type 0 where
+pub record IsPiece (piece : List ℕ) (t : NamedText) : Type 0 where
   pub blank : ℕ
   pub blanks : List ℕ
   pub are_blank : AreBlank (blank ∷ blanks)
@@ -52,10 +52,11 @@ EndsLine piece [] = Unit {0}
 EndsLine piece (b ∷ behind) = (front : List ℕ) × (piece ≡ front ++ 10 ∷ [])
 
 -- The texts of a bundle, one behind the other.
-abbrev pub AreTexts : List ℕ → List Text → Type 0
+abbrev pub AreTexts : List ℕ → List NamedText → Type 0
 AreTexts bundle [] = bundle ≡ []
 AreTexts bundle (t ∷ ts) =
-    (piece : List ℕ) × (behind : List ℕ) × (bundle ≡ piece ++ behind) × IsPiece piece t × EndsLine piece behind × AreTexts behind ts
+    (piece : List ℕ) × (behind : List ℕ) × (bundle ≡ piece ++ behind) × IsPiece piece t × EndsLine piece behind
+    × AreTexts behind ts
 
 -- each name is new: not in the first list, and not that of an earlier one
 abbrev pub AreNew : List (List ℕ) → List (List ℕ) → Type 0
@@ -63,7 +64,7 @@ AreNew names [] = Unit {0}
 AreNew names (n ∷ ns) = (Contains names n → ⊥) × AreNew (n ∷ names) ns
 
 -- there is a text of this name
-abbrev pub IsText : List Text → List ℕ → List ℕ → Type 0
+abbrev pub IsText : List NamedText → List ℕ → List ℕ → Type 0
 IsText texts name text = Contains texts (record { name = name; text = text })
 
 -- ---- sizes
@@ -86,18 +87,22 @@ within_limits = record { levels = 32; depth = 8; longest = 1024; modes = 64 }
 -- ---- sections
 
 -- The modes that a section lists: none is named `machine`, and none twice.
-pub record AreModesListed (sizes : Sizes) (p : Pair) (ws : List Written) : Type 0 where
-  pub listed : AreNamesListed sizes.modes p ws
+pub record AreModesListed (sizes : Sizes) (p : Pair) (ws : List WrittenName) : Type 0 where
+  pub is_list : AreNamesListed sizes.modes p ws
   pub others : All (λ w. w.text ≢ machine_owner) ws
   pub apart : AreNew [] (map (λ w. w.text) ws)
 
 -- what stands in a section, by how it is written in a text of this kind
 abbrev pub IsContent : Sizes → TextKind → Pair → Content → Type 0
 IsContent sizes kind p (entries es) =
-    (barred : List (List ℕ)) × (table : List Setting) × (shape_of kind p.key ≡ Some (by_entries barred table)) × AreEntries sizes.longest barred table p es
-IsContent sizes kind p (players ps) = (kinds : PlayerKinds) × (shape_of kind p.key ≡ Some (by_players kinds)) × ArePlayers sizes.longest kinds p ps
-IsContent sizes kind p (entry e) = (table : List Setting) × (shape_of kind p.key ≡ Some (by_entry table)) × IsEntry sizes.longest table p e
-IsContent sizes kind p (listed ws) = (shape_of kind p.key ≡ Some by_names) × AreModesListed sizes p ws
+    (barred_names : List (List ℕ)) × (table : List Setting)
+    × (shape_of kind p.key ≡ Some (by_entries barred_names table))
+    × AreEntries sizes.longest barred_names table p es
+IsContent sizes kind p (players ps) = (kinds : PlayerKinds) × (shape_of kind p.key ≡ Some (by_players kinds))
+    × ArePlayers sizes.longest kinds p ps
+IsContent sizes kind p (entry e) = (table : List Setting) × (shape_of kind p.key ≡ Some (by_entry table))
+    × IsEntry sizes.longest table p e
+IsContent sizes kind p (name_list ws) = (shape_of kind p.key ≡ Some by_names) × AreModesListed sizes p ws
 
 -- a mode that has start events, all of which are `ball_ending`, with or without a condition
 pub record StartsAtBallEnd (s : ModeSettings) : Type 0 where
@@ -106,7 +111,8 @@ pub record StartsAtBallEnd (s : ModeSettings) : Type 0 where
 
 -- A mode that may hold the end of the ball starts at `ball_ending` alone. Other sections have no such rule.
 abbrev pub KeepsToBallEnd : List ℕ → Content → Type 0
-KeepsToBallEnd section (entry e) = section ≡ mode_name → (mode_settings_of e.values).holds_ball_end ≡ true → StartsAtBallEnd (mode_settings_of e.values)
+KeepsToBallEnd section (entry e) = section ≡ mode_name → (mode_settings_of e.values).holds_ball_end ≡ true
+    → StartsAtBallEnd (mode_settings_of e.values)
 KeepsToBallEnd section _ = Unit {0}
 
 -- a section by its name, and what stands in it
@@ -116,7 +122,8 @@ pub record IsSection (sizes : Sizes) (kind : TextKind) (p : Pair) (s : SectionRo
   pub keeps : KeepsToBallEnd p.key s.content
 
 -- A text of this kind has these sections. The rows are those of the sections that are read.
-pub record AreRowsOf (sizes : Sizes) (kind : TextKind) (text : List ℕ) (sections : List Pair) (rows : List SectionRows) : Type 0 where
+pub record AreRowsOf (sizes : Sizes) (kind : TextKind) (text : List ℕ) (sections : List Pair)
+    (rows : List SectionRows) : Type 0 where
   pub behind : List ℕ
   pub version : BeginsWith version_line text behind
   pub tree : Node
@@ -127,7 +134,7 @@ pub record AreRowsOf (sizes : Sizes) (kind : TextKind) (text : List ℕ) (sectio
 -- ---- modes
 
 -- A listed mode with the rows of its text, and the notes on it.
-pub record IsModeRead (sizes : Sizes) (texts : List Text) (w : Written) (m : ModeRead) : Type 0 where
+pub record IsModeRead (sizes : Sizes) (texts : List NamedText) (w : WrittenName) (m : ModeRead) : Type 0 where
   pub name : m.mode.name ≡ w.text
   pub text : List ℕ
   pub is_there : IsText texts (mode_text_of w) text
@@ -139,7 +146,7 @@ pub record IsModeRead (sizes : Sizes) (texts : List Text) (w : Written) (m : Mod
 
 -- the rows of a bundle that are no larger than these sizes
 pub record IsRowsOf (sizes : Sizes) (bundle : List ℕ) (rows : Rows) : Type 0 where
-  pub texts : List Text
+  pub texts : List NamedText
   pub are_texts : AreTexts bundle texts
   pub all_new : AreNew [] (map (λ t. t.name) texts)
   pub text : List ℕ
@@ -172,9 +179,11 @@ IsTextOver sizes text = IsTextAbove sizes.levels sizes.depth text ⊎ AreManyIte
 -- a text of the bundle that is read for these rows: the machine text, or that of a listed mode
 abbrev pub IsTextRead : List ℕ → Rows → List ℕ → Type 0
 IsTextRead bundle rows text =
-    (texts : List Text) × AreTexts bundle texts
-    × (IsText texts machine_name text ⊎ ((w : Written) × Contains (listed_modes rows.machine) w × IsText texts (mode_text_of w) text))
+    (texts : List NamedText) × AreTexts bundle texts
+    × (IsText texts machine_name text ⊎ ((w : WrittenName) × Contains (listed_modes rows.machine) w
+    × IsText texts (mode_text_of w) text))
 
 -- above the limits: the bundle has more than 8 MiB, or a text that is read is above its limits
 abbrev pub IsAbove : Sizes → List ℕ → Rows → Type 0
-IsAbove sizes bundle rows = (2 ^ 23 < length bundle) ⊎ ((text : List ℕ) × IsTextRead bundle rows text × IsTextOver sizes text)
+IsAbove sizes bundle rows = (2 ^ 23 < length bundle)
+    ⊎ ((text : List ℕ) × IsTextRead bundle rows text × IsTextOver sizes text)

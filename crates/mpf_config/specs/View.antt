@@ -11,4 +11,9 @@ abbrev pub note_view : notes.Note → Note
 note_view n = record { kind = n.kind; text = n.text.items; line = n.line; name = n.name.items }
 
 abbrev pub rows_view : Config → Rows
-rows_view c = record { machine = map section_view c.machine.sections.items; modes = map mode_view c.modes.items; notes = map note_view c.notes.items }
+rows_view c =
+    record {
+      machine = map section_view c.machine.sections.items;
+      modes = map mode_view c.modes.items;
+      notes = map note_view c.notes.items;
+    }

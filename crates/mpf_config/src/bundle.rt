@@ -6,17 +6,18 @@ ghost use Rattle.mpf_config.specs.Rows.{Rows};
 ghost use Rattle.mpf_config.specs.RowsOf.{Sizes, within_limits, IsRowsOf, IsAbove, AreModesOf, IsTextOver};
 ghost use Rattle.config_faults.specs.declared.fault.ConfigFault.TheVariants.{NoMemory};
 ghost use Rattle.mpf_config.specs.View.{rows_view};
-ghost use Rattle.mpf_config.specs.Inside.{names_only_view};
-ghost use Rattle.mpf_config.specs.Gives.{GivesModes, GivesMachine, GivesConfig, GivesModeNames, AreEntriesDistinct, machine_in_texts, modes_of_machine, AreTextsOf};
+ghost use Rattle.mpf_config.specs.CodeViews.{names_only_view};
+ghost use Rattle.mpf_config.specs.Gives.{GivesModes, GivesMachine, GivesConfig, GivesModeNames, AreEntriesDistinct};
+ghost use Rattle.mpf_config.specs.Gives.{machine_in_texts, modes_of_machine, AreTextsOf};
 
 use crate::config::{Config, MachineText, Note, Section};
-use crate::fault::{ConfigFault, FaultKind};
-use crate::listed::listed_modes;
+use crate::fault::{BundleFaultKind, ConfigFault};
+use crate::listed::modes_with_texts;
 use crate::listed_mode::ListedMode;
 use crate::modes::{ModeRead, find_modes, take_modes};
 use crate::sections::{sections, sections_in};
 use crate::spot::{NONE, line_of};
-use crate::texts::{MACHINE_NAME, Text, machine_text, texts};
+use crate::texts::{MACHINE_NAME, NamedText, machine_text, texts};
 use crate::unread::{add_unlisted, machine_notes};
 use crate::version::tree_of;
 use mpf_sections::listed_modes as modes_in;
@@ -40,7 +41,7 @@ pub struct MachineRead {
 fn read_machine(
     alloc: Global,
     hashing: KeyHashing,
-    texts: &[Text<'_>],
+    texts: &[NamedText<'_>],
 ) -> Result<MachineRead, ConfigFault>
     ensures { GivesMachine result (machine_in_texts texts.now) }
 {
@@ -48,7 +49,7 @@ fn read_machine(
     let tree = tree_of(alloc, hashing, MACHINE_NAME, text)?;
     let entries = sections_in(alloc, MACHINE_NAME, &tree)?;
     let sections = sections(alloc, TextKind::Machine, MACHINE_NAME, entries.pairs)?;
-    let modes = listed_modes(alloc, modes_in(&sections))?;
+    let modes = modes_with_texts(alloc, modes_in(&sections))?;
     let notes = machine_notes(alloc, entries.pairs, &modes, texts)?;
     drop(modes);
     Ok(MachineRead { sections, notes })
@@ -60,15 +61,22 @@ fn read_modes(
     alloc: Global,
     hashing: KeyHashing,
     sections: &[Section],
-    listed: &[ListedMode<'_>],
-    texts: &[Text<'_>],
+    modes_listed: &[ListedMode<'_>],
+    texts: &[NamedText<'_>],
 ) -> Result<Vec<Option<ModeRead>>, ConfigFault>
     requires { AreEntriesDistinct sections.now }
-    ensures { GivesModes result (modes_of_machine sections.now listed.now texts.now) }
+    ensures { GivesModes result (modes_of_machine sections.now modes_listed.now texts.now) }
 {
-    let mut taken = no_keys(alloc, hashing);
-    let found = find_modes(alloc, hashing, sections, listed, texts, &mut taken)?;
-    Ok(found)
+    let mut known_keys = no_keys(alloc, hashing);
+    let mode_reads = find_modes(
+        alloc,
+        hashing,
+        sections,
+        modes_listed,
+        texts,
+        &mut known_keys,
+    )?;
+    Ok(mode_reads)
 }
 
 // The rows of a bundle, or its first fault.
@@ -77,7 +85,7 @@ fn read_exactly(alloc: Global, bundle: &[u8]) -> Result<Config, ConfigFault>
     ensures { GivesConfig result (rows_at bundle.now) }
 {
     if bundle.len() > MAX_BUNDLE_LEN {
-        let fault = line_of(NONE, 1).fault(alloc, FaultKind::Limit)?;
+        let fault = line_of(NONE, 1).fault(alloc, BundleFaultKind::Limit)?;
         return Err(ConfigFault::Bundle(fault));
     }
     let texts = texts(alloc, bundle)?;
@@ -86,11 +94,11 @@ fn read_exactly(alloc: Global, bundle: &[u8]) -> Result<Config, ConfigFault>
         sections,
         mut notes,
     } = read_machine(alloc, hashing, &texts)?;
-    let listed = listed_modes(alloc, modes_in(&sections))?;
-    let found = read_modes(alloc, hashing, &sections, &listed, &texts)?;
-    let modes = take_modes(alloc, found, &mut notes)?;
-    add_unlisted(alloc, &listed, &texts, &mut notes)?;
-    drop(listed);
+    let modes_listed = modes_with_texts(alloc, modes_in(&sections))?;
+    let mode_reads = read_modes(alloc, hashing, &sections, &modes_listed, &texts)?;
+    let modes = take_modes(alloc, mode_reads, &mut notes)?;
+    add_unlisted(alloc, &modes_listed, &texts, &mut notes)?;
+    drop(modes_listed);
     Ok(Config {
         machine: MachineText { sections },
         modes,
@@ -135,10 +143,12 @@ pub fn read_bundle(alloc: Global, bundle: &[u8]) -> Result<Config, ConfigFault>
     ensures found { IfOk result (λ config. IsRowsOf within_limits bundle.now (rows_view config)) }
 
     // The bundle has no other rows, however large they may be.
-    ensures only { IfOk result (λ config. (sizes : Sizes) (rows : Rows) → IsRowsOf sizes bundle.now rows → rows ≡ rows_view config) }
+    ensures only { IfOk result (λ config. (sizes : Sizes) (rows : Rows) → IsRowsOf sizes bundle.now rows
+        → rows ≡ rows_view config) }
 
     // A bundle that is refused has no rows within the limits.
-    ensures refused { IfErr result (λ e. e ≢ NoMemory → (sizes : Sizes) (rows : Rows) → IsRowsOf sizes bundle.now rows → IsAbove sizes bundle.now rows) }
+    ensures refused { IfErr result (λ e. e ≢ NoMemory → (sizes : Sizes) (rows : Rows) → IsRowsOf sizes bundle.now rows
+        → IsAbove sizes bundle.now rows) }
 
     // Which fault it is, with its text, line and key, is the first that reading in order meets.
     ensures exact { GivesConfig result (rows_at bundle.now) }
@@ -181,10 +191,12 @@ pub fn mode_names(alloc: Global, text: &[u8]) -> Result<Vec<Vec<u8>>, ConfigFaul
     ensures found { IfOk result (λ names. AreModesOf within_limits text.now (names_only_view names)) }
 
     // The text lists no others, however large it may be.
-    ensures only { IfOk result (λ names. (sizes : Sizes) (others : List (List ℕ)) → AreModesOf sizes text.now others → others ≡ names_only_view names) }
+    ensures only { IfOk result (λ names. (sizes : Sizes) (others : List (List ℕ)) → AreModesOf sizes text.now others
+        → others ≡ names_only_view names) }
 
     // A text that is refused lists no modes within the limits.
-    ensures refused { IfErr result (λ e. e ≢ NoMemory → (sizes : Sizes) (names : List (List ℕ)) → AreModesOf sizes text.now names → IsTextOver sizes text.now) }
+    ensures refused { IfErr result (λ e. e ≢ NoMemory → (sizes : Sizes) (names : List (List ℕ))
+        → AreModesOf sizes text.now names → IsTextOver sizes text.now) }
 
     // Which fault it is, with its line and key, is the first that reading in order meets.
     ensures exact { GivesModeNames result (mode_names_at text.now) }

@@ -65,8 +65,11 @@ pub struct Config {
     /// What makes the hashers of names. They start in a state that comes from the SipHash of the
     /// bundle.
     pub hashing: KeyHashing,
-    ghost lists_short: { All IsShortSection (map section_view machine.sections.items) × All IsShortMode (map mode_view modes.items) },
-    ghost have_states: { All HasStatesSection (map section_view machine.sections.items) × All HasStatesMode (map mode_view modes.items) },
+    ghost lists_short: { All IsShortSection (map section_view machine.sections.items)
+        × All IsShortMode (map mode_view modes.items) },
+    ghost have_states: { All HasStatesSection (map section_view machine.sections.items)
+        × All HasStatesMode (map mode_view modes.items) },
     ghost few_modes: { AreFewModes (map mode_view modes.items) },
-    ghost all_named: { ∥ All IsNamed (map section_view machine.sections.items) × All IsNamedMode (map mode_view modes.items) ∥₁ },
+    ghost all_named: { ∥ All IsNamed (map section_view machine.sections.items)
+        × All IsNamedMode (map mode_view modes.items) ∥₁ },
 }

@@ -3,7 +3,7 @@
 ghost use Rattle.std.specs.Prelude.{◌≡◌, ◌<◌, ℕ, List, false, OnOk};
 ghost use Rattle.std.specs.List.{All, list_any};
 ghost use Rattle.std.specs.Io.KnownBytes.{Appends};
-ghost use Rattle.mpf_config.specs.Escaped.{is_control, hex_digit, escaped_byte, escaped};
+ghost use Rattle.mpf_config.specs.Escaped.{is_control, hex_digit, escaped_byte, escape_bytes};
 
 use std::io::{self, Write};
 
@@ -14,7 +14,7 @@ use std::io::{self, Write};
 ///
 /// The writer's error. Any part of the text may have been written then.
 pub fn write_escaped<W: Write>(text: &[u8], writer: &mut W) -> io::Result<()>
-    ensures { OnOk result (Appends (W.contents writer.old) (W.contents writer.new) (escaped text.now)) }
+    ensures { OnOk result (Appends (W.contents writer.old) (W.contents writer.new) (escape_bytes text.now)) }
 {
     if has_control(text) {
         return write_bytes(text, writer);
@@ -28,7 +28,7 @@ pub fn write_escaped<W: Write>(text: &[u8], writer: &mut W) -> io::Result<()>
 ///
 /// It does nothing: its contract is the law, over all texts.
 pub fn escaped_makes_no_line()
-    ensures { (text : List ℕ) → All (λ b. is_control b ≡ false) (escaped text) }
+    ensures { (text : List ℕ) → All (λ b. is_control b ≡ false) (escape_bytes text) }
 {}
 
 // Whether a byte of a text is to be escaped.
@@ -40,7 +40,7 @@ fn has_control(text: &[u8]) -> bool
 
 // Writes a text, byte by byte.
 fn write_bytes<W: Write>(text: &[u8], writer: &mut W) -> io::Result<()>
-    ensures { OnOk result (Appends (W.contents writer.old) (W.contents writer.new) (escaped text.now)) }
+    ensures { OnOk result (Appends (W.contents writer.old) (W.contents writer.new) (escape_bytes text.now)) }
 {
     for byte in text {
         write_byte(*byte, writer)?;

@@ -6,7 +6,7 @@ ghost use Rattle.mpf_config.specs.FaultLine.{fault_line};
 ghost use Rattle.mpf_config.specs.View.{rows_fault_view};
 
 use crate::escape::write_escaped;
-pub use config_faults::{ConfigFault, Fault, FaultKind};
+pub use config_faults::{BundleFault, BundleFaultKind, ConfigFault};
 use std::io::{self, Write};
 
 /// Writes the line of a fault, `error NUMBER NAME TEXT LINE KEY`, the text and the key as
@@ -15,8 +15,9 @@ use std::io::{self, Write};
 /// # Errors
 ///
 /// The writer's error. Any part of the line may have been written then.
-pub fn write_fault<W: Write>(fault: &Fault, writer: &mut W) -> io::Result<()>
-    ensures { OnOk result (Appends (W.contents writer.old) (W.contents writer.new) (fault_line (rows_fault_view fault.now))) }
+pub fn write_fault<W: Write>(fault: &BundleFault, writer: &mut W) -> io::Result<()>
+    ensures { OnOk result (Appends (W.contents writer.old) (W.contents writer.new)
+        (fault_line (rows_fault_view fault.now))) }
 {
     write!(
         writer,

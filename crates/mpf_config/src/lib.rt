@@ -22,17 +22,17 @@ pub use config::{
     Section,
 };
 pub use escape::{escaped_makes_no_line, write_escaped};
-pub use fault::{ConfigFault, Fault, FaultKind, write_fault};
+pub use fault::{BundleFault, BundleFaultKind, ConfigFault, write_fault};
 // The sections: their names, and their entries by the names of their settings.
 pub use mpf_sections::{
-    Autofire, BallDevice, BallSave, BlockEvents, Coil, CoilItem, CoilPlayer, Control, Counter,
-    EventPlayer, Flipper, GameSettings, HandledAt, ModeSettings, Multiball, NameAt, Shot,
-    ShotGroup, ShotProfile, StepBlock, Switch, Timer, VariableItem, VariablePlayer, as_autofire,
-    as_ball_device, as_ball_save, as_coil, as_coil_item, as_coil_player, as_control, as_counter,
-    as_event_player, as_flipper, as_game, as_handled, as_multiball, as_shot, as_shot_group,
-    as_shot_profile, as_state, as_step_block, as_switch, as_timer, as_variable_item,
-    as_variable_player, blocks, coil_rules, coils, game, listed_modes, min_balls, mode_settings,
-    timers, typed,
+    AutofireEntry, BallDeviceEntry, BallSaveEntry, BlockEvents, Coil, CoilItem, CoilPlayer,
+    ControlEvent, CounterEntry, EventPlayer, FlipperEntry, GameSettings, HandledAt, ModeSettings,
+    MultiballEntry, NameAt, Shot, ShotGroup, ShotProfile, StepBlock, Switch, TimerEntry,
+    VariableItem, VariablePlayer, as_autofire, as_ball_device, as_ball_save, as_coil, as_coil_item,
+    as_coil_player, as_control, as_counter, as_event_player, as_flipper, as_game, as_handled,
+    as_multiball, as_shot, as_shot_group, as_shot_profile, as_state, as_step_block, as_switch,
+    as_timer, as_variable_item, as_variable_player, blocks, coil_rules, coils, game, listed_modes,
+    min_balls, mode_settings, timers, typed,
 };
 pub use mpf_tables::tables::{
     ACCRUALS_NAME, AUTOFIRE_COILS_NAME, BALL_DEVICES_NAME, BALL_SAVES_NAME, COIL_PLAYER_NAME,
@@ -43,5 +43,5 @@ pub use mpf_tables::tables::{
 };
 pub use notes::write_note;
 pub use section_tables::rows::{Entry, Player};
-pub use setting_values::values::{Fields, Guard, Handler, Keyed, Name, Plain, Value};
+pub use setting_values::values::{Fields, Guard, Handler, KeyedValues, Name, Plain, Value};
 pub use texts::{MACHINE_NAME, mode_text_name};

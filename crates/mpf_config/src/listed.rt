@@ -9,7 +9,10 @@ use setting_values::values::Name;
 use std::alloc::{AllocError, Global};
 
 /// The modes of these names, in order, each with the name of its text.
-pub fn listed_modes<'a>(alloc: Global, names: &'a [Name]) -> Result<Vec<ListedMode<'a>>, AllocError>
+pub fn modes_with_texts<'a>(
+    alloc: Global,
+    names: &'a [Name],
+) -> Result<Vec<ListedMode<'a>>, AllocError>
     ensures { IfOk result (λ modes. AreListed names.now modes.items) }
 {
     let mut modes = Vec::with_capacity(alloc, names.len())?;

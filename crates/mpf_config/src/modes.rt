@@ -2,16 +2,19 @@
 
 ghost use Rattle.std.specs.Prelude.{◌≡◌, length, IfOk};
 ghost use Rattle.yaml_subset.specs.Keys.{is_among};
-ghost use Rattle.mpf_config.specs.Gives.{GainsKeys, GivesMode, GivesModes, LeavesModes, mode_of_text, new_mode_of_text, keys_of_mode, with_mode_of_text, keys_at_text, IsNoneFound, with_modes_of_texts, AreEntriesDistinct, modes_of_texts, AreModesFound, notes_found, GainsNotes};
+ghost use Rattle.mpf_config.specs.Gives.{GainsKeys, GivesMode, GivesModes, LeavesModes, mode_of_text, new_mode_of_text};
+ghost use Rattle.mpf_config.specs.Gives.{keys_of_mode, with_mode_of_text, keys_at_text, IsNoneFound};
+ghost use Rattle.mpf_config.specs.Gives.{with_modes_of_texts, AreEntriesDistinct, modes_of_texts, AreModesFound};
+ghost use Rattle.mpf_config.specs.Gives.{notes_found, GainsNotes};
 
 use crate::config::{ModeText, Note, Section};
-use crate::fault::{ConfigFault, FaultKind};
+use crate::fault::{BundleFaultKind, ConfigFault};
 use crate::listed::mode_of;
 use crate::listed_mode::ListedMode;
 use crate::sections::{sections, sections_in};
 use crate::spot::line_of;
 use crate::taken::take_beside;
-use crate::texts::Text;
+use crate::texts::NamedText;
 use crate::unread::mode_notes;
 use crate::version::tree_of;
 use mpf_tables::TextKind;
@@ -33,7 +36,7 @@ fn read_mode(
     alloc: Global,
     hashing: KeyHashing,
     name: &Name,
-    text: Text<'_>,
+    text: NamedText<'_>,
 ) -> Result<ModeRead, ConfigFault>
     ensures { GivesMode result (mode_of_text name.now text.entry) }
 {
@@ -56,15 +59,16 @@ fn read_new_mode(
     hashing: KeyHashing,
     machine: &[Section],
     name: &Name,
-    text: Text<'_>,
-    taken: &mut KeySet,
+    text: NamedText<'_>,
+    known_keys: &mut KeySet,
 ) -> Result<ModeRead, ConfigFault>
     requires distinct { AreEntriesDistinct machine.now }
-    ensures value { GivesMode result (new_mode_of_text machine.now taken.old name.now text.entry) }
-    ensures known { IfOk result (λ read. GainsKeys machine.now taken.old taken.new (is_among (keys_of_mode read))) }
+    ensures value { GivesMode result (new_mode_of_text machine.now known_keys.old name.now text.entry) }
+    ensures known { IfOk result (λ read. GainsKeys machine.now known_keys.old known_keys.new
+        (is_among (keys_of_mode read))) }
 {
     let read = read_mode(alloc, hashing, name, text)?;
-    take_beside(alloc, text.name, machine, &read.mode.sections, taken)?;
+    take_beside(alloc, text.name, machine, &read.mode.sections, known_keys)?;
     Ok(read)
 }
 
@@ -75,30 +79,32 @@ fn place(
     hashing: KeyHashing,
     machine: &[Section],
     modes: &[ListedMode<'_>],
-    text: Text<'_>,
-    taken: &mut KeySet,
-    found: &mut [Option<ModeRead>],
+    text: NamedText<'_>,
+    known_keys: &mut KeySet,
+    mode_reads: &mut [Option<ModeRead>],
 ) -> Result<(), ConfigFault>
     requires distinct { AreEntriesDistinct machine.now }
-    requires as_long { length found.old ≡ length modes.now }
-    ensures value { LeavesModes found.new result (with_mode_of_text machine.now taken.old modes.now found.old text.entry) }
-    ensures known { IfOk result (λ _. GainsKeys machine.now taken.old taken.new (is_among (keys_at_text modes.now found.new text.entry))) }
+    requires as_long { length mode_reads.old ≡ length modes.now }
+    ensures value { LeavesModes mode_reads.new result
+        (with_mode_of_text machine.now known_keys.old modes.now mode_reads.old text.entry) }
+    ensures known { IfOk result (λ _. GainsKeys machine.now known_keys.old known_keys.new
+        (is_among (keys_at_text modes.now mode_reads.new text.entry))) }
 {
     if let Some((place, name)) = mode_of(modes, text.name) {
-        found[place] = Some(read_new_mode(alloc, hashing, machine, name, text, taken)?);
+        mode_reads[place] = Some(read_new_mode(alloc, hashing, machine, name, text, known_keys)?);
     }
     Ok(())
 }
 
 /// `None` for each mode of the list.
 fn none_found(alloc: Global, modes: &[ListedMode<'_>]) -> Result<Vec<Option<ModeRead>>, AllocError>
-    ensures { IfOk result (λ found. IsNoneFound modes.now found.items) }
+    ensures { IfOk result (λ mode_reads. IsNoneFound modes.now mode_reads.items) }
 {
-    let mut found = Vec::with_capacity(alloc, modes.len())?;
+    let mut mode_reads = Vec::with_capacity(alloc, modes.len())?;
     for _ in modes {
-        found.push(None)?;
+        mode_reads.push(None)?;
     }
-    Ok(found)
+    Ok(mode_reads)
 }
 
 /// Takes each text to the place of its mode, in the order of the bundle; or the first fault, which
@@ -108,22 +114,25 @@ fn place_all(
     hashing: KeyHashing,
     machine: &[Section],
     modes: &[ListedMode<'_>],
-    texts: &[Text<'_>],
-    taken: &mut KeySet,
-    found: &mut [Option<ModeRead>],
+    texts: &[NamedText<'_>],
+    known_keys: &mut KeySet,
+    mode_reads: &mut [Option<ModeRead>],
 ) -> Result<(), ConfigFault>
     requires distinct { AreEntriesDistinct machine.now }
-    requires none { IsNoneFound modes.now found.old }
-    ensures { LeavesModes found.new result (with_modes_of_texts machine.now taken.old modes.now found.old texts.now) }
+    requires none { IsNoneFound modes.now mode_reads.old }
+    ensures { LeavesModes mode_reads.new result
+        (with_modes_of_texts machine.now known_keys.old modes.now mode_reads.old texts.now) }
 {
     let mut names = no_keys(alloc, hashing);
     for text in texts {
         let fresh = take_key(&mut names, CowSlice::Borrowed(text.name))?;
         if !fresh {
-            let fault = line_of(text.name, 1).fault(alloc, FaultKind::Duplicate)?;
+            let fault = line_of(text.name, 1).fault(alloc, BundleFaultKind::Duplicate)?;
             return Err(ConfigFault::Bundle(fault));
         }
-        place(alloc, hashing, machine, modes, *text, taken, found)?;
+        place(
+            alloc, hashing, machine, modes, *text, known_keys, mode_reads,
+        )?;
     }
     Ok(())
 }
@@ -136,28 +145,36 @@ pub fn find_modes(
     hashing: KeyHashing,
     machine: &[Section],
     modes: &[ListedMode<'_>],
-    texts: &[Text<'_>],
-    taken: &mut KeySet,
+    texts: &[NamedText<'_>],
+    known_keys: &mut KeySet,
 ) -> Result<Vec<Option<ModeRead>>, ConfigFault>
     requires { AreEntriesDistinct machine.now }
-    ensures { GivesModes result (modes_of_texts machine.now taken.old modes.now texts.now) }
+    ensures { GivesModes result (modes_of_texts machine.now known_keys.old modes.now texts.now) }
 {
-    let mut found = none_found(alloc, modes)?;
-    place_all(alloc, hashing, machine, modes, texts, taken, &mut found)?;
-    Ok(found)
+    let mut mode_reads = none_found(alloc, modes)?;
+    place_all(
+        alloc,
+        hashing,
+        machine,
+        modes,
+        texts,
+        known_keys,
+        &mut mode_reads,
+    )?;
+    Ok(mode_reads)
 }
 
 /// The modes that were found, in order. The notes on them are added.
 pub fn take_modes(
     alloc: Global,
-    found: Vec<Option<ModeRead>>,
+    mode_reads: Vec<Option<ModeRead>>,
     notes: &mut Vec<Note>,
 ) -> Result<Vec<ModeText>, AllocError>
-    ensures modes { IfOk result (λ modes. AreModesFound found.items modes.items) }
-    ensures added { IfOk result (λ _. GainsNotes notes.old notes.new (notes_found found.items)) }
+    ensures modes { IfOk result (λ modes. AreModesFound mode_reads.items modes.items) }
+    ensures added { IfOk result (λ _. GainsNotes notes.old notes.new (notes_found mode_reads.items)) }
 {
-    let mut modes = Vec::with_capacity(alloc, found.len())?;
-    for one in found {
+    let mut modes = Vec::with_capacity(alloc, mode_reads.len())?;
+    for one in mode_reads {
         if let Some(mut read) = one {
             notes.append(&mut read.notes)?;
             modes.push(read.mode)?;

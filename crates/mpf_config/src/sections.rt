@@ -6,10 +6,12 @@ ghost use Rattle.setting_values.specs.View.{pairs_view};
 ghost use Rattle.config_faults.specs.Faults.{spot_view};
 ghost use Rattle.mpf_config.specs.Reading.{has_right_starts, keeps_to_ball_end, line_of_key, starts_spot};
 ghost use Rattle.mpf_sections.specs.View.{content_view, mode_settings_view};
-ghost use Rattle.mpf_config.specs.Gives.{Passes, GivesPairs, GivesNames, GivesContent, GivesSection, GivesSections, pairs_of_tree, modes_all_new, modes_of_entry, content_of_entry, section_of_entry, sections_of_entries};
+ghost use Rattle.mpf_config.specs.Gives.{Passes, GivesPairs, GivesNames, GivesContent, GivesSection, GivesSections};
+ghost use Rattle.mpf_config.specs.Gives.{pairs_of_tree, modes_all_new, modes_of_entry, content_of_entry};
+ghost use Rattle.mpf_config.specs.Gives.{section_of_entry, sections_of_entries};
 
 use crate::config::{Content, Section};
-use crate::fault::{ConfigFault, FaultKind};
+use crate::fault::{BundleFaultKind, ConfigFault};
 use crate::spot::line_of;
 use crate::unread::is_skipped;
 use config_faults::{Spot, spot_of};
@@ -44,7 +46,7 @@ fn compare_modes(alloc: Global, spot: Spot<'_>, modes: &[Name]) -> Result<(), Co
     for mode in modes {
         let name = mode.text.as_slice();
         if name == MACHINE_OWNER {
-            return Err(ConfigFault::Bundle(spot.fault(alloc, FaultKind::BadValue)?));
+            return Err(ConfigFault::Bundle(spot.fault(alloc, BundleFaultKind::BadValue)?));
         }
         let fresh = take_key(&mut names, CowSlice::Borrowed(name))?;
         if !fresh {
@@ -53,7 +55,7 @@ fn compare_modes(alloc: Global, spot: Spot<'_>, modes: &[Name]) -> Result<(), Co
                 line: mode.line,
                 key: name,
             };
-            return Err(ConfigFault::Bundle(at.fault(alloc, FaultKind::Duplicate)?));
+            return Err(ConfigFault::Bundle(at.fault(alloc, BundleFaultKind::Duplicate)?));
         }
     }
     Ok(())
@@ -159,12 +161,12 @@ fn section(
     ensures { GivesSection result (section_of_entry kind text.now entry.now) }
 {
     let Some(shape) = shape_of(kind, &entry.0.text) else {
-        let fault = spot_of(text, &entry.0).fault(alloc, FaultKind::UnknownSection)?;
+        let fault = spot_of(text, &entry.0).fault(alloc, BundleFaultKind::UnknownSection)?;
         return Err(ConfigFault::Bundle(fault));
     };
     let content = content(alloc, shape, text, entry)?;
     if !keeps_to_ball_end(&entry.0.text, &content) {
-        let fault = starts_spot(text, entry).fault(alloc, FaultKind::BadValue)?;
+        let fault = starts_spot(text, entry).fault(alloc, BundleFaultKind::BadValue)?;
         return Err(ConfigFault::Bundle(fault));
     }
     let name = Vec::from_slice(alloc, &entry.0.text)?;
@@ -181,7 +183,7 @@ pub fn sections_in<'a, 't: 'a>(
     ensures { GivesPairs result (pairs_of_tree text.now tree.now) }
 {
     let Some(pairs) = tree.as_map() else {
-        let fault = line_of(text, tree.line()).fault(alloc, FaultKind::BadValue)?;
+        let fault = line_of(text, tree.line()).fault(alloc, BundleFaultKind::BadValue)?;
         return Err(ConfigFault::Bundle(fault));
     };
     Ok(MapPairs { pairs })

@@ -4,11 +4,13 @@ ghost use Rattle.std.specs.Prelude.{◌≡◌, ◌++◌, [], false, map, IfOk, I
 ghost use Rattle.std.specs.Str.{bytes_eq};
 ghost use Rattle.yaml_subset.specs.Keys.{is_among};
 ghost use Rattle.config_faults.specs.declared.fault.ConfigFault.TheVariants.{NoMemory};
-ghost use Rattle.mpf_config.specs.Apart.{joined, entry_key};
-ghost use Rattle.mpf_config.specs.Gives.{Passes, entries_of_section, entries_of_sections, keys_of_sections, is_new_key, TakesKeys, GainsKeys, AreTaken, AreEntriesDistinct, keys_taken, entries_all_new, entries_new_beside};
+ghost use Rattle.mpf_config.specs.Apart.{join_texts, entry_key};
+ghost use Rattle.mpf_config.specs.Gives.{Passes, entries_of_section, entries_of_sections, keys_of_sections, is_new_key};
+ghost use Rattle.mpf_config.specs.Gives.{TakesKeys, GainsKeys, AreTaken, AreEntriesDistinct, keys_taken};
+ghost use Rattle.mpf_config.specs.Gives.{entries_all_new, entries_new_beside};
 
 use crate::config::Section;
-use crate::fault::{ConfigFault, FaultKind};
+use crate::fault::{BundleFaultKind, ConfigFault};
 use crate::texts::MACHINE_NAME;
 use config_faults::Spot;
 use std::alloc::{AllocError, Global};
@@ -18,7 +20,7 @@ use yaml_subset::keys::{KeySet, take_key};
 /// The front of the keys of a section's entries: the key of an entry is this and its name. No two
 /// entries of two sections, or with two names, have one key.
 fn front_of(alloc: Global, section: &[u8]) -> Result<Vec<u8>, AllocError>
-    ensures { IfOk result (λ front. front.items ≡ joined section.now []) }
+    ensures { IfOk result (λ front. front.items ≡ join_texts section.now []) }
 {
     let mut front = Vec::new(alloc);
     for byte in section {
@@ -44,13 +46,13 @@ fn take_entry(
     alloc: Global,
     front: &[u8],
     name: &[u8],
-    taken: &mut KeySet,
+    known_keys: &mut KeySet,
 ) -> Result<bool, AllocError>
-    ensures fresh { IfOk result (λ fresh. fresh ≡ is_new_key taken.old (front.now ++ name.now)) }
-    ensures known { IfOk result (λ _. TakesKeys taken.old taken.new (bytes_eq (front.now ++ name.now))) }
+    ensures fresh { IfOk result (λ fresh. fresh ≡ is_new_key known_keys.old (front.now ++ name.now)) }
+    ensures known { IfOk result (λ _. TakesKeys known_keys.old known_keys.new (bytes_eq (front.now ++ name.now))) }
 {
     let key = key_of(alloc, front, name)?;
-    let fresh = take_key(taken, CowSlice::Owned(key))?;
+    let fresh = take_key(known_keys, CowSlice::Owned(key))?;
     Ok(fresh)
 }
 
@@ -59,23 +61,24 @@ fn take_section(
     alloc: Global,
     text: &[u8],
     section: &Section,
-    taken: &mut KeySet,
+    known_keys: &mut KeySet,
 ) -> Result<(), ConfigFault>
-    ensures value { Passes result (entries_all_new text.now taken.old (entries_of_section section.now)) }
-    ensures known { IfOk result (λ _. TakesKeys taken.old taken.new (is_among (map entry_key (entries_of_section section.now)))) }
+    ensures value { Passes result (entries_all_new text.now known_keys.old (entries_of_section section.now)) }
+    ensures known { IfOk result (λ _. TakesKeys known_keys.old known_keys.new
+        (is_among (map entry_key (entries_of_section section.now)))) }
 {
     let front = front_of(alloc, &section.name)?;
     let entries = section.content.entries();
     for entry in entries {
         let name = &entry.name;
-        let fresh = take_entry(alloc, &front, &name.text, taken)?;
+        let fresh = take_entry(alloc, &front, &name.text, known_keys)?;
         if !fresh {
             let at = Spot {
                 text,
                 line: name.line,
                 key: &name.text,
             };
-            return Err(ConfigFault::Bundle(at.fault(alloc, FaultKind::Duplicate)?));
+            return Err(ConfigFault::Bundle(at.fault(alloc, BundleFaultKind::Duplicate)?));
         }
     }
     Ok(())
@@ -86,25 +89,30 @@ fn take_entries(
     alloc: Global,
     text: &[u8],
     sections: &[Section],
-    taken: &mut KeySet,
+    known_keys: &mut KeySet,
 ) -> Result<(), ConfigFault>
-    ensures value { Passes result (entries_all_new text.now taken.old (entries_of_sections sections.now)) }
-    ensures known { IfOk result (λ _. TakesKeys taken.old taken.new (is_among (keys_of_sections sections.now))) }
+    ensures value { Passes result (entries_all_new text.now known_keys.old (entries_of_sections sections.now)) }
+    ensures known { IfOk result (λ _. TakesKeys known_keys.old known_keys.new
+        (is_among (keys_of_sections sections.now))) }
 {
     for section in sections {
-        take_section(alloc, text, section, taken)?;
+        take_section(alloc, text, section, known_keys)?;
     }
     Ok(())
 }
 
 /// Takes the entries of the machine text, which has these sections, if none is taken yet.
-fn take_machine(alloc: Global, machine: &[Section], taken: &mut KeySet) -> Result<(), ConfigFault>
+fn take_machine(
+    alloc: Global,
+    machine: &[Section],
+    known_keys: &mut KeySet,
+) -> Result<(), ConfigFault>
     requires { AreEntriesDistinct machine.now }
-    ensures known { IfOk result (λ _. AreTaken taken.new (keys_taken machine.now taken.old)) }
+    ensures known { IfOk result (λ _. AreTaken known_keys.new (keys_taken machine.now known_keys.old)) }
     ensures fails { IfErr result (λ e. e ≡ NoMemory) }
 {
-    if taken.is_empty() {
-        take_entries(alloc, MACHINE_NAME, machine, taken)?;
+    if known_keys.is_empty() {
+        take_entries(alloc, MACHINE_NAME, machine, known_keys)?;
     }
     Ok(())
 }
@@ -128,15 +136,16 @@ pub fn take_beside(
     text: &[u8],
     machine: &[Section],
     sections: &[Section],
-    taken: &mut KeySet,
+    known_keys: &mut KeySet,
 ) -> Result<(), ConfigFault>
     requires { AreEntriesDistinct machine.now }
-    ensures value { Passes result (entries_new_beside text.now machine.now taken.old sections.now) }
-    ensures known { IfOk result (λ _. GainsKeys machine.now taken.old taken.new (is_among (keys_of_sections sections.now))) }
+    ensures value { Passes result (entries_new_beside text.now machine.now known_keys.old sections.now) }
+    ensures known { IfOk result (λ _. GainsKeys machine.now known_keys.old known_keys.new
+        (is_among (keys_of_sections sections.now))) }
 {
     if !have_entries(sections) {
         return Ok(());
     }
-    take_machine(alloc, machine, taken)?;
-    take_entries(alloc, text, sections, taken)
+    take_machine(alloc, machine, known_keys)?;
+    take_entries(alloc, text, sections, known_keys)
 }

@@ -6,11 +6,11 @@ ghost use Rattle.mpf_config.specs.BundleText.{mode_text_name, name_in, piece_len
 ghost use Rattle.mpf_config.specs.Reading.{text_at, texts_at};
 ghost use Rattle.mpf_config.specs.Gives.{GivesText, GivesTexts, GivesBytes, machine_text_in};
 
-use crate::fault::{ConfigFault, FaultKind};
+use crate::fault::{BundleFaultKind, ConfigFault};
 use crate::spot::{NONE, line_of};
 use memchr::{memchr_iter, memmem};
 use std::alloc::{AllocError, Global};
-use yaml_bytes::{behind_blanks, is_blank, split_line, trimmed};
+use yaml_bytes::{behind_blanks, is_blank, split_line, trim_blanks};
 
 /// The name of the machine text.
 pub const MACHINE_NAME: &[u8] = b"config/config.yaml";
@@ -33,7 +33,7 @@ pub fn mode_text_name(alloc: Global, mode: &[u8]) -> Result<Vec<u8>, AllocError>
 
 /// A text, and the name in the line `@ NAME` in front of it.
 #[derive(Clone, Copy)]
-pub struct Text<'a> {
+pub struct NamedText<'a> {
     pub name: &'a [u8],
     pub text: &'a [u8],
 }
@@ -43,7 +43,7 @@ fn name_in(line: &[u8]) -> Option<&[u8]>
     ensures { option_slice (λ name. name) result ≡ name_in line.now }
 {
     match line {
-        [b'@', b, rest @ ..] if is_blank(*b) => Some(trimmed(behind_blanks(rest))),
+        [b'@', b, rest @ ..] if is_blank(*b) => Some(trim_blanks(behind_blanks(rest))),
         _ => None,
     }
 }
@@ -71,26 +71,26 @@ fn line_ends(front: &[u8]) -> usize
 /// The text of a piece of the bundle, which comes after this front of it. The fault is Bundle at the
 /// line where the piece begins. Lines are counted only then.
 #[tactic(auto, unfolding(crate::specs::Reading::text_at))]
-fn text_of<'a>(alloc: Global, front: &[u8], piece: &'a [u8]) -> Result<Text<'a>, ConfigFault>
+fn text_of<'a>(alloc: Global, front: &[u8], piece: &'a [u8]) -> Result<NamedText<'a>, ConfigFault>
     requires { length front.now ≤ 2 ^ 23 }
     ensures { GivesText result (text_at (1 + line_ends front.now, piece.now)) }
 {
     let (first, after) = split_line(piece);
     let Some(name) = name_in(first) else {
         let line = 1 + line_ends(front) as u32;
-        let fault = line_of(NONE, line).fault(alloc, FaultKind::Bundle)?;
+        let fault = line_of(NONE, line).fault(alloc, BundleFaultKind::Bundle)?;
         return Err(ConfigFault::Bundle(fault));
     };
     let text = match after {
         None => &[],
         Some(after) => after,
     };
-    Ok(Text { name, text })
+    Ok(NamedText { name, text })
 }
 
 /// The texts of a bundle, in its order. The fault is Bundle at the first line that has to be `@ NAME`
 /// and is not: the first one, or one that begins with `@`. An empty bundle has no texts.
-pub fn texts(alloc: Global, bundle: &[u8]) -> Result<Vec<Text<'_>>, ConfigFault>
+pub fn texts(alloc: Global, bundle: &[u8]) -> Result<Vec<NamedText<'_>>, ConfigFault>
     requires { length bundle.now ≤ 2 ^ 23 }
     ensures { GivesTexts result (texts_at bundle.now) }
 {
@@ -107,7 +107,7 @@ pub fn texts(alloc: Global, bundle: &[u8]) -> Result<Vec<Text<'_>>, ConfigFault>
 }
 
 /// The machine text, wherever it is among the texts. The fault is Bundle if it is not there.
-pub fn machine_text<'a>(alloc: Global, texts: &[Text<'a>]) -> Result<&'a [u8], ConfigFault>
+pub fn machine_text<'a>(alloc: Global, texts: &[NamedText<'a>]) -> Result<&'a [u8], ConfigFault>
     ensures { GivesBytes result (machine_text_in texts.now) }
 {
     for text in texts {
@@ -115,6 +115,6 @@ pub fn machine_text<'a>(alloc: Global, texts: &[Text<'a>]) -> Result<&'a [u8], C
             return Ok(text.text);
         }
     }
-    let fault = line_of(NONE, 1).fault(alloc, FaultKind::Bundle)?;
+    let fault = line_of(NONE, 1).fault(alloc, BundleFaultKind::Bundle)?;
     Err(ConfigFault::Bundle(fault))
 }

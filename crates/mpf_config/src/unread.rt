@@ -4,14 +4,15 @@
 ghost use Rattle.std.specs.Prelude.{◌≡◌, IfOk, IfErr};
 ghost use Rattle.mpf_config.specs.Unread.{is_skipped, has_text};
 ghost use Rattle.config_faults.specs.declared.fault.ConfigFault.TheVariants.{NoMemory};
-ghost use Rattle.mpf_config.specs.Inside.{texts_view};
-ghost use Rattle.mpf_config.specs.Gives.{GainsNotes, IsSkippedNote, IsAbsentNote, IsUnlistedNote, notes_on_absent, notes_on_unlisted, AreMachineNotes, AreModeNotes};
+ghost use Rattle.mpf_config.specs.CodeViews.{texts_view};
+ghost use Rattle.mpf_config.specs.Gives.{GainsNotes, IsSkippedNote, IsAbsentNote, IsUnlistedNote, notes_on_absent};
+ghost use Rattle.mpf_config.specs.Gives.{notes_on_unlisted, AreMachineNotes, AreModeNotes};
 
 use crate::config::{Note, NoteKind};
 use crate::fault::ConfigFault;
 use crate::listed::mode_of;
 use crate::listed_mode::ListedMode;
-use crate::texts::{MACHINE_NAME, Text};
+use crate::texts::{MACHINE_NAME, NamedText};
 use mpf_tables::tables::MODES_NAME;
 use section_tables::is_one_of;
 use setting_values::values::Name;
@@ -19,7 +20,7 @@ use std::alloc::{AllocError, Global};
 use yaml_subset::tree::{Key, Tree};
 
 /// The sections that are carried out nowhere.
-const SKIPPED: [&[u8]; 32] = [
+const SKIPPED_SECTIONS: [&[u8]; 32] = [
     b"lights",
     b"light_player",
     b"light_settings",
@@ -58,11 +59,11 @@ const SKIPPED: [&[u8]; 32] = [
 pub fn is_skipped(name: &[u8]) -> bool
     ensures { result ≡ is_skipped name.now }
 {
-    is_one_of(&SKIPPED, name)
+    is_one_of(&SKIPPED_SECTIONS, name)
 }
 
 /// The note on a skipped section of the text of this name.
-fn skipped(alloc: Global, text: &[u8], entry: &(Key, Tree)) -> Result<Note, AllocError>
+fn skipped_note(alloc: Global, text: &[u8], entry: &(Key, Tree)) -> Result<Note, AllocError>
     ensures { IfOk result (λ note. IsSkippedNote text.now entry.now note) }
 {
     let key = &entry.0;
@@ -87,7 +88,7 @@ fn absent(alloc: Global, mode: &Name) -> Result<Note, AllocError>
 }
 
 /// The note on an unlisted text.
-fn unlisted(alloc: Global, text: Text<'_>) -> Result<Note, AllocError>
+fn unlisted_note(alloc: Global, text: NamedText<'_>) -> Result<Note, AllocError>
     ensures { IfOk result (λ note. IsUnlistedNote text.entry note) }
 {
     Ok(Note {
@@ -99,7 +100,7 @@ fn unlisted(alloc: Global, text: Text<'_>) -> Result<Note, AllocError>
 }
 
 /// Whether there is a text of this name.
-fn has_text(texts: &[Text<'_>], name: &[u8]) -> bool
+fn has_text(texts: &[NamedText<'_>], name: &[u8]) -> bool
     ensures { result ≡ has_text (texts_view texts.now) name.now }
 {
     texts.iter().any(|text| text.name == name)
@@ -109,7 +110,7 @@ fn has_text(texts: &[Text<'_>], name: &[u8]) -> bool
 fn add_absent(
     alloc: Global,
     modes: &[ListedMode<'_>],
-    texts: &[Text<'_>],
+    texts: &[NamedText<'_>],
     notes: &mut Vec<Note>,
 ) -> Result<(), ConfigFault>
     ensures added { IfOk result (λ _. GainsNotes notes.old notes.new (notes_on_absent texts.now modes.now)) }
@@ -130,7 +131,7 @@ pub fn machine_notes(
     alloc: Global,
     sections: &[(Key, Tree)],
     modes: &[ListedMode<'_>],
-    texts: &[Text<'_>],
+    texts: &[NamedText<'_>],
 ) -> Result<Vec<Note>, ConfigFault>
     ensures are { IfOk result (λ notes. AreMachineNotes texts.now modes.now sections.now notes) }
     ensures fails { IfErr result (λ e. e ≡ NoMemory) }
@@ -139,7 +140,7 @@ pub fn machine_notes(
     for section in sections {
         let name = section.0.text.as_slice();
         if is_skipped(name) {
-            let note = skipped(alloc, MACHINE_NAME, section)?;
+            let note = skipped_note(alloc, MACHINE_NAME, section)?;
             notes.push(note)?;
         } else if name == MODES_NAME {
             add_absent(alloc, modes, texts, &mut notes)?;
@@ -160,7 +161,7 @@ pub fn mode_notes(
     let mut notes = Vec::new(alloc);
     for section in sections {
         if is_skipped(&section.0.text) {
-            let note = skipped(alloc, text, section)?;
+            let note = skipped_note(alloc, text, section)?;
             notes.push(note)?;
         }
     }
@@ -172,7 +173,7 @@ pub fn mode_notes(
 pub fn add_unlisted(
     alloc: Global,
     modes: &[ListedMode<'_>],
-    texts: &[Text<'_>],
+    texts: &[NamedText<'_>],
     notes: &mut Vec<Note>,
 ) -> Result<(), ConfigFault>
     ensures added { IfOk result (λ _. GainsNotes notes.old notes.new (notes_on_unlisted texts.now modes.now)) }
@@ -180,7 +181,7 @@ pub fn add_unlisted(
 {
     for text in texts {
         if text.name != MACHINE_NAME && mode_of(modes, text.name).is_none() {
-            let note = unlisted(alloc, *text)?;
+            let note = unlisted_note(alloc, *text)?;
             notes.push(note)?;
         }
     }

@@ -6,12 +6,12 @@ ghost use Rattle.mpf_config.specs.FaultLine.{yaml_kind_name};
 ghost use Rattle.mpf_config.specs.Reading.{text_tree_at};
 ghost use Rattle.mpf_config.specs.Gives.{GivesTree};
 
-use crate::fault::{ConfigFault, FaultKind};
+use crate::fault::{BundleFaultKind, ConfigFault};
 use crate::spot::line_of;
 use config_faults::Spot;
 use std::alloc::Global;
-use yaml_bytes::{split_line, trimmed};
-use yaml_subset::fault::{FaultKind as YamlKind, YamlFault};
+use yaml_bytes::{split_line, trim_blanks};
+use yaml_subset::fault::{TextFaultKind as YamlKind, YamlFault};
 use yaml_subset::keys::KeyHashing;
 use yaml_subset::reader::read_hashed;
 use yaml_subset::tree::Tree;
@@ -40,7 +40,7 @@ fn has_version(text: &[u8]) -> bool
     ensures { result ≡ has_version text.now }
 {
     let (line, _) = split_line(text);
-    trimmed(line) == VERSION_LINE
+    trim_blanks(line) == VERSION_LINE
 }
 
 /// The tree of the text of this name. The fault is Version, or Yaml with its kind as the key.
@@ -54,7 +54,7 @@ pub fn tree_of<'a>(
     ensures { GivesTree result (text_tree_at name.now text.now) }
 {
     if !has_version(text) {
-        let fault = line_of(name, 1).fault(alloc, FaultKind::Version)?;
+        let fault = line_of(name, 1).fault(alloc, BundleFaultKind::Version)?;
         return Err(ConfigFault::Bundle(fault));
     }
     match read_hashed(alloc, hashing, text) {
@@ -66,7 +66,7 @@ pub fn tree_of<'a>(
                 line: fault.line,
                 key: yaml_kind_name(fault.kind),
             };
-            let fault = spot.fault(alloc, FaultKind::Yaml(fault.kind))?;
+            let fault = spot.fault(alloc, BundleFaultKind::Yaml(fault.kind))?;
             Err(ConfigFault::Bundle(fault))
         }
     }

@@ -84,7 +84,8 @@ module _ {X : Type 0} (name : X → List ℕ) (d : X) (f : X → X) where
 
       by : (b : Bool) → bytes_eq m (name x) ≡ b → cond (not b) (1 + rest) 0 < suc (length xs)
           → (rest < length xs → set xs rest (f (get_or xs rest d)) ≡ map (where_named m) xs)
-          → set (x ∷ xs) (cond (not b) (1 + rest) 0) (f (get_or (x ∷ xs) (cond (not b) (1 + rest) 0) d)) ≡ where_named m x ∷ map (where_named m) xs
+          → set (x ∷ xs) (cond (not b) (1 + rest) 0) (f (get_or (x ∷ xs) (cond (not b) (1 + rest) 0) d))
+          ≡ where_named m x ∷ map (where_named m) xs
       by true is within more =
           let same : m ≡ name x = (bytes_eq-Decides m (name x)).0 is in
           ap₂ (λ y ys. y ∷ ys)

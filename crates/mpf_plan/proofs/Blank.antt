@@ -1,8 +1,8 @@
 -- The draft of no parts.
 use Rattle.std.proofs.Common.{◌≡◌, [], map, length, None, sym, ap, ◌∙◌, arith}
 use Rattle.plan_tables.specs.declared.table.Table.{Table, TheVariants.{Events, Switches, Coils, Variables}}
-use Rattle.plan_tables.specs.Inside.{action_lists, coils_view, mode_entry_view, switches_view}
-use Rattle.mpf_plan.specs.{declared.draft.Draft.Draft, PlanOf.{names_of, placed, plan_by}}
+use Rattle.plan_tables.specs.PlanFields.{action_lists, coils_view, mode_entry_view, switches_view}
+use Rattle.mpf_plan.specs.{declared.draft.Draft.Draft, PlanOf.{names_of, part_places, plan_by}}
 use Rattle.mpf_plan.{specs.Drafting.{AreNamesOf, IsDraftOf, kept_names}, proofs.Noted.kept_all}
 
 module _ (d : Draft) (names : AreNamesOf [] d.names) where
@@ -12,7 +12,7 @@ module _ (d : Draft) (names : AreNamesOf [] d.names) where
   pub blank_draft : d.modes.items ≡ [] → d.switches.items ≡ [] → d.coils.items ≡ [] → d.lists.items ≡ []
       → d.bindings.items ≡ [] → d.rows.items ≡ [] → d.row_lists.items ≡ []
       → d.game ≡ None → IsDraftOf [] d
-  unfolding names_of placed plan_by
+  unfolding names_of part_places plan_by
   blank_draft modes switches coils lists bindings rows row_lists game = record {
     names = names;
     switches = λ within. ap length switches ∙ sym (ap length (none Switches));

@@ -1,5 +1,6 @@
 -- The switches and the coils that the parts of rows give are those that the machine text defines.
-use Rattle.std.proofs.Common.{rules, ◌≡◌, ℕ, Bool, true, false, ◌||◌, if◌then◌else◌, List, [], ◌∷◌, ◌++◌, map, fold, Option, None, Some, refl, sym, ◌∙◌, ap}
+use Rattle.std.proofs.Common.{rules, ◌≡◌, ℕ, Bool, true, false, ◌||◌, if◌then◌else◌, List, [], ◌∷◌, ◌++◌, map, fold}
+use Rattle.std.proofs.Common.{Option, None, Some, refl, sym, ◌∙◌, ap}
 use Rattle.std.specs.{Prelude.{is_some, option_map}, Str.bytes_eq, List.{flat_map, list_any, last_or}}
 use Rattle.mpf_sections.specs.{Rows.{Switch, Coil}, Typed.switches_in, TypedCoils.coils_in}
 use Rattle.mpf_config.specs.Rows.{Rows}
@@ -60,13 +61,17 @@ module _ (name : List ℕ) where
   limits_given (p ∷ ps) = limits_given ps
 
   last_limits : (cs : List Coil) (o : Option Coil)
-      → last_or (option_map limits_of_coil o) (flat_map limits_in (map as_given cs)) ≡ option_map limits_of_coil (fold (latest_coil name) o cs)
+      → last_or (option_map limits_of_coil o) (flat_map limits_in (map as_given cs))
+      ≡ option_map limits_of_coil (fold (latest_coil name) o cs)
   last_limits [] o = refl
   last_limits (c ∷ cs) o = by (is_called c) (last_limits cs (latest_coil name o c))
     where
       by : (b : Bool)
-          → last_or (option_map limits_of_coil (if b then Some c else o)) (flat_map limits_in (map as_given cs)) ≡ option_map limits_of_coil (fold (latest_coil name) (latest_coil name o c) cs)
-          → last_or (option_map limits_of_coil o) ((if b then limits_of_coil c ∷ [] else []) ++ flat_map limits_in (map as_given cs)) ≡ option_map limits_of_coil (fold (latest_coil name) (latest_coil name o c) cs)
+          → last_or (option_map limits_of_coil (if b then Some c else o)) (flat_map limits_in (map as_given cs))
+          ≡ option_map limits_of_coil (fold (latest_coil name) (latest_coil name o c) cs)
+          → last_or (option_map limits_of_coil o)
+          ((if b then limits_of_coil c ∷ [] else []) ++ flat_map limits_in (map as_given cs))
+          ≡ option_map limits_of_coil (fold (latest_coil name) (latest_coil name o c) cs)
       by true rest = rest
       by false rest = rest
 
@@ -74,12 +79,15 @@ module _ (name : List ℕ) where
 
 module _ (rows : Rows) (name : List ℕ) where
   -- a switch of this name is given if the machine text has one
-  pub switch_is_given : list_any (bytes_eq name) (in_table Switches (flat_map part_gives (parts_of rows))) ≡ has_switch rows.machine name
+  pub switch_is_given : list_any (bytes_eq name) (in_table Switches (flat_map part_gives (parts_of rows)))
+      ≡ has_switch rows.machine name
   switch_is_given =
-      ap (list_any (bytes_eq name)) (gives_switches (parts_of rows) ∙ switches_given rows) ∙ any_mapped (bytes_eq name) (λ (s : Switch). s.name.text) (flat_map switches_in rows.machine)
+      ap (list_any (bytes_eq name)) (gives_switches (parts_of rows) ∙ switches_given rows)
+      ∙ any_mapped (bytes_eq name) (λ (s : Switch). s.name.text) (flat_map switches_in rows.machine)
 
   -- and so is a coil
-  pub coil_is_given : list_any (bytes_eq name) (in_table Coils (flat_map part_gives (parts_of rows))) ≡ is_some (coil_called rows.machine name)
+  pub coil_is_given : list_any (bytes_eq name) (in_table Coils (flat_map part_gives (parts_of rows)))
+      ≡ is_some (coil_called rows.machine name)
   coil_is_given =
       let cs = flat_map coils_in rows.machine in
       ap (list_any (bytes_eq name)) (gives_coils (parts_of rows) ∙ ap (map coil_name) (coils_given rows))
@@ -89,4 +97,5 @@ module _ (rows : Rows) (name : List ℕ) where
 
   -- what parts say of its limits is what its entry says
   pub limits_are_given : limits_called (parts_of rows) name ≡ option_map limits_of_coil (coil_called rows.machine name)
-  limits_are_given = ap (last_or None) (limits_given name (parts_of rows) ∙ ap (flat_map (limits_in name)) (coils_given rows)) ∙ last_limits name (flat_map coils_in rows.machine) None
+  limits_are_given = ap (last_or None) (limits_given name (parts_of rows)
+      ∙ ap (flat_map (limits_in name)) (coils_given rows)) ∙ last_limits name (flat_map coils_in rows.machine) None

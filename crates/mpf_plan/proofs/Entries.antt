@@ -1,4 +1,5 @@
--- One entry for each name of a switch, and of a coil: a new name has a blank entry, and uses of other tables leave them.
+-- One entry for each name of a switch, and of a coil: a new name has a blank entry, and uses of other tables leave
+-- them.
 use Rattle.std.proofs.Common.{◌≡◌, ℕ, ℤ, ◌+◌, ◌<◌, ◌≤◌, ◌⊎◌, inl, inr, Bool, true, false, cond, List, [], ◌∷◌, ◌++◌}
 use Rattle.std.proofs.Common.{map, length, take, get_or, Vec, Global, refl, sym, ap, ap₂, ◌∙◌, subst, append-nil}
 use Rattle.std.proofs.{Common.{append_assoc, arith}, Math.Seq.{drop-append_seam, drop-length}}
@@ -10,7 +11,7 @@ use Rattle.plan_tables.specs.declared.entries.{CoilLimits.CoilLimits, EventId.Ev
 use Rattle.plan_tables.specs.declared.{entries.{SwitchEntry.SwitchEntry, VariableId.VariableId}, devices.RowId.RowId}
 use Rattle.machine_settings.specs.declared.words.VariableAction.{VariableAction}
 use Rattle.machine_definitions.specs.Players.{player_event}
-use Rattle.plan_tables.specs.Inside.{coil_entry_view, coils_view, switch_entry_view, switches_view}
+use Rattle.plan_tables.specs.PlanFields.{coil_entry_view, coils_view, switch_entry_view, switches_view}
 use Rattle.plan_tables.specs.PlanView.{no_coil, no_switch}
 use Rattle.plan_parts.specs.declared.effects.Effect as effects
 use Rattle.plan_parts.specs.{Effects.changes, View.effect_view}
@@ -25,7 +26,8 @@ use Rattle.mpf_plan.proofs.Noted.{kept_all, notes_more, numbered_both, uses_at, 
 
 -- ---- the names that are kept, as uses come
 
-module _ (a b : held_names.Names) (before us : List Use) (t : Table) (has : HasNames t) (are : AreNamesOf before a) (after : AreNamesOf (before ++ us) b) (within : AreWithin (before ++ us)) where
+module _ (a b : held_names.Names) (before us : List Use) (t : Table) (has : HasNames t) (are : AreNamesOf before a)
+    (after : AreNamesOf (before ++ us) b) (within : AreWithin (before ++ us)) where
   was : kept_names a t ≡ names_by before t
   was = kept_all before a t are (within_front before us within t has)
 
@@ -68,7 +70,8 @@ module _ {E V : Type 0} (view : List (List ℕ) → List E → List V) (blank : 
   abbrev pub HasBlank : (xs ys : List E) → Type 0
   HasBlank xs ys =
       (length ys ≡ length xs + 1)
-      × ((ns : List (List ℕ)) (n : List ℕ) → length ns ≡ length xs → view (ns ++ n ∷ []) ys ≡ view ns xs ++ blank n ∷ [])
+      × ((ns : List (List ℕ)) (n : List ℕ) → length ns ≡ length xs
+      → view (ns ++ n ∷ []) ys ≡ view ns xs ++ blank n ∷ [])
 
   -- and so it is if there is a new name for it
   abbrev pub HasBlankWhereNew : (kb : List (List ℕ)) (xs ys : List E) → Type 0
@@ -121,7 +124,15 @@ blank_switch xs ys e more listeners active inactive kind confirms ns n same =
     ap (switches_view (ns ++ n ∷ [])) more
     ∙ ap (map switch_entry_view) (zip_push ns xs n e (sym same))
     ∙ map_push switch_entry_view (zip ns xs) (n, e)
-    ∙ (λ i. switches_view ns xs ++ record { name = n; kind = kind i; listeners = listeners i; confirms_playfield = confirms i; active = active i; inactive = inactive i } ∷ [])
+    ∙ (λ i. switches_view ns xs
+    ++ record {
+      name = n;
+      kind = kind i;
+      listeners = listeners i;
+      confirms_playfield = confirms i;
+      active = active i;
+      inactive = inactive i;
+    } ∷ [])
 
 pub switch_noted : (a b : held_names.Names) (before after : Vec SwitchEntry Global) (n : List ℕ)
     → Notes a b ((Switches, n) ∷ [])
@@ -195,42 +206,53 @@ module _ (a b c : held_names.Names) (x y z : Vec CoilLimits Global) (us vs : Lis
   pub coils_more : NotesCoils a b x y us → NotesCoils b c y z vs → NotesCoils a c x z (us ++ vs)
   coils_more first next = record {
     names = notes_more a b c us vs first.names next.names;
-    count = λ before are within each. next.count (before ++ us) (first.names before are) (within_after before us vs within) (first.count before are (within_before before us vs within) each);
+    count = λ before are within each. next.count (before ++ us) (first.names before are)
+        (within_after before us vs within) (first.count before are (within_before before us vs within) each);
     entries = λ before are within each.
         let front = within_before before us vs within in
         let all = within_after before us vs within in
         let mid = first.names before are in
         next.entries (before ++ us) mid all (first.count before are front each)
-        ∙ ap (λ l. l ++ map named_coil (new_names (kept_names b Coils) (kept_names c Coils))) (first.entries before are front each)
-        ∙ append_assoc (coils_view (kept_names a Coils) x.items) (map named_coil (new_names (kept_names a Coils) (kept_names b Coils))) (map named_coil (new_names (kept_names b Coils) (kept_names c Coils)))
+        ∙ ap (λ l. l ++ map named_coil (new_names (kept_names b Coils) (kept_names c Coils)))
+        (first.entries before are front each)
+        ∙ append_assoc (coils_view (kept_names a Coils) x.items)
+        (map named_coil (new_names (kept_names a Coils) (kept_names b Coils)))
+        (map named_coil (new_names (kept_names b Coils) (kept_names c Coils)))
         ∙ ap (λ l. coils_view (kept_names a Coils) x.items ++ l)
-        (news_more named_coil (kept_names a Coils) (kept_names b Coils) (kept_names c Coils) (added_names before us Coils) (added_names (before ++ us) vs Coils)
+        (news_more named_coil (kept_names a Coils) (kept_names b Coils) (kept_names c Coils)
+        (added_names before us Coils) (added_names (before ++ us) vs Coils)
         (kept_more a b before us Coils tt are mid front)
         (kept_more b c (before ++ us) vs Coils tt mid (next.names (before ++ us) mid) all));
   }
 
 -- one effect more of a list
-pub effects_next : (a b c : held_names.Names) (x y z : Vec CoilLimits Global) (es : List effects.Effect) (i : ℕ) (d : effects.Effect)
+pub effects_next : (a b c : held_names.Names) (x y z : Vec CoilLimits Global) (es : List effects.Effect) (i : ℕ)
+    (d : effects.Effect)
     → i < length es
     → NotesCoils a b x y (flat_map uses_by (take i es)) → NotesEffects b c y z (effect_view (get_or es i d) ∷ [])
     → NotesCoils a c x z (flat_map uses_by (take (i + 1) es))
 effects_next a b c x y z es i d within first next =
     subst (NotesCoils a c x z) (sym (uses_at uses_by es i d within))
-    (coils_more a b c x y z (flat_map uses_by (take i es)) (uses_by (get_or es i d)) first (subst (NotesCoils b c y z) (append-nil (uses_by (get_or es i d))) next))
+    (coils_more a b c x y z (flat_map uses_by (take i es)) (uses_by (get_or es i d)) first
+    (subst (NotesCoils b c y z) (append-nil (uses_by (get_or es i d))) next))
 
 -- ---- what an effect does, by number
 
 -- a variable that is changed: its event is noted first
-module _ (a b c : held_names.Names) (v : List ℕ) (coils : Vec CoilLimits Global) (first : Notes a b ((Events, player_event v) ∷ [])) where
+module _ (a b c : held_names.Names) (v : List ℕ) (coils : Vec CoilLimits Global)
+    (first : Notes a b ((Events, player_event v) ∷ [])) where
   pub change_noted : Notes b c ((Variables, v) ∷ [])
       → NotesCoils a c coils coils ((Events, player_event v) ∷ (Variables, v) ∷ [])
   change_noted next =
-      coils_stay a c coils ((Events, player_event v) ∷ (Variables, v) ∷ []) refl (notes_more a b c ((Events, player_event v) ∷ []) ((Variables, v) ∷ []) first next)
+      coils_stay a c coils ((Events, player_event v) ∷ (Variables, v) ∷ []) refl
+      (notes_more a b c ((Events, player_event v) ∷ []) ((Variables, v) ∷ []) first next)
 
   pub change_numbered : (row : RowId) (action : VariableAction) (number : ℤ) (event : EventId) (variable : VariableId)
       → IsNumbered a ((Events, player_event v) ∷ []) (λ ns. event_of (ns Events) (player_event v)) event
       → IsNumbered b ((Variables, v) ∷ []) (λ ns. variable_of (ns Variables) v) variable
-      → IsNumbered a (effect_uses (changes v action number)) (λ ns. action_of ns row (changes v action number)) (Change variable action number event)
+      → IsNumbered a (effect_uses (changes v action number)) (λ ns. action_of ns row (changes v action number))
+      (Change variable action number event)
   change_numbered row action number event variable named known =
-      numbered_both (λ e k. Change k action number e) (λ ns. event_of (ns Events) (player_event v)) (λ ns. variable_of (ns Variables) v) event variable a b
+      numbered_both (λ e k. Change k action number e) (λ ns. event_of (ns Events) (player_event v))
+      (λ ns. variable_of (ns Variables) v) event variable a b
       ((Events, player_event v) ∷ []) ((Variables, v) ∷ []) (event_stays (player_event v)) first named known

@@ -1,8 +1,9 @@
--- What holds of names, and of what is made of them, holds of the name of every event of a plan; its switches have names.
+-- What holds of names, and of what is made of them, holds of the name of every event of a plan; its switches have
+-- names.
 use Rattle.std.proofs.Common.{rules, ℕ, List, [], ◌∷◌, ◌++◌, sym, subst}
 use Rattle.std.specs.{Prelude.{Option, IfSome}, List.{All, flat_map}}
 use Rattle.std.proofs.lemmas.List.Elements.{All-nil, All-cons, All-head, All-tail, All-append, All-map, All-weaker}
-use Rattle.mpf_values.specs.Events.{Condition, Event}
+use Rattle.mpf_values.specs.Events.{EventCondition, Event}
 use Rattle.mpf_config.specs.{Rows.Rows, Named.IsNamedMode}
 use Rattle.mpf_sections.specs.Named.{IsName, IsNamed}
 use Rattle.machine_definitions.specs.GameEvents.{game_event_names}
@@ -48,7 +49,7 @@ module _ (P : List ℕ → Type 0) where
   of_events : (ns : List (List ℕ)) → All P ns → All IsFitUse (uses_of Events ns)
   of_events ns h = All-map IsFitUse (λ n. (Events, n)) ns h
 
-  of_condition : (o : Option Condition) → IfSome o (λ c. IsName c.variable) → All IsFitUse (condition_uses o)
+  of_condition : (o : Option EventCondition) → IfSome o (λ c. IsName c.variable) → All IsFitUse (condition_uses o)
   of_condition x1 h = search (rules, All-cons, All-nil)
 
   of_event : (e : Event) → IsFitEvent P e → All IsFitUse (event_uses e)
@@ -85,15 +86,18 @@ module _ (P : List ℕ → Type 0) where
     of_settings (game min_balls balls_per_game max_players) h = of_events game_event_names of.game_events
     of_settings (mode name s) h =
         of_events (mode_event_names name)
-        (All-map P (λ which. mode_event_name which name) (WillStart ∷ Starting ∷ Started ∷ Stopping ∷ Stopped ∷ []) (λ i which within. of.mode _ name h))
+        (All-map P (λ which. mode_event_name which name) (WillStart ∷ Starting ∷ Started ∷ Stopping ∷ Stopped ∷ [])
+        (λ i which within. of.mode _ name h))
     of_settings (handler whose e reaction) h = of_event e h.0
     of_settings (device whose d) h =
         let listens = uses_of Switches d.listens in
-        let handled = flat_map (λ (x : Event × Act). event_uses x.0) d.handled in
-        All-append IsFitUse (listens ++ handled) (uses_of Events d.mentioned)
-        (All-append IsFitUse listens handled (All-map IsFitUse (λ n. (Switches, n)) d.listens h.listens)
-        (All-flat_map IsFitUse (λ (x : Event × Act). event_uses x.0) d.handled (All-weaker (λ (x : Event × Act). IsFitEvent P x.0) (λ x. All IsFitUse (event_uses x.0)) (λ x k. of_event x.0 k) d.handled h.handled)))
-        (of_events d.mentioned h.mentioned)
+        let event_acts = flat_map (λ (x : Event × Act). event_uses x.0) d.event_acts in
+        All-append IsFitUse (listens ++ event_acts) (uses_of Events d.other_mentions)
+        (All-append IsFitUse listens event_acts (All-map IsFitUse (λ n. (Switches, n)) d.listens h.listens)
+        (All-flat_map IsFitUse (λ (x : Event × Act). event_uses x.0) d.event_acts
+        (All-weaker (λ (x : Event × Act). IsFitEvent P x.0) (λ x. All IsFitUse (event_uses x.0))
+        (λ x k. of_event x.0 k) d.event_acts h.event_acts)))
+        (of_events d.other_mentions h.other_mentions)
     of_settings (mention table name) h = one (table, name) h
     of_settings unknown h = All-nil IsFitUse
 
@@ -107,7 +111,8 @@ module _ (P : List ℕ → Type 0) where
     uses_fit rows machine modes =
         All-flat_map IsFitUse part_uses (parts_of rows)
         (All-weaker (IsFitPart P) (λ p. All IsFitUse (part_uses p))
-        (λ p h. All-append IsFitUse (settings_uses p) (flat_map (flat_map effect_uses) (lists_in p)) (of_settings p h) (of_lists (lists_in p) (lists_fit p h)))
+        (λ p h. All-append IsFitUse (settings_uses p) (flat_map (flat_map effect_uses) (lists_in p)) (of_settings p h)
+        (of_lists (lists_in p) (lists_fit p h)))
         (parts_of rows) (parts_fit P of rows machine modes))
 
   -- if the names in the rows are names, so is what is made of them

@@ -46,7 +46,8 @@ module _ (ps : List Part) where
   named_in None is some which = absurd (true≢false (sym some))
   named_in (Some rules) is some which =
       ap
-      (λ (es : List EventId). slice_index_or (names Events) (slice_index_or es (order_of which) no_event).0 []) is.events
+      (λ (es : List EventId). slice_index_or (names Events) (slice_index_or es (order_of which) no_event).0 [])
+      is.events
       ∙ ap (λ (e : EventId). slice_index_or (names Events) e.0 [])
       (get_or-map (event_of (names Events)) game_event_names (order_of which) [] no_event (order_within which))
       ∙ at_number (names Events) (game_name which) (is.known which)

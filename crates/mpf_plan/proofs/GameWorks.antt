@@ -44,7 +44,8 @@ work_in names (Some rules) is some which =
     let count : length rules.events ≡ length game_events = ap length is.events ∙ length-map game_event_names
     (event_of (names Events)) in
     found_work rules e count
-    (list_any_at (λ f. f.0 == e.0) rules.events (order_of which) no_event (omega (arith, count, order_within which)) (eq-eqb e.0 e.0 refl))
+    (list_any_at (λ f. f.0 == e.0) rules.events (order_of which) no_event (omega (arith, count, order_within which))
+    (eq-eqb e.0 e.0 refl))
 
 -- ---- the work of its own
 
@@ -70,7 +71,9 @@ module _ (rows : Rows) where
       by works.Nothing some at = absurd some
       by (works.Mode m other) some at =
           absurd
-          (not_of_mode which other (mode_at plan m).name (sym (event_name_is rows m at.0 other) ∙ ap (name_of_event plan) (sym at.1) ∙ named))
+          (not_of_mode which other (mode_at plan m).name
+          (sym (event_name_is rows m at.0 other) ∙ ap (name_of_event plan) (sym at.1) ∙ named))
       by (works.Game other) some at =
           ap works.Game
-          (same_game other which (sym (game_event_is (parts_of rows) at.0 other) ∙ ap (name_of_event plan) (sym at.1) ∙ named))
+          (same_game other which (sym (game_event_is (parts_of rows) at.0 other) ∙ ap (name_of_event plan) (sym at.1)
+          ∙ named))

@@ -1,5 +1,7 @@
 -- A draft to which one part is added: what each of its tables gains makes it the draft of one part more.
-use Rattle.std.proofs.Common.{rules, ◌≡◌, ℕ, ◌+◌, ◌*◌, ◌≤◌, Bool, true, false, not, ◌||◌, List, [], ◌∷◌, ◌++◌, length, map, filter, drop, refl, sym, ap, ap₂, ◌∙◌, subst, append-nil, append_assoc, length-append, true≢false, arith, Option}
+use Rattle.std.proofs.Common.{rules, ◌≡◌, ℕ, ◌+◌, ◌*◌, ◌≤◌, Bool, true, false, not, ◌||◌, List, [], ◌∷◌, ◌++◌, length}
+use Rattle.std.proofs.Common.{map, filter, drop, refl, sym, ap, ap₂, ◌∙◌, subst, append-nil, append_assoc}
+use Rattle.std.proofs.Common.{length-append, true≢false, arith, Option}
 use Rattle.std.specs.{Str.bytes_eq, List.{All, flat_map, list_any, last_or, sum_by}}
 use Rattle.std.proofs.lemmas.List.{length-map, map-append, drop_at, Sums.{sum_by-append, sum_by-cons}}
 use Rattle.std.proofs.lemmas.List.Elements.{All-nil, All-cons, All-head, All-tail, All-weaker, filter_passes}
@@ -8,16 +10,21 @@ use Rattle.plan_tables.specs.declared.table.Table.{Table, TheVariants.{Events, S
 use Rattle.plan_tables.specs.declared.table.Table.TheVariants as tables
 use Rattle.plan_tables.specs.declared.{entries.ListId.ListId, devices.RowId.RowId}
 use Rattle.plan_tables.specs.{PlanView.{PlanView, PlanSwitch, PlanCoil}, Limits.{entry_count, limit_of}}
-use Rattle.plan_tables.specs.Inside.{action_lists, coils_view, mode_entry_view, switches_view}
+use Rattle.plan_tables.specs.PlanFields.{action_lists, coils_view, mode_entry_view, switches_view}
 use Rattle.plan_parts.specs.Parts.{Part, handler, device, run, start, stop, act_on}
 use Rattle.mpf_plan.specs.{declared.draft.Draft.Draft, Uses.{Names, first_uses}}
-use Rattle.mpf_plan.specs.PlanOf.{Use, in_table, part_uses, names_of, row_count, lists_in, plan_by, bindings_in, actions_in, device_row, first_list, plan_mode, rules_in, switch_called, coil_called}
-use Rattle.mpf_plan.specs.Drafting.{kept_names, names_by, AreNamesOf, AreWithin, HasNames, Notes, IfWithin, HasOneEach, named_switch, named_coil, new_names, draft_view, HasCounts, IsKept, IsDraftOf, Adds}
-use Rattle.mpf_plan.proofs.{Firsts.later_uses, Numbered.Stay, Noted.kept_all}
+use Rattle.mpf_plan.specs.PlanOf.{Use, in_table, part_uses, names_of, row_count, lists_in, plan_by, bindings_in}
+use Rattle.mpf_plan.specs.PlanOf.{actions_in, device_row, first_list, plan_mode, rules_in, switch_called, coil_called}
+use Rattle.mpf_plan.specs.Drafting.{kept_names, names_by, AreNamesOf, AreWithin, HasNames, Notes, IfWithin, HasOneEach}
+use Rattle.mpf_plan.specs.Drafting.{named_switch, named_coil, new_names, draft_view, HasCounts, IsKept, IsDraftOf, Adds}
+use Rattle.mpf_plan.proofs.{Firsts.later_uses, Called.coil_called-more}
+use Rattle.mpf_plan.proofs.{Numbered.Stay, Noted.kept_all, Kept.{parts_stay, switches_stay}}
 use Rattle.mpf_plan.proofs.Named.{names_more, names_grow, added_names, within_front, any_first, names_of-uses}
-use Rattle.mpf_plan.proofs.Laws.{list_count, binding_count, rows_of_all, lists_of_all, one_more, bindings_pushed, lists_pushed, rows_pushed, row_lists_pushed, modes_pushed, game_pushed, bindings_counted, rows_counted, lists_counted}
-use Rattle.mpf_plan.proofs.Kept.{bindings_kept, lists_kept, modes_kept, game_kept, rows_kept, row_lists_kept, uses_stay, parts_stay, switches_stay}
-use Rattle.mpf_plan.proofs.Called.{with_part, coil_with, switch_unused, coil_unused, switch_called-more, coil_called-more}
+use Rattle.mpf_plan.proofs.Laws.{list_count, binding_count, rows_of_all, lists_of_all, one_more, bindings_pushed}
+use Rattle.mpf_plan.proofs.Laws.{lists_pushed, rows_pushed, row_lists_pushed, modes_pushed, game_pushed}
+use Rattle.mpf_plan.proofs.Laws.{bindings_counted, rows_counted, lists_counted}
+use Rattle.mpf_plan.proofs.Kept.{bindings_kept, lists_kept, modes_kept, game_kept, rows_kept, row_lists_kept, uses_stay}
+use Rattle.mpf_plan.proofs.Called.{with_part, coil_with, switch_unused, coil_unused, switch_called-more}
 
 -- ---- limits
 
@@ -29,8 +36,10 @@ InLimits ps = (t : Table) → entry_count (plan_by (names_of ps) ps) t ≤ limit
 pub within_names : (ps : List Part) → InLimits ps → AreWithin (flat_map part_uses ps)
 unfolding plan_by names_of
 within_names ps limits Events named = limits Events
-within_names ps limits Switches named = let fits = limits Switches in omega (arith, fits, length-map (names_of ps Switches) (switch_called (names_of ps) ps))
-within_names ps limits Coils named = let fits = limits Coils in omega (arith, fits, length-map (names_of ps Coils) (coil_called (names_of ps) ps))
+within_names ps limits Switches named = let fits = limits Switches
+    in omega (arith, fits, length-map (names_of ps Switches) (switch_called (names_of ps) ps))
+within_names ps limits Coils named = let fits = limits Coils
+    in omega (arith, fits, length-map (names_of ps Coils) (coil_called (names_of ps) ps))
 within_names ps limits Variables named = limits Variables
 within_names ps limits tables.Bindings named = absurd named
 within_names ps limits tables.Rows named = absurd named
@@ -65,7 +74,8 @@ few_lists ps kept limits =
 -- what holds of parts holds of the first of them
 all_first : {X : Type 0} (P : X → Type 0) (xs ys : List X) → All P (xs ++ ys) → All P xs
 all_first P [] ys all = All-nil P
-all_first P (x ∷ xs) ys all = search (rules, All-cons, All-head, All-tail, all_first P xs ys (All-tail P x (xs ++ ys) all))
+all_first P (x ∷ xs) ys all =
+    search (rules, All-cons, All-head, All-tail, all_first P xs ys (All-tail P x (xs ++ ys) all))
 
 all_last : {X : Type 0} (P : X → Type 0) (xs : List X) (y : X) → All P (xs ++ y ∷ []) → P y
 all_last P [] y all = All-head P y [] all
@@ -86,30 +96,57 @@ fewer ps p limits = by
     by Events = let fits = limits Events in omega (arith, fits, grow Events)
     by Switches =
         let fits = limits Switches in
-        omega (arith, fits, grow Switches, length-map (names_of ps Switches) (switch_called (names_of ps) ps), length-map (names_of (ps ++ p ∷ []) Switches) (switch_called (names_of (ps ++ p ∷ [])) (ps ++ p ∷ [])))
+        omega (
+          arith,
+          fits,
+          grow Switches,
+          length-map (names_of ps Switches) (switch_called (names_of ps) ps),
+          length-map (names_of (ps ++ p ∷ []) Switches) (switch_called (names_of (ps ++ p ∷ [])) (ps ++ p ∷ [])),
+        )
     by Coils =
         let fits = limits Coils in
-        omega (arith, fits, grow Coils, length-map (names_of ps Coils) (coil_called (names_of ps) ps), length-map (names_of (ps ++ p ∷ []) Coils) (coil_called (names_of (ps ++ p ∷ [])) (ps ++ p ∷ [])))
+        omega (
+          arith,
+          fits,
+          grow Coils,
+          length-map (names_of ps Coils) (coil_called (names_of ps) ps),
+          length-map (names_of (ps ++ p ∷ []) Coils) (coil_called (names_of (ps ++ p ∷ [])) (ps ++ p ∷ [])),
+        )
     by Variables = let fits = limits Variables in omega (arith, fits, grow Variables)
     by tables.Bindings =
         let fits = limits tables.Bindings in
-        omega (arith, fits, bindings_counted (names_of ps) ps, bindings_counted (names_of (ps ++ p ∷ [])) (ps ++ p ∷ []), sum-more binding_count ps p)
+        omega (
+          arith,
+          fits,
+          bindings_counted (names_of ps) ps,
+          bindings_counted (names_of (ps ++ p ∷ [])) (ps ++ p ∷ []),
+          sum-more binding_count ps p,
+        )
     by tables.Rows =
         let fits = limits tables.Rows in
-        omega (arith, fits, rows_counted (names_of ps) ps, rows_counted (names_of (ps ++ p ∷ [])) (ps ++ p ∷ []), sum-more row_count ps p)
+        omega (
+          arith,
+          fits,
+          rows_counted (names_of ps) ps,
+          rows_counted (names_of (ps ++ p ∷ [])) (ps ++ p ∷ []),
+          sum-more row_count ps p,
+        )
 
 -- ---- switches and coils
 
-pub map_map : {X Y Z : Type 0} (f : Y → Z) (g : X → Y) (h : X → Z) → ((x : X) → h x ≡ f (g x)) → (xs : List X) → map h xs ≡ map f (map g xs)
+pub map_map : {X Y Z : Type 0} (f : Y → Z) (g : X → Y) (h : X → Z) → ((x : X) → h x ≡ f (g x)) → (xs : List X)
+    → map h xs ≡ map f (map g xs)
 map_map f g h same [] = refl
 map_map f g h same (x ∷ xs) = ap₂ (λ y ys. y ∷ ys) (same x) (map_map f g h same xs)
 
 pub map_same : {X Y : Type 0} (f g : X → Y) (xs : List X) → All (λ x. f x ≡ g x) xs → map f xs ≡ map g xs
 map_same f g [] all = refl
-map_same f g (x ∷ xs) all = ap₂ (λ y ys. y ∷ ys) (All-head (λ x. f x ≡ g x) x xs all) (map_same f g xs (All-tail (λ x. f x ≡ g x) x xs all))
+map_same f g (x ∷ xs) all = ap₂ (λ y ys. y ∷ ys) (All-head (λ x. f x ≡ g x) x xs all)
+    (map_same f g xs (All-tail (λ x. f x ≡ g x) x xs all))
 
 -- a name that is added was not used before
-not_used : (n : List ℕ) (us : List (List ℕ)) → not (list_any (λ m. bytes_eq n m) (first_uses us)) ≡ true → list_any (bytes_eq n) us ≡ false
+not_used : (n : List ℕ) (us : List (List ℕ)) → not (list_any (λ m. bytes_eq n m) (first_uses us)) ≡ true
+    → list_any (bytes_eq n) us ≡ false
 not_used n us new = sym (any_first n us) ∙ by (list_any (bytes_eq n) (first_uses us)) new
   where
     by : (b : Bool) → not b ≡ true → b ≡ false
@@ -120,12 +157,14 @@ module _ (us vs : List Use) where
   pub all_new : (t : Table) → All (λ n. list_any (bytes_eq n) (in_table t us) ≡ false) (added_names us vs t)
   all_new t =
       let is_new : List ℕ → Bool = λ n. not (list_any (λ m. bytes_eq n m) (first_uses (in_table t us))) in
-      All-weaker (λ n. is_new n ≡ true) (λ n. list_any (bytes_eq n) (in_table t us) ≡ false) (λ n new. not_used n (in_table t us) new) (added_names us vs t)
+      All-weaker (λ n. is_new n ≡ true) (λ n. list_any (bytes_eq n) (in_table t us) ≡ false)
+      (λ n new. not_used n (in_table t us) new) (added_names us vs t)
       (filter_passes is_new (first_uses (in_table t vs)))
 
   -- those are the names that are new
   pub new-added : (t : Table) → new_names (names_by us t) (names_by (us ++ vs) t) ≡ added_names us vs t
-  new-added t = ap (drop (length (names_by us t))) (names_more us vs t) ∙ drop_at (names_by us t) (added_names us vs t) (length (names_by us t)) refl
+  new-added t = ap (drop (length (names_by us t))) (names_more us vs t)
+      ∙ drop_at (names_by us t) (added_names us vs t) (length (names_by us t)) refl
 
 module _ (ps : List Part) (p : Part) where
   abbrev us : List Use
@@ -141,28 +180,39 @@ module _ (ps : List Part) (p : Part) where
   row = record { 0 = rows_of_all ps }
 
   -- the switches of one part more
-  switches_pushed : (plan_by names (ps ++ p ∷ [])).switches ≡ map (with_part names row p) ((plan_by old_names ps).switches ++ map named_switch (added_names us (part_uses p) Switches))
+  switches_pushed : (plan_by names (ps ++ p ∷ [])).switches
+      ≡ map (with_part names row p) ((plan_by old_names ps).switches
+      ++ map named_switch (added_names us (part_uses p) Switches))
   unfolding plan_by
   switches_pushed =
       let added = added_names us (part_uses p) Switches in
-      map_map (with_part names row p) (switch_called names ps) (switch_called names (ps ++ p ∷ [])) (λ n. switch_called-more names n ps p) (names Switches)
+      map_map (with_part names row p) (switch_called names ps) (switch_called names (ps ++ p ∷ []))
+      (λ n. switch_called-more names n ps p) (names Switches)
       ∙ ap (map (with_part names row p))
       (ap (map (switch_called names ps)) (names_more us (part_uses p) Switches)
       ∙ map-append (switch_called names ps) (old_names Switches) added
       ∙ ap₂ (λ xs ys. xs ++ ys)
       (λ i. map (λ n. sym (switches_stay n ps old_names names (uses_stay us (part_uses p))) i) (old_names Switches))
-      (map_same (switch_called names ps) named_switch added (All-weaker (λ n. list_any (bytes_eq n) (in_table Switches us) ≡ false) (λ n. switch_called names ps n ≡ named_switch n) (λ n none. switch_unused n names ps none) added (all_new us (part_uses p) Switches))))
+      (map_same (switch_called names ps) named_switch added
+      (All-weaker (λ n. list_any (bytes_eq n) (in_table Switches us) ≡ false)
+      (λ n. switch_called names ps n ≡ named_switch n) (λ n none. switch_unused n names ps none) added
+      (all_new us (part_uses p) Switches))))
 
-  coils_pushed : (plan_by names (ps ++ p ∷ [])).coils ≡ map (coil_with p) ((plan_by old_names ps).coils ++ map named_coil (added_names us (part_uses p) Coils))
+  coils_pushed : (plan_by names (ps ++ p ∷ [])).coils
+      ≡ map (coil_with p) ((plan_by old_names ps).coils ++ map named_coil (added_names us (part_uses p) Coils))
   unfolding plan_by
   coils_pushed =
       let added = added_names us (part_uses p) Coils in
-      map_map (coil_with p) (coil_called names ps) (coil_called names (ps ++ p ∷ [])) (λ n. coil_called-more names n ps p) (names Coils)
+      map_map (coil_with p) (coil_called names ps) (coil_called names (ps ++ p ∷ []))
+      (λ n. coil_called-more names n ps p) (names Coils)
       ∙ ap (map (coil_with p))
       (ap (map (coil_called names ps)) (names_more us (part_uses p) Coils)
       ∙ map-append (coil_called names ps) (old_names Coils) added
       ∙ ap (λ ys. map (coil_called old_names ps) (old_names Coils) ++ ys)
-      (map_same (coil_called names ps) named_coil added (All-weaker (λ n. list_any (bytes_eq n) (in_table Coils us) ≡ false) (λ n. coil_called names ps n ≡ named_coil n) (λ n none. coil_unused n names ps none) added (all_new us (part_uses p) Coils))))
+      (map_same (coil_called names ps) named_coil added
+      (All-weaker (λ n. list_any (bytes_eq n) (in_table Coils us) ≡ false)
+      (λ n. coil_called names ps n ≡ named_coil n) (λ n none. coil_unused n names ps none) added
+      (all_new us (part_uses p) Coils))))
 
 -- ---- one part more
 
@@ -177,9 +227,11 @@ coils_in d = coils_view (kept_names d.names Coils) d.coils.items
 pub record GainsPart (old new : Draft) (p : Part) (ns : Names) (row : RowId) (list : ListId) : Type 0 where
   pub modes : map mode_entry_view new.modes.items ≡ map mode_entry_view old.modes.items ++ plan_mode ns p
   pub switches : switches_in new
-      ≡ map (with_part ns row p) (switches_in old ++ map named_switch (new_names (kept_names old.names Switches) (kept_names new.names Switches)))
+      ≡ map (with_part ns row p) (switches_in old
+      ++ map named_switch (new_names (kept_names old.names Switches) (kept_names new.names Switches)))
   pub coils : coils_in new
-      ≡ map (coil_with p) (coils_in old ++ map named_coil (new_names (kept_names old.names Coils) (kept_names new.names Coils)))
+      ≡ map (coil_with p) (coils_in old ++ map named_coil
+      (new_names (kept_names old.names Coils) (kept_names new.names Coils)))
   pub lists : action_lists new.lists.items ≡ action_lists old.lists.items ++ actions_in ns row p
   pub bindings : new.bindings.items ≡ old.bindings.items ++ bindings_in ns row list p
   pub rows : new.rows.items ≡ old.rows.items ++ device_row row p
@@ -189,15 +241,18 @@ pub record GainsPart (old new : Draft) (p : Part) (ns : Names) (row : RowId) (li
 -- a part is added
 pub record Grows (old new : Draft) (p : Part) : Type 0 where
   pub names : Notes old.names new.names (part_uses p)
-  pub has_switches : IfWithin old.names (part_uses p) (HasOneEach Switches old.names old.switches → HasOneEach Switches new.names new.switches)
-  pub has_coils : IfWithin old.names (part_uses p) (HasOneEach Coils old.names old.coils → HasOneEach Coils new.names new.coils)
+  pub has_switches : IfWithin old.names (part_uses p)
+      (HasOneEach Switches old.names old.switches → HasOneEach Switches new.names new.switches)
+  pub has_coils : IfWithin old.names (part_uses p)
+      (HasOneEach Coils old.names old.coils → HasOneEach Coils new.names new.coils)
   pub count_bindings : length new.bindings.items ≡ length old.bindings.items + binding_count p
   pub count_rows : length new.rows.items ≡ length old.rows.items + row_count p
   pub count_lists : length new.lists.items ≡ length old.lists.items + list_count p
   pub tables : (us : List Use) → AreNamesOf us old.names → AreWithin (us ++ part_uses p)
       → HasOneEach Switches old.names old.switches → HasOneEach Coils old.names old.coils
       → IsKept p → length old.rows.items ≤ 65535 → length old.lists.items ≤ 4294967295
-      → GainsPart old new p (names_by (us ++ part_uses p)) (record { 0 = length old.rows.items }) (record { 0 = length old.lists.items })
+      → GainsPart old new p (names_by (us ++ part_uses p)) (record { 0 = length old.rows.items })
+      (record { 0 = length old.lists.items })
 
 module _ (old new : Draft) (p : Part) (g : Grows old new p) (ps : List Part) (d : IsDraftOf ps old) where
   abbrev before : List Use
@@ -214,9 +269,33 @@ module _ (old new : Draft) (p : Part) (g : Grows old new p) (ps : List Part) (d 
 
   counts : HasCounts qs new
   counts = record {
-    bindings = omega (arith, g.count_bindings, d.counts.bindings, bindings_counted (names_of ps) ps, bindings_counted (names_of qs) qs, sum-more binding_count ps p);
-    rows = omega (arith, g.count_rows, d.counts.rows, rows_counted (names_of ps) ps, rows_counted (names_of qs) qs, sum-more row_count ps p);
-    lists = omega (arith, g.count_lists, d.counts.lists, lists_counted (names_of ps) ps, lists_counted (names_of qs) qs, sum-more list_count ps p);
+    bindings =
+        omega (
+          arith,
+          g.count_bindings,
+          d.counts.bindings,
+          bindings_counted (names_of ps) ps,
+          bindings_counted (names_of qs) qs,
+          sum-more binding_count ps p,
+        );
+    rows =
+        omega (
+          arith,
+          g.count_rows,
+          d.counts.rows,
+          rows_counted (names_of ps) ps,
+          rows_counted (names_of qs) qs,
+          sum-more row_count ps p,
+        );
+    lists =
+        omega (
+          arith,
+          g.count_lists,
+          d.counts.lists,
+          lists_counted (names_of ps) ps,
+          lists_counted (names_of qs) qs,
+          sum-more list_count ps p,
+        );
   }
 
   module _ (kept : All IsKept qs) (limits : InLimits qs) where
@@ -238,9 +317,12 @@ module _ (old new : Draft) (p : Part) (g : Grows old new p) (ps : List Part) (d 
     gains : GainsPart old new p (names_by all) (record { 0 = rows_of_all ps }) (record { 0 = lists_of_all ps })
     gains =
         subst (λ n. GainsPart old new p (names_by all) (record { 0 = rows_of_all ps }) (record { 0 = n })) lists_here
-        (subst (λ n. GainsPart old new p (names_by all) (record { 0 = n }) (record { 0 = length old.lists.items })) rows_here
-        (g.tables before d.names within (d.switches (within_front before (part_uses p) within)) (d.coils (within_front before (part_uses p) within))
-        (all_last IsKept ps p kept) (omega (arith, rows_here, few_rows ps fits)) (omega (arith, lists_here, few_lists ps kept_before fits))))
+        (subst (λ n. GainsPart old new p (names_by all) (record { 0 = n }) (record { 0 = length old.lists.items }))
+        rows_here
+        (g.tables before d.names within (d.switches (within_front before (part_uses p) within))
+        (d.coils (within_front before (part_uses p) within))
+        (all_last IsKept ps p kept) (omega (arith, rows_here, few_rows ps fits))
+        (omega (arith, lists_here, few_lists ps kept_before fits))))
 
     was : draft_view old ≡ plan_by (names_by before) ps
     was = d.plan kept_before fits ∙ ap (λ ns. plan_by ns ps) (names_of-uses ps)
@@ -255,7 +337,8 @@ module _ (old new : Draft) (p : Part) (g : Grows old new p) (ps : List Part) (d 
     names_new : (t : Table) → HasNames t → kept_names new.names t ≡ names_by all t
     names_new t named = kept_all all new.names t (g.names before d.names) (within t named)
 
-    names_added : (t : Table) → HasNames t → new_names (kept_names old.names t) (kept_names new.names t) ≡ added_names before (part_uses p) t
+    names_added : (t : Table) → HasNames t
+        → new_names (kept_names old.names t) (kept_names new.names t) ≡ added_names before (part_uses p) t
     names_added t named = ap₂ new_names (names_old t named) (names_new t named) ∙ new-added before (part_uses p) t
 
     plan_grown : draft_view new ≡ plan_by (names_by all) qs
@@ -264,23 +347,35 @@ module _ (old new : Draft) (p : Part) (g : Grows old new p) (ps : List Part) (d 
         let ns = names_by all in
         let o = names_by before in
         λ i. record {
-          modes = (gains.modes ∙ ap (λ ms. ms ++ plan_mode ns p) (ap (λ v. v.modes) was ∙ modes_kept ps o ns stay) ∙ sym (modes_pushed ns ps p)) i;
+          modes = (gains.modes ∙ ap (λ ms. ms ++ plan_mode ns p) (ap (λ v. v.modes) was ∙ modes_kept ps o ns stay)
+              ∙ sym (modes_pushed ns ps p)) i;
           events = names_new Events tt i;
-          switches = (gains.switches ∙ ap₂ (λ ss more. map (with_part ns (record { 0 = rows_of_all ps }) p) (ss ++ map named_switch more)) (ap (λ v. v.switches) was) (names_added Switches tt) ∙ sym (switches_pushed ps p)) i;
-          coils = (gains.coils ∙ ap₂ (λ cs more. map (coil_with p) (cs ++ map named_coil more)) (ap (λ v. v.coils) was) (names_added Coils tt) ∙ sym (coils_pushed ps p)) i;
-          lists = (gains.lists ∙ ap (λ ls. ls ++ actions_in ns (record { 0 = rows_of_all ps }) p) (ap (λ v. v.lists) was ∙ lists_kept ps o ns stay) ∙ sym (lists_pushed ns ps p)) i;
-          bindings = (gains.bindings ∙ ap (λ bs. bs ++ bindings_in ns (record { 0 = rows_of_all ps }) (record { 0 = lists_of_all ps }) p) (ap (λ v. v.bindings) was ∙ bindings_kept ps o ns stay) ∙ sym (bindings_pushed ns ps p)) i;
-          rows = (gains.rows ∙ ap (λ rs. rs ++ device_row (record { 0 = rows_of_all ps }) p) (ap (λ v. v.rows) was ∙ rows_kept ps o ns) ∙ sym (rows_pushed ns ps p)) i;
-          row_lists = (gains.row_lists ∙ ap (λ ls. ls ++ first_list (record { 0 = lists_of_all ps }) p) (ap (λ v. v.row_lists) was ∙ row_lists_kept ps o ns) ∙ sym (row_lists_pushed ns ps p)) i;
+          switches = (gains.switches ∙ ap₂
+              (λ ss more. map (with_part ns (record { 0 = rows_of_all ps }) p) (ss ++ map named_switch more))
+              (ap (λ v. v.switches) was) (names_added Switches tt) ∙ sym (switches_pushed ps p)) i;
+          coils = (gains.coils ∙ ap₂ (λ cs more. map (coil_with p) (cs ++ map named_coil more)) (ap (λ v. v.coils) was)
+              (names_added Coils tt) ∙ sym (coils_pushed ps p)) i;
+          lists = (gains.lists ∙ ap (λ ls. ls ++ actions_in ns (record { 0 = rows_of_all ps }) p)
+              (ap (λ v. v.lists) was ∙ lists_kept ps o ns stay) ∙ sym (lists_pushed ns ps p)) i;
+          bindings = (gains.bindings ∙ ap (λ bs. bs
+              ++ bindings_in ns (record { 0 = rows_of_all ps }) (record { 0 = lists_of_all ps }) p)
+              (ap (λ v. v.bindings) was ∙ bindings_kept ps o ns stay) ∙ sym (bindings_pushed ns ps p)) i;
+          rows = (gains.rows ∙ ap (λ rs. rs ++ device_row (record { 0 = rows_of_all ps }) p)
+              (ap (λ v. v.rows) was ∙ rows_kept ps o ns) ∙ sym (rows_pushed ns ps p)) i;
+          row_lists = (gains.row_lists ∙ ap (λ ls. ls ++ first_list (record { 0 = lists_of_all ps }) p)
+              (ap (λ v. v.row_lists) was ∙ row_lists_kept ps o ns) ∙ sym (row_lists_pushed ns ps p)) i;
           variables = names_new Variables tt i;
-          game = (gains.game ∙ ap (λ g. last_or g (rules_in ns p)) (ap (λ v. v.game) was ∙ game_kept ps o ns stay) ∙ sym (game_pushed ns ps p)) i;
+          game = (gains.game ∙ ap (λ g. last_or g (rules_in ns p)) (ap (λ v. v.game) was ∙ game_kept ps o ns stay)
+              ∙ sym (game_pushed ns ps p)) i;
         }
 
   grown : IsDraftOf qs new
   grown = record {
     names = subst (λ us. AreNamesOf us new.names) (sym more) (g.names before d.names);
-    switches = λ fits. let within = subst AreWithin more fits in g.has_switches before d.names within (d.switches (within_front before (part_uses p) within));
-    coils = λ fits. let within = subst AreWithin more fits in g.has_coils before d.names within (d.coils (within_front before (part_uses p) within));
+    switches = λ fits. let within = subst AreWithin more fits
+        in g.has_switches before d.names within (d.switches (within_front before (part_uses p) within));
+    coils = λ fits. let within = subst AreWithin more fits
+        in g.has_coils before d.names within (d.coils (within_front before (part_uses p) within));
     counts = counts;
     plan = λ kept limits. plan_grown kept limits ∙ ap (λ ns. plan_by ns qs) (sym (names_of-uses qs ∙ ap names_by more));
   }
@@ -294,4 +389,5 @@ pub adds_none : (d : Draft) → Adds d d []
 adds_none d ps is = subst (λ qs. IsDraftOf qs d) (sym (append-nil ps)) is
 
 pub adds_more : (a b c : Draft) (ps qs : List Part) → Adds a b ps → Adds b c qs → Adds a c (ps ++ qs)
-adds_more a b c ps qs first then before is = subst (λ xs. IsDraftOf xs c) (append_assoc before ps qs) (then (before ++ ps) (first before is))
+adds_more a b c ps qs first then before is =
+    subst (λ xs. IsDraftOf xs c) (append_assoc before ps qs) (then (before ++ ps) (first before is))

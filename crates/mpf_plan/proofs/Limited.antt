@@ -23,7 +23,8 @@ module _ (n : List ℕ) (there : Names) where
       by u.0 u.1 (given_among us) (or_parts (is_lacking there u) (list_any (is_lacking there) us) has) is
     where
       by : (t : Table) (m : List ℕ)
-          → (list_any (is_lacking there) us ≡ false → list_any (bytes_eq n) (in_table Coils us) ≡ true → list_any (bytes_eq n) (there Coils) ≡ true)
+          → (list_any (is_lacking there) us ≡ false → list_any (bytes_eq n) (in_table Coils us) ≡ true
+          → list_any (bytes_eq n) (there Coils) ≡ true)
           → (is_lacking there (t, m) ≡ false) × (list_any (is_lacking there) us ≡ false)
           → list_any (bytes_eq n) (in_table Coils ((t, m) ∷ us)) ≡ true → list_any (bytes_eq n) (there Coils) ≡ true
       by Coils m rest has is = of_coil (bytes_eq n m) refl is
@@ -78,7 +79,8 @@ module _ (ps : List Part) where
       let there : Names = λ t. in_table t (flat_map part_gives ps) in
       let name = get_or (names Coils) k [] in
       found name ps None
-      (inr (given_among name there us (or_parts (list_any is_unknown ps) (list_any (is_lacking there) us) none).1 (sym (any_first name (in_table Coils us)) ∙ name_at (names Coils) k inside)))
+      (inr (given_among name there us (or_parts (list_any is_unknown ps) (list_any (is_lacking there) us) none).1
+      (sym (any_first name (in_table Coils us)) ∙ name_at (names Coils) k inside)))
 
   pub limits_by_name : lacks_name ps ≡ false → AreLimitsByName ps (plan_by names ps)
   unfolding plan_by
@@ -101,4 +103,9 @@ module _ (ps : List Part) where
       let name = (coil_at (plan_by names ps) c).name in
       let limits = subst (λ o. IfSome o AreLimits) said
       (last_such AreLimits None (flat_map (limits_for name) ps) tt (each name)) in
-      record { some_pulse = limits.some_pulse; pulse = limits.pulse; pulse_power = limits.pulse_power; hold_power = limits.hold_power })
+      record {
+        some_pulse = limits.some_pulse;
+        pulse = limits.pulse;
+        pulse_power = limits.pulse_power;
+        hold_power = limits.hold_power;
+      })

@@ -33,7 +33,8 @@ modes_of_plan : (rows : Rows) → HasModesOf rows (plan_of rows)
 unfolding plan_of
 modes_of_plan rows = name_there rows
 
-module _ (rows : Rows) (plan : PlanView) (is : plan_at rows ≡ Ok plan) (m : ModeId) (within : m.0 < length plan.modes) where
+module _ (rows : Rows) (plan : PlanView) (is : plan_at rows ≡ Ok plan) (m : ModeId)
+    (within : m.0 < length plan.modes) where
   -- an event of a mode has the name that the mode gives it
   pub mode_event-named : (which : ModeEvent)
       → name_of_event plan (mode_event plan m which) ≡ mode_event_name which (mode_at plan m).name
@@ -54,7 +55,8 @@ game_event-named rows plan is = subst HasGameNames (sym (plan_at-Ok rows plan is
 -- An event that has none of the names of events of modes in the rows, and none of those of the game that no row may
 -- post, has no work, or that of the start button.
 pub free-by_name : (rows : Rows) (plan : PlanView) → plan_at rows ≡ Ok plan → (e : EventId)
-    → ((name : List ℕ) → Contains (map (λ (x : ModeRows). x.name) rows.modes) name → (which : ModeEvent) → name_of_event plan e ≢ mode_event_name which name)
+    → ((name : List ℕ) → Contains (map (λ (x : ModeRows). x.name) rows.modes) name → (which : ModeEvent)
+    → name_of_event plan e ≢ mode_event_name which name)
     → All (λ name. name_of_event plan e ≢ name) reserved_game_events
     → (P : Work → Type 0) → P works.Nothing → P (works.Game SwStart) → P (work_of plan e)
 free-by_name rows plan is e other unreserved P nothing start = by (work_of plan e) (work_found plan e)

@@ -47,7 +47,8 @@ is_among events Stopping =
 is_among events Stopped =
     let e = events.stopped.0 in
     later (e == events.will_start.0) WillStart _
-    (later (e == events.starting.0) Starting _ (later (e == events.started.0) Started _ (later (e == events.stopping.0) Stopping _ (here e Stopped None))))
+    (later (e == events.starting.0) Starting _
+    (later (e == events.started.0) Started _ (later (e == events.stopping.0) Stopping _ (here e Stopped None))))
 
 or_rest : (n : ℕ) (o : Option ModeEvent) (rest : Work) → (o ≡ None → IsWork rest) → IsWork (work_or n o rest)
 or_rest n x2 rest h = search rules
@@ -118,7 +119,9 @@ module _ (rows : Rows) where
         let W : PlanMode → Type 0 = IsModeWithin (length (names Events)) in
         by which
         (subst W made_at
-        (All-get_or W plan.modes m.0 no_mode within (modes_within (HaveStates rows) (AreListsShort rows) (parts_of rows) (length rows.modes) (parts_are rows) modes-count)))
+        (All-get_or W plan.modes m.0 no_mode within
+        (modes_within (HaveStates rows) (AreListsShort rows) (parts_of rows) (length rows.modes) (parts_are rows)
+        modes-count)))
       where
         by : (which : ModeEvent) → IsModeWithin (length (names Events)) (mode_of names row)
             → number_among (names Events) (mode_event_name which row.name) < length (names Events)
@@ -143,7 +146,8 @@ module _ (rows : Rows) where
         apart m.0 n.0 [] before (omega (arith, in_n, modes-count, length-map rows.modes (λ (x : ModeRows). x.name)))
         (name_at m in_m [] ∙ same ∙ sym (name_at n in_n []))
 
-    module _ (m n : ModeId) (which other : ModeEvent) (in_m : m.0 < length plan.modes) (in_n : n.0 < length plan.modes) (same : mode_event plan m which ≡ mode_event plan n other) where
+    module _ (m n : ModeId) (which other : ModeEvent) (in_m : m.0 < length plan.modes) (in_n : n.0 < length plan.modes)
+        (same : mode_event plan m which ≡ mode_event plan n other) where
       one_name : mode_event_name which (mode_at plan m).name ≡ mode_event_name other (mode_at plan n).name
       one_name = sym (event_name_is m in_m which) ∙ ap (name_of_event plan) same ∙ event_name_is n in_n other
 
@@ -174,5 +178,6 @@ module _ (rows : Rows) where
         by works.Nothing some at = absurd some
         by (works.Game other) some at =
             absurd (not_of_mode other which (mode_at plan m).name
-            (sym (event_name_is m within which) ∙ ap (name_of_event plan) at.1 ∙ game_event_is (parts_of rows) at.0 other))
+            (sym (event_name_is m within which) ∙ ap (name_of_event plan) at.1
+            ∙ game_event_is (parts_of rows) at.0 other))
         by (works.Mode n other) some at = search (rules, one_number, one_event)

@@ -84,7 +84,8 @@ any_first name [] = refl
 any_first name (x ∷ xs) = by (any_first name xs) (bytes_eq name x) refl
   where
     by : list_any (bytes_eq name) (first_uses xs) ≡ list_any (bytes_eq name) xs → (b : Bool) → bytes_eq name x ≡ b
-        → (b || list_any (bytes_eq name) (filter (λ y. not (bytes_eq x y)) (first_uses xs))) ≡ (b || list_any (bytes_eq name) xs)
+        → (b || list_any (bytes_eq name) (filter (λ y. not (bytes_eq x y)) (first_uses xs)))
+        ≡ (b || list_any (bytes_eq name) xs)
     by rest x2 is = search (rules, any_filter)
 
 pub position_within : {X : Type 0} (p : X → Bool) (xs : List X) → list_any p xs ≡ true
@@ -123,7 +124,8 @@ number_stays us vs u named =
 -- a use is among those that begin with it
 first_there : (u : Use) (rest : List Use) → list_any (bytes_eq u.1) (in_table u.0 (u ∷ rest)) ≡ true
 first_there u rest =
-    ap (λ b. list_any (bytes_eq u.1) (map (λ (v : Use). v.1) (cond b (u ∷ filter (is_of u.0) rest) (filter (is_of u.0) rest)))) (eq-eqb (order_of u.0) (order_of u.0) refl)
+    ap (λ b. list_any (bytes_eq u.1) (map (λ (v : Use). v.1)
+    (cond b (u ∷ filter (is_of u.0) rest) (filter (is_of u.0) rest)))) (eq-eqb (order_of u.0) (order_of u.0) refl)
     ∙ or_left (bytes_eq u.1 u.1) (list_any (bytes_eq u.1) (in_table u.0 rest)) ((bytes_eq-Decides u.1 u.1).1 refl)
 
 -- uses are among themselves, whatever comes before them
@@ -132,7 +134,8 @@ are_named us [] = tt
 are_named us (u ∷ more) = (
   ap (list_any (bytes_eq u.1)) (in_table-append u.0 us (u ∷ more))
       ∙ list_any-append (bytes_eq u.1) (in_table u.0 us) (in_table u.0 (u ∷ more))
-      ∙ or_right (list_any (bytes_eq u.1) (in_table u.0 us)) (list_any (bytes_eq u.1) (in_table u.0 (u ∷ more))) (first_there u more),
+      ∙ or_right (list_any (bytes_eq u.1) (in_table u.0 us)) (list_any (bytes_eq u.1) (in_table u.0 (u ∷ more)))
+      (first_there u more),
   subst (λ l. AreNamed l more) (append_assoc us (u ∷ []) more) (are_named (us ++ u ∷ []) more),
 )
 

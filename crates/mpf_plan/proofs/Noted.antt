@@ -9,7 +9,7 @@ use Rattle.plan_tables.specs.declared.{names.NameTable.NameTable, devices.RowId.
 use Rattle.plan_tables.specs.declared.entries.{EventId.EventId, Action.Action}
 use Rattle.plan_tables.specs.{Limits.{limit_of, order_of}, NamesKept.{names_kept, names_of}}
 use Rattle.first_names.specs.FirstNames.{with_name, IsNameTableOf, IsNumberIn}
-use Rattle.plan_parts.specs.{declared.names.Parts.Parts, View.{effect_view, parts_text}}
+use Rattle.plan_parts.specs.{declared.names.NamePieces.NamePieces, View.{effect_view, pieces_text}}
 use Rattle.plan_parts.specs.declared.effects.Effect as effects
 use Rattle.mpf_plan.specs.{Uses.{Names, number_among}, ByNumber.{action_of, event_of}}
 use Rattle.mpf_plan.specs.{PlanOf.{Use, effect_uses}, Drafting.names_uses}
@@ -51,15 +51,18 @@ module _ {X : Type 0} (what : Names → X) (it : X) where
       ∙ ap (λ l. what (names_by l)) (append_assoc before us vs)
 
 -- two things, one after the other, of which one is made
-pub numbered_both : {X Y Z : Type 0} (make : X → Y → Z) (f : Names → X) (g : Names → Y) (x : X) (y : Y) (a b : held_names.Names) (us vs : List Use)
+pub numbered_both : {X Y Z : Type 0} (make : X → Y → Z) (f : Names → X) (g : Names → Y) (x : X) (y : Y)
+    (a b : held_names.Names) (us vs : List Use)
     → DependsOn us f → Notes a b us → IsNumbered a us f x → IsNumbered b vs g y
     → IsNumbered a (us ++ vs) (λ ns. make (f ns) (g ns)) (make x y)
 numbered_both make f g x y a b us vs depends notes first next before are within =
-    ap₂ make (numbered_front f x a us vs depends first before are within) (numbered_back g y a b us vs notes next before are within)
+    ap₂ make (numbered_front f x a us vs depends first before are within)
+    (numbered_back g y a b us vs notes next before are within)
 
 -- ---- one item of a list after the other
 
-module _ {X : Type 0} (uses : X → List Use) (xs : List X) (i : ℕ) (x : X) (within : i < length xs) (at : x ≡ get_or xs i x) where
+module _ {X : Type 0} (uses : X → List Use) (xs : List X) (i : ℕ) (x : X) (within : i < length xs)
+    (at : x ≡ get_or xs i x) where
   abbrev so_far : List Use
   so_far = flat_map uses (take i xs)
 
@@ -84,8 +87,10 @@ module _ {X : Type 0} (uses : X → List Use) (xs : List X) (i : ℕ) (x : X) (w
       → IsNumbered a (flat_map uses (take (i + 1) xs)) (λ ns. map (give ns) (take (i + 1) xs)) (ys ++ y ∷ [])
   numbers_next give each a b ys y notes first next before are fits =
       let ends : AreWithin (before ++ (so_far ++ uses x)) = subst (λ us. AreWithin (before ++ us)) uses_next fits in
-      numbered_both (λ ls l. ls ++ l ∷ []) (λ ns. map (give ns) (take i xs)) (λ ns. give ns x) ys y a b so_far (uses x) (all_stay uses give each (take i xs)) notes first next before are ends
-      ∙ ap (λ us. map (give (names_by (before ++ us))) (take i xs) ++ give (names_by (before ++ us)) x ∷ []) (sym uses_next)
+      numbered_both (λ ls l. ls ++ l ∷ []) (λ ns. map (give ns) (take i xs)) (λ ns. give ns x) ys y a b so_far (uses x)
+      (all_stay uses give each (take i xs)) notes first next before are ends
+      ∙ ap (λ us. map (give (names_by (before ++ us))) (take i xs) ++ give (names_by (before ++ us)) x ∷ [])
+      (sym uses_next)
       ∙ sym (ap (map (give (names_by (before ++ flat_map uses (take (i + 1) xs))))) one_taken
       ∙ map_push (give (names_by (before ++ flat_map uses (take (i + 1) xs)))) (take i xs) x)
 
@@ -113,17 +118,17 @@ module _ {X : Type 0} (uses : X → List Use) (xs : List X) (i : ℕ) (d : X) (w
 -- ---- all events of a list
 
 -- one use of each
-abbrev pub use_in : Table → Parts → List Use
-use_in table n = (table, parts_text n) ∷ []
+abbrev pub use_in : Table → NamePieces → List Use
+use_in table n = (table, pieces_text n) ∷ []
 
-abbrev pub event_in : Names → Parts → EventId
-event_in ns n = event_of (ns Events) (parts_text n)
+abbrev pub event_in : Names → NamePieces → EventId
+event_in ns n = event_of (ns Events) (pieces_text n)
 
-names_uses-each : (table : Table) (ns : List Parts) → flat_map (use_in table) ns ≡ names_uses table ns
+names_uses-each : (table : Table) (ns : List NamePieces) → flat_map (use_in table) ns ≡ names_uses table ns
 names_uses-each table [] = refl
-names_uses-each table (n ∷ ns) = ap (λ us. (table, parts_text n) ∷ us) (names_uses-each table ns)
+names_uses-each table (n ∷ ns) = ap (λ us. (table, pieces_text n) ∷ us) (names_uses-each table ns)
 
-module _ (a b : held_names.Names) (ns : List Parts) (i : ℕ) (past : length ns ≤ i) where
+module _ (a b : held_names.Names) (ns : List NamePieces) (i : ℕ) (past : length ns ≤ i) where
   pub notes_all : (table : Table) → Notes a b (flat_map (use_in table) (take i ns)) → Notes a b (names_uses table ns)
   notes_all table = subst (Notes a b) (ap (flat_map (use_in table)) (take_all i ns past) ∙ names_uses-each table ns)
 
@@ -154,10 +159,13 @@ module _ (es : List effects.Effect) (i : ℕ) (past : length es ≤ i) where
 
   pub actions_all : (a : held_names.Names) (row : RowId) (acts : List Action)
       → IsNumbered a (flat_map uses_by (take i es)) (λ ns. map (λ e. action_of ns row (effect_view e)) (take i es)) acts
-      → IsNumbered a (flat_map effect_uses (map effect_view es)) (λ ns. map (action_of ns row) (map effect_view es)) acts
+      → IsNumbered a (flat_map effect_uses (map effect_view es)) (λ ns. map (action_of ns row) (map effect_view es))
+      acts
   actions_all a row acts is us are within =
-      subst (λ more. IsNumbered a more (λ ns. map (λ e. action_of ns row (effect_view e)) (take i es)) acts) effects_all is us are within
-      ∙ ap (map (λ e. action_of (names_by (us ++ flat_map effect_uses (map effect_view es))) row (effect_view e))) (take_all i es past)
+      subst (λ more. IsNumbered a more (λ ns. map (λ e. action_of ns row (effect_view e)) (take i es)) acts) effects_all
+      is us are within
+      ∙ ap (map (λ e. action_of (names_by (us ++ flat_map effect_uses (map effect_view es))) row (effect_view e)))
+      (take_all i es past)
       ∙ actions-each (names_by (us ++ flat_map effect_uses (map effect_view es))) row es
 
 -- ---- the names that are kept
@@ -171,14 +179,17 @@ kept_all us held t are within = at (slice_get_cases held.tables.items (order_of 
     by k limit (inl (above, more)) = absurd (omega (arith, more, limit, within))
     by k limit (inr (below, same, fits)) = same
 
-    at : ((k : NameTable) × (order_of t < length held.tables.items) × (slice_get held.tables.items (order_of t) ≡ Some k) × (get_or held.tables.items (order_of t) k ≡ k))
-        ⊎ ((length held.tables.items ≤ order_of t) × (slice_get held.tables.items (order_of t) ≡ None)) → kept_names held t ≡ names_by us t
+    at : ((k : NameTable) × (order_of t < length held.tables.items)
+        × (slice_get held.tables.items (order_of t) ≡ Some k) × (get_or held.tables.items (order_of t) k ≡ k))
+        ⊎ ((length held.tables.items ≤ order_of t) × (slice_get held.tables.items (order_of t) ≡ None))
+        → kept_names held t ≡ names_by us t
     at (inl (k, inside, there, same)) = ap names_kept there ∙ by k (are.limits t k there) (are.names t k there)
     at (inr (past, none)) = absurd (omega (arith, past, held.count, place_within t))
 
 -- tables without names
 pub none_kept : (held : held_names.Names)
-    → ((t : Table) (k : NameTable) → slice_get held.tables.items (order_of t) ≡ Some k → (k.limit ≡ limit_of t) × (k.above ≡ false) × (k.set.keys ≡ []))
+    → ((t : Table) (k : NameTable) → slice_get held.tables.items (order_of t) ≡ Some k
+    → (k.limit ≡ limit_of t) × (k.above ≡ false) × (k.set.keys ≡ []))
     → AreNamesOf [] held
 none_kept held empty = record {
   limits = λ t k at. (empty t k at).0;
@@ -190,7 +201,8 @@ none_kept held empty = record {
 limits_few : (t : Table) → limit_of t ≤ 65535
 limits_few x1 = search rules
 
-module _ (old : held_names.Names) (u : Use) (p : ℕ) (was : NameTable) (place : p ≡ order_of u.0) (got : was ≡ get_or old.tables.items p was) where
+module _ (old : held_names.Names) (u : Use) (p : ℕ) (was : NameTable) (place : p ≡ order_of u.0)
+    (got : was ≡ get_or old.tables.items p was) where
   here : was ≡ get_or old.tables.items (order_of u.0) was
   here = got ∙ ap (λ k. get_or old.tables.items k was) place
 
@@ -201,9 +213,12 @@ module _ (old : held_names.Names) (u : Use) (p : ℕ) (was : NameTable) (place :
       let moved : new.tables.items ≡ set old.tables.items (order_of u.0) is = changed
       ∙ ap (λ k. set old.tables.items k is) place in
       record {
-        limits = λ t k at. each_changed (λ t k. k.limit ≡ limit_of t) (λ t k. k.limit ≡ limit_of t) u.0 old.tables.items was is old.count here
-            (λ t e h. limit ∙ h) (λ t e k h. h) are.limits t k (subst (λ ts. slice_get ts (order_of t) ≡ Some k) moved at);
-        names = λ t k at. each_changed (λ t k. IsNameTableOf (names_by us t) k) (λ t k. IsNameTableOf (names_by (us ++ u ∷ []) t) k) u.0 old.tables.items was is old.count here
+        limits = λ t k at. each_changed (λ t k. k.limit ≡ limit_of t) (λ t k. k.limit ≡ limit_of t) u.0 old.tables.items
+            was is old.count here
+            (λ t e h. limit ∙ h) (λ t e k h. h) are.limits t k
+            (subst (λ ts. slice_get ts (order_of t) ≡ Some k) moved at);
+        names = λ t k at. each_changed (λ t k. IsNameTableOf (names_by us t) k)
+            (λ t k. IsNameTableOf (names_by (us ++ u ∷ []) t) k) u.0 old.tables.items was is old.count here
             (λ t e h. subst (λ ns. IsNameTableOf ns is) (sym (name_noted us u t e)) (adds (names_by us t) h))
             (λ t other k h. subst (λ ns. IsNameTableOf ns k) (sym (others_noted us u t other)) h)
             are.names t k (subst (λ ts. slice_get ts (order_of t) ≡ Some k) moved at);
@@ -216,8 +231,16 @@ module _ (old : held_names.Names) (u : Use) (p : ℕ) (was : NameTable) (place :
       slice_get-get_or old.tables.items (order_of u.0) was (omega (arith, old.count, place_within u.0))
       ∙ ap Some (sym here) in
       let after : names_by (us ++ u ∷ []) u.0 ≡ with_name (names_by us u.0) u.1 = name_noted us u u.0 refl in
-      let fits : length (with_name (names_by us u.0) u.1) ≤ was.limit = omega (arith, within u.0 named, are.limits u.0 was there, ap length after) in
+      let fits : length (with_name (names_by us u.0) u.1) ≤ was.limit =
+      omega (arith, within u.0 named, are.limits u.0 was there, ap length after) in
       let at : number ≡ number_among (names_by (us ++ u ∷ []) u.0) u.1 =
       numbered (names_by us u.0) (are.names u.0 was there) fits ∙ ap (λ ns. number_among ns u.1) (sym after) in
-      keeps (omega (arith, at, prefix_len-le-length (λ m. not (bytes_eq u.1 m)) (names_by (us ++ u ∷ []) u.0), within u.0 named, limits_few u.0))
+      keeps
+      (omega (
+        arith,
+        at,
+        prefix_len-le-length (λ m. not (bytes_eq u.1 m)) (names_by (us ++ u ∷ []) u.0),
+        within u.0 named,
+        limits_few u.0,
+      ))
       ∙ at

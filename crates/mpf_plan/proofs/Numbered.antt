@@ -1,7 +1,7 @@
 -- What a part gives depends on the numbers of the names that it uses, and on no others: so it stays as more names come.
 use Rattle.std.proofs.Common.{◌≡◌, ℕ, if◌then◌else◌, List, [], ◌∷◌, ◌++◌, map, refl, sym, ap, ap₂, subst, Option, None}
 use Rattle.std.{proofs.{Common.Some, lemmas.List.map-append}, specs.{Prelude.option_map, List.flat_map, Str.bytes_eq}}
-use Rattle.mpf_values.specs.Events.{Event, Condition}
+use Rattle.mpf_values.specs.Events.{Event, EventCondition}
 use Rattle.machine_definitions.specs.GameEvents.{game_event_names}
 use Rattle.plan_tables.specs.declared.{entries.{EventId.EventId, Binding.Binding}, devices.{RowId.RowId, Act.Act}}
 use Rattle.plan_tables.specs.declared.entries.{ListId.ListId, Target.Target, ModeEvents.ModeEvents}
@@ -57,10 +57,10 @@ abbrev pub event_at : ℕ → EventId
 event_at k = record { 0 = k }
 
 -- a condition, by the number of its variable
-abbrev condition_at : Condition → ℕ → numbered.Condition
+abbrev condition_at : EventCondition → ℕ → numbered.Condition
 condition_at c v = record { variable = record { 0 = v }; comparison = c.comparison; number = c.number }
 
-pub condition_stays : (o : Option Condition) → DependsOn (condition_uses o) (λ ns. option_map (condition_of ns) o)
+pub condition_stays : (o : Option EventCondition) → DependsOn (condition_uses o) (λ ns. option_map (condition_of ns) o)
 condition_stays None old new stay = refl
 condition_stays (Some c) old new stay = ap (λ v. Some (condition_at c v)) stay.0
 
@@ -84,7 +84,8 @@ binding_stays whose e target old new stay =
 pub handled_stay : (whose : Whose) (row : RowId) (hs : List (Event × Act))
     → DependsOn (flat_map (λ h. event_uses h.0) hs) (λ ns. map (λ h. binding_of ns whose h.0 (targets.Act row h.1)) hs)
 handled_stay whose row hs =
-    all_stay (λ (h : Event × Act). event_uses h.0) (λ ns h. binding_of ns whose h.0 (targets.Act row h.1)) (λ h. binding_stays whose h.0 (targets.Act row h.1)) hs
+    all_stay (λ (h : Event × Act). event_uses h.0) (λ ns h. binding_of ns whose h.0 (targets.Act row h.1))
+    (λ h. binding_stays whose h.0 (targets.Act row h.1)) hs
 
 pub effect_stays : (row : RowId) (e : Effect) → DependsOn (effect_uses e) (λ ns. action_of ns row e)
 effect_stays row (posts n) old new stay = ap (λ k. Post (record { 0 = k })) stay.0
@@ -109,7 +110,8 @@ settings_stay old new p stay = (split old new (settings_uses p) (flat_map (flat_
 
 pub actions_stay : (row : RowId) (p : Part) → DependsOn (part_uses p) (λ ns. actions_in ns row p)
 actions_stay row p old new stay =
-    lists_stay row (lists_in p) old new (split old new (settings_uses p) (flat_map (flat_map effect_uses) (lists_in p)) stay).1
+    lists_stay row (lists_in p) old new (split old new (settings_uses p) (flat_map (flat_map effect_uses) (lists_in p))
+    stay).1
 
 pub bindings_stay : (row : RowId) (list : ListId) (p : Part)
     → DependsOn (settings_uses p) (λ ns. bindings_in ns row list p)
@@ -117,42 +119,55 @@ bindings_stay row list (handler whose e reaction) old new stay =
     ap (λ b. b ∷ []) (binding_stays whose e (target_of list reaction) old new stay)
 bindings_stay row list (device whose d) old new stay =
     let listens = uses_of Switches d.listens in
-    let handled = flat_map (λ (h : Event × Act). event_uses h.0) d.handled in
-    let front = (split old new (listens ++ handled) (uses_of Events d.mentioned) stay).0 in
-    handled_stay whose row d.handled old new (split old new listens handled front).1
+    let event_acts = flat_map (λ (h : Event × Act). event_uses h.0) d.event_acts in
+    let front = (split old new (listens ++ event_acts) (uses_of Events d.other_mentions) stay).0 in
+    handled_stay whose row d.event_acts old new (split old new listens event_acts front).1
 bindings_stay row list p old new stay = refl
 
 -- a mode, with its events
 abbrev mode_with : List ℕ → ModeSettings → ModeEvents → PlanMode
 mode_with name s events =
-    record { name = name; mode = record { priority = s.priority; game = s.game; holds_ball_end = s.holds_ball_end; events = events } }
+    record {
+      name = name;
+      mode = record {
+        priority = s.priority;
+        game = s.game;
+        holds_ball_end = s.holds_ball_end;
+        events = events;
+      };
+    }
 
 pub mode_stays : (p : Part) → DependsOn (settings_uses p) (λ ns. plan_mode ns p)
 mode_stays (mode name s) old new stay =
+    let (will_start, (starting, (started, (stopping, (stopped, end))))) = stay in
     λ i. mode_with name s (record {
-      will_start = event_at (stay.0 i);
-      starting = event_at (stay.1.0 i);
-      started = event_at (stay.1.1.0 i);
-      stopping = event_at (stay.1.1.1.0 i);
-      stopped = event_at (stay.1.1.1.1.0 i);
+      will_start = event_at (will_start i);
+      starting = event_at (starting i);
+      started = event_at (started i);
+      stopping = event_at (stopping i);
+      stopped = event_at (stopped i);
     }) ∷ []
 mode_stays p old new stay = refl
 
 pub rules_stay : (p : Part) → DependsOn (settings_uses p) (λ ns. rules_in ns p)
 rules_stay (game min_balls balls_per_game max_players) old new stay =
-    ap (λ events. record { min_balls = min_balls; balls_per_game = balls_per_game; max_players = max_players; events = events } ∷ []) (events_stay game_event_names old new stay)
+    ap (λ events.
+    record { min_balls = min_balls; balls_per_game = balls_per_game; max_players = max_players; events = events }
+    ∷ []) (events_stay game_event_names old new stay)
 rules_stay p old new stay = refl
 
 -- the switch of this name, without its listeners
 pub switch_stays : (name : List ℕ) (p : Part) → DependsOn (settings_uses p) (λ ns. switch_for ns name p)
 switch_stays name (switch n kind confirms active inactive) old new stay =
     let both = split old new (uses_of Events active) (uses_of Events inactive) (apart active inactive stay.1) in
-    ap₂ (λ a i. if bytes_eq name n then made_switch a i ∷ [] else []) (events_stay active old new both.0) (events_stay inactive old new both.1)
+    ap₂ (λ a i. if bytes_eq name n then made_switch a i ∷ [] else []) (events_stay active old new both.0)
+    (events_stay inactive old new both.1)
   where
     apart : (ns ms : List (List ℕ)) → Stay old new (uses_of Events (ns ++ ms))
         → Stay old new (uses_of Events ns ++ uses_of Events ms)
     apart ns ms both = subst (Stay old new) (map-append (λ m. (Events, m)) ns ms) both
 
     made_switch : List EventId → List EventId → PlanSwitch
-    made_switch a i = record { name = name; kind = kind; listeners = []; confirms_playfield = confirms; active = a; inactive = i }
+    made_switch a i =
+        record { name = name; kind = kind; listeners = []; confirms_playfield = confirms; active = a; inactive = i }
 switch_stays name p old new stay = refl

@@ -12,8 +12,8 @@ use Rattle.plan_tables.specs.declared.devices.{RowId.RowId, Act.Act as ActOfDevi
 use Rattle.plan_tables.specs.PlanView.{PlanSwitch, no_row}
 use Rattle.plan_parts.specs.Parts.{Whose, Device, Reaction, act_on, Part, handler, device}
 use Rattle.plan_parts.specs.{PartKinds.rows_of_parts, PartBounds.IsPart}
-use Rattle.mpf_plan.specs.{Uses.Names, PlanOf.switch_called}
-use Rattle.mpf_plan.specs.PlanOf.{placed, device_row, listeners_among, listeners, target_of, binding_of, bindings_in}
+use Rattle.mpf_plan.specs.{Uses.Names, PlanOf.{switch_called, bindings_in}}
+use Rattle.mpf_plan.specs.PlanOf.{part_places, device_row, listeners_among, listeners, target_of, binding_of}
 use Rattle.mpf_plan.proofs.PlacedParts.{parts_placed, HasRow, all_home, tags_are, row_there}
 use Rattle.yaml_bytes.proofs.Each.{All-flat_map}
 
@@ -35,8 +35,11 @@ IsOwnSwitch rows s = All (IsOwnListener rows) s.listeners
 -- the row of a device
 own_row : (rows : List DeviceRow) (r : RowId) (row : DeviceRow) → slice_get rows r.0 ≡ Some row
     → (r.0 < length rows) × ((slice_index_or rows r.0 no_row).owner ≡ row.owner)
-own_row rows r row there =
-    (slice_get_within rows r.0 row there, ap (λ (x : DeviceRow). x.owner) (get_or_from_slice_get rows r.0 row no_row there))
+own_row rows r row there = (
+  slice_get_within rows r.0 row there,
+  ap (λ (x : DeviceRow). x.owner)
+      (get_or_from_slice_get rows r.0 row no_row there),
+)
 
 -- who listens to a switch listens to one
 some_heard : (name : List ℕ) (ns : List (List ℕ)) (i : ℕ)
@@ -44,12 +47,13 @@ some_heard : (name : List ℕ) (ns : List (List ℕ)) (i : ℕ)
 some_heard name [] i within = absurd (omega (arith, within))
 some_heard name (n ∷ ns) i within = omega arith
 
-module _ (S Short : Type 0) (names : Names) (ps : List Part) (modes : ℕ) (has : Bool) (are : All (IsPart S Short modes (rows_of_parts ps) has) ps) where
+module _ (S Short : Type 0) (names : Names) (ps : List Part) (modes : ℕ) (has : Bool)
+    (are : All (IsPart S Short modes (rows_of_parts ps) has) ps) where
   abbrev rows : List DeviceRow
-  rows = flat_map (λ x. device_row x.row x.part) (placed ps)
+  rows = flat_map (λ x. device_row x.row x.part) (part_places ps)
 
   -- each part, where it is placed
-  placed_are : All (λ x. IsPart S Short modes (rows_of_parts ps) has x.part) (placed ps)
+  placed_are : All (λ x. IsPart S Short modes (rows_of_parts ps) has x.part) (part_places ps)
   placed_are = parts_placed (IsPart S Short modes (rows_of_parts ps) has) ps are
 
   -- ---- listeners
@@ -64,10 +68,12 @@ module _ (S Short : Type 0) (names : Names) (ps : List Part) (modes : ℕ) (has 
       (filter test (range_with_len 0 (length d.listens)))
       (λ i k within. (own.0, own.1 ∙ is.listens (some_heard name d.listens i within)))
 
-  own_listeners : (name : List ℕ) → All (IsOwnListener rows) (flat_map (λ x. listeners name x.row x.part) (placed ps))
+  own_listeners : (name : List ℕ) → All (IsOwnListener rows)
+      (flat_map (λ x. listeners name x.row x.part) (part_places ps))
   own_listeners name =
-      All-flat_map (IsOwnListener rows) (λ x. listeners name x.row x.part) (placed ps)
-      (λ i x within. of_part (get_or (placed ps) i x).part (get_or (placed ps) i x).row (placed_are i x within) (all_home ps i x within))
+      All-flat_map (IsOwnListener rows) (λ x. listeners name x.row x.part) (part_places ps)
+      (λ i x within. of_part (get_or (part_places ps) i x).part (get_or (part_places ps) i x).row
+      (placed_are i x within) (all_home ps i x within))
     where
       of_part : (p : Part) (r : RowId) → IsPart S Short modes (rows_of_parts ps) has p → HasRow rows r p
           → All (IsOwnListener rows) (listeners name r p)
@@ -82,10 +88,11 @@ module _ (S Short : Type 0) (names : Names) (ps : List Part) (modes : ℕ) (has 
 
   -- ---- bindings
 
-  pub own_bindings : All (IsOwnBinding rows) (flat_map (λ x. bindings_in names x.row x.list x.part) (placed ps))
+  pub own_bindings : All (IsOwnBinding rows) (flat_map (λ x. bindings_in names x.row x.list x.part) (part_places ps))
   own_bindings =
-      All-flat_map (IsOwnBinding rows) (λ x. bindings_in names x.row x.list x.part) (placed ps)
-      (λ i x within. let y = get_or (placed ps) i x in of_part y.part y.row y.list (placed_are i x within) (all_home ps i x within))
+      All-flat_map (IsOwnBinding rows) (λ x. bindings_in names x.row x.list x.part) (part_places ps)
+      (λ i x within. let y = get_or (part_places ps) i x
+      in of_part y.part y.row y.list (placed_are i x within) (all_home ps i x within))
     where
       reached : (reaction : Reaction) (whose : Whose) (e : Event) (list : ListId)
           → IsPart S Short modes (rows_of_parts ps) has (handler whose e reaction)
@@ -101,6 +108,6 @@ module _ (S Short : Type 0) (names : Names) (ps : List Part) (modes : ℕ) (has 
           (reached reaction whose e list is) (All-nil (IsOwnBinding rows))
       of_part (device whose d) r list is home =
           let own = own_row rows r (record { number = r; owner = whose.owner; settings = d.settings }) home in
-          All-map (IsOwnBinding rows) (λ (h : Event × ActOfDevice). binding_of names whose h.0 (Act r h.1)) d.handled
+          All-map (IsOwnBinding rows) (λ (h : Event × ActOfDevice). binding_of names whose h.0 (Act r h.1)) d.event_acts
           (λ i h within. own)
       of_part _ r list is home = All-nil (IsOwnBinding rows)

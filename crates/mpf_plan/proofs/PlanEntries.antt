@@ -5,7 +5,7 @@ use Rattle.std.proofs.Common.{◌∷◌, ◌++◌, length, map, get_or, refl, sy
 use Rattle.std.specs.Prelude.{Option, None, Some, IfSome, IsSome, option_map, unwrap_or}
 use Rattle.std.specs.{Str.bytes_eq, List.{All, flat_map, list_any, last_or}}
 use Rattle.std.proofs.lemmas.List.{length-map, Elements.{All-nil, All-cons, All-head, All-tail, All-map, All-weaker}}
-use Rattle.mpf_values.specs.Events.{Condition, Event}
+use Rattle.mpf_values.specs.Events.{EventCondition, Event}
 use Rattle.machine_definitions.specs.{GameEvents.game_event_names, Players.player_event}
 use Rattle.plan_tables.specs.declared.entries.{ListId.ListId, Owner.Owner, Target.Target, GameRules.GameRules}
 use Rattle.plan_tables.specs.declared.entries.Owner.TheVariants as owners
@@ -25,7 +25,7 @@ use Rattle.plan_parts.specs.Parts.{Whose, Device, Reaction, run, start, stop, ac
 use Rattle.plan_parts.specs.PartBounds.{IsOwnerBelow, IsTargetAmong, IsPart, IsReaction}
 use Rattle.mpf_plan.specs.{Uses.{Names, number_among}, ByNumber.{event_of, action_of, condition_of, rules_of}}
 use Rattle.mpf_plan.specs.PlanOf.{Use, uses_of, condition_uses, event_uses, effect_uses, lists_in, settings_uses}
-use Rattle.mpf_plan.specs.PlanOf.{part_uses, names_of, Placed, row_count, placed}
+use Rattle.mpf_plan.specs.PlanOf.{part_uses, names_of, PartPlace, row_count, part_places}
 use Rattle.mpf_plan.specs.PlanOf.{listeners, target_of as target_by, binding_of, bindings_in}
 use Rattle.mpf_plan.specs.PlanOf.{actions_in, plan_mode, rules_in, switch_for, switch_called, plan_by}
 use Rattle.mpf_plan.proofs.{Among.{IsAmong, uses_among}, Laws.{rows_of_all, lists_of_all, rows_counted, lists_counted}}
@@ -44,7 +44,8 @@ module _ {X : Type 0} (P : X → Type 0) where
 
 -- ---- what is said by number
 
--- A plan with so many events, coils and variables as there are names, with so many modes, rows and effect lists, and with
+-- A plan with so many events, coils and variables as there are names, with so many modes, rows and effect lists, and
+-- with
 -- a game where `has` holds.
 pub record HasSizes (names : Names) (mode_count row_count list_count : ℕ) (has : Bool) (plan : PlanView) : Type 0 where
   pub events : length plan.events ≡ length (names Events)
@@ -55,7 +56,8 @@ pub record HasSizes (names : Names) (mode_count row_count list_count : ℕ) (has
   pub lists : length plan.lists ≡ list_count
   pub game : has ≡ true → HasGame plan
 
-module _ (names : Names) (modes rows lists : ℕ) (has : Bool) (plan : PlanView) (sizes : HasSizes names modes rows lists has plan) where
+module _ (names : Names) (modes rows lists : ℕ) (has : Bool) (plan : PlanView)
+    (sizes : HasSizes names modes rows lists has plan) where
   abbrev Among : Use → Type 0
   Among u = IsAmong names u
 
@@ -82,8 +84,10 @@ module _ (names : Names) (modes rows lists : ℕ) (has : Bool) (plan : PlanView)
   action_within r (works n (pulse ms power)) among home drains = coil_within n (among 0 (Coils, n) (omega arith))
   action_within r (works n (enable power)) among home drains = coil_within n (among 0 (Coils, n) (omega arith))
   action_within r (works n disable) among home drains = coil_within n (among 0 (Coils, n) (omega arith))
-  action_within r (changes v action n) among home drains =
-      (variable_within v (among 1 (Variables, v) (omega arith)), event_within (player_event v) (among 0 (Events, v) (omega arith)))
+  action_within r (changes v action n) among home drains = (
+    variable_within v (among 1 (Variables, v) (omega arith)),
+    event_within (player_event v) (among 0 (Events, v) (omega arith)),
+  )
   action_within r (enters n drain) among home drains =
       (at_row r home, event_within n (among 0 (Events, n) (omega arith)), λ is. sizes.game (drains is))
   action_within r leaves among home drains = at_row r home
@@ -96,7 +100,7 @@ module _ (names : Names) (modes rows lists : ℕ) (has : Bool) (plan : PlanView)
   owner_within owners.Machine below = tt
   owner_within (owners.Mode m) below = omega (arith, below, sizes.modes)
 
-  condition_within : (o : Option Condition) → All Among (condition_uses o)
+  condition_within : (o : Option EventCondition) → All Among (condition_uses o)
       → IsConditionWithin plan (option_map (condition_of names) o)
   condition_within None among = tt
   condition_within (Some c) among = variable_within c.variable (among 0 (Variables, c.variable) (omega arith))
@@ -191,7 +195,7 @@ module _ (S Short : Type 0) (ps : List Part) (modes : ℕ) where
         λ i es within. All-from_flat_map (IsAmong names) effect_uses (get_or (lists_in p) i es)
         (All-from_flat_map (IsAmong names) (flat_map effect_uses) (lists_in p) rest i es within)
 
-    effects_home : (x : Placed) → IsSited Good (rows_of_all ps) (lists_of_all ps) x
+    effects_home : (x : PartPlace) → IsSited Good (rows_of_all ps) (lists_of_all ps) x
         → All (All (λ e. (IsOfNoBall e ⊎ (x.row.0 < rows_of_all ps)) × DrainsIn has e)) (lists_in x.part)
     effects_home x sited = by x.part x.row sited.0.row sited.1.0
       where
@@ -199,22 +203,26 @@ module _ (S Short : Type 0) (ps : List Part) (modes : ℕ) where
             → All (All (λ e. (IsOfNoBall e ⊎ (r.0 < rows_of_all ps)) × DrainsIn has e)) (lists_in p)
         by (handler whose e (run es)) r there is =
             All-cons (All (λ e. (IsOfNoBall e ⊎ (r.0 < rows_of_all ps)) × DrainsIn has e)) es []
-            (All-weaker IsOfNoBall (λ e. (IsOfNoBall e ⊎ (r.0 < rows_of_all ps)) × DrainsIn has e) (λ e no. (inl no, no_drain has e no)) es is.1.0)
+            (All-weaker IsOfNoBall (λ e. (IsOfNoBall e ⊎ (r.0 < rows_of_all ps)) × DrainsIn has e)
+            (λ e no. (inl no, no_drain has e no)) es is.1.0)
             (All-nil (All (λ e. (IsOfNoBall e ⊎ (r.0 < rows_of_all ps)) × DrainsIn has e)))
         by (device whose d) r there is =
             let own : r.0 < rows_of_all ps = omega (arith, there) in
             All-weaker (All (DrainsIn has)) (All (λ e. (IsOfNoBall e ⊎ (r.0 < rows_of_all ps)) × DrainsIn has e))
-            (λ es h. All-weaker (DrainsIn has) (λ e. (IsOfNoBall e ⊎ (r.0 < rows_of_all ps)) × DrainsIn has e) (λ e drains. (inr own, drains)) es h) d.lists is.drains
+            (λ es h. All-weaker (DrainsIn has) (λ e. (IsOfNoBall e ⊎ (r.0 < rows_of_all ps)) × DrainsIn has e)
+            (λ e drains. (inr own, drains)) es h) d.lists is.drains
         by _ r there is = All-nil (All (λ (e : Effect). (IsOfNoBall e ⊎ (r.0 < rows_of_all ps)) × DrainsIn has e))
 
     -- ---- effect lists
 
-    lists_within : All (All (IsActionWithin plan)) (flat_map (λ x. actions_in names x.row x.part) (placed ps))
+    lists_within : All (All (IsActionWithin plan)) (flat_map (λ x. actions_in names x.row x.part) (part_places ps))
     lists_within =
-        All-flat_map (All (IsActionWithin plan)) (λ x. actions_in names x.row x.part) (placed ps)
-        (All-weaker (IsSited Good (rows_of_all ps) (lists_of_all ps)) (λ x. All (All (IsActionWithin plan)) (actions_in names x.row x.part)) of_part (placed ps) (all_placed Good ps all_good))
+        All-flat_map (All (IsActionWithin plan)) (λ x. actions_in names x.row x.part) (part_places ps)
+        (All-weaker (IsSited Good (rows_of_all ps) (lists_of_all ps))
+        (λ x. All (All (IsActionWithin plan)) (actions_in names x.row x.part)) of_part (part_places ps)
+        (all_placed Good ps all_good))
       where
-        of_part : (x : Placed) → IsSited Good (rows_of_all ps) (lists_of_all ps) x
+        of_part : (x : PartPlace) → IsSited Good (rows_of_all ps) (lists_of_all ps) x
             → All (All (IsActionWithin plan)) (actions_in names x.row x.part)
         of_part x sited =
             All-map (All (IsActionWithin plan)) (map (action_of names x.row)) (lists_in x.part)
@@ -232,11 +240,13 @@ module _ (S Short : Type 0) (ps : List Part) (modes : ℕ) where
     unfolding plan_by
     row_within r whose is = (row_there plan.rows devices (tags_are ps) r.0 whose false is).0
 
-    bindings_within : All (IsBindingWithin plan) (flat_map (λ x. bindings_in names x.row x.list x.part) (placed ps))
+    bindings_within : All (IsBindingWithin plan)
+        (flat_map (λ x. bindings_in names x.row x.list x.part) (part_places ps))
     bindings_within =
-        All-flat_map (IsBindingWithin plan) (λ x. bindings_in names x.row x.list x.part) (placed ps)
-        (All-weaker (IsSited Good (rows_of_all ps) (lists_of_all ps)) (λ x. All (IsBindingWithin plan) (bindings_in names x.row x.list x.part))
-        (λ x sited. of_part x.part x.row x.list sited.0.row sited.0.list sited.1) (placed ps)
+        All-flat_map (IsBindingWithin plan) (λ x. bindings_in names x.row x.list x.part) (part_places ps)
+        (All-weaker (IsSited Good (rows_of_all ps) (lists_of_all ps))
+        (λ x. All (IsBindingWithin plan) (bindings_in names x.row x.list x.part))
+        (λ x sited. of_part x.part x.row x.list sited.0.row sited.0.list sited.1) (part_places ps)
         (all_placed Good ps all_good))
       where
         within : (whose : Whose) (e : Event) (target : Target) → All (IsAmong names) (event_uses e)
@@ -260,18 +270,23 @@ module _ (S Short : Type 0) (ps : List Part) (modes : ℕ) where
             → All (IsBindingWithin plan) (bindings_in names r list p)
         of_part (handler whose e reaction) r list there room good =
             All-cons (IsBindingWithin plan) (binding_of names whose e (target_by list reaction)) []
-            (within whose e (target_by list reaction) (settings_among (handler whose e reaction) good) good.0.0 (reached reaction whose e list room good.0.1)) (All-nil (IsBindingWithin plan))
+            (within whose e (target_by list reaction) (settings_among (handler whose e reaction) good) good.0.0
+            (reached reaction whose e list room good.0.1)) (All-nil (IsBindingWithin plan))
         of_part (device whose d) r list there room good =
             let named = settings_among (device whose d) good in
             let heard = uses_of Switches d.listens in
-            let handled = flat_map (λ (h : Event × Act). event_uses h.0) d.handled in
+            let event_acts = flat_map (λ (h : Event × Act). event_uses h.0) d.event_acts in
             let mine =
-            (All-parts (IsAmong names) heard handled (All-parts (IsAmong names) (heard ++ handled) (uses_of Events d.mentioned) named).0).1 in
+            (All-parts (IsAmong names) heard event_acts
+            (All-parts (IsAmong names) (heard ++ event_acts) (uses_of Events d.other_mentions) named).0).1 in
             let rows = sizes.rows in
             All-map (IsBindingWithin plan)
-            (λ (h : Event × Act). binding_of names whose h.0 (targets.Act r h.1)) d.handled
-            (All-weaker (λ (h : Event × Act). All (IsAmong names) (event_uses h.0)) (λ h. IsBindingWithin plan (binding_of names whose h.0 (targets.Act r h.1)))
-            (λ h among. within whose h.0 (targets.Act r h.1) among good.0.owner (omega (arith, there, rows))) d.handled (All-from_flat_map (IsAmong names) (λ (h : Event × Act). event_uses h.0) d.handled mine))
+            (λ (h : Event × Act). binding_of names whose h.0 (targets.Act r h.1)) d.event_acts
+            (All-weaker (λ (h : Event × Act). All (IsAmong names) (event_uses h.0))
+            (λ h. IsBindingWithin plan (binding_of names whose h.0 (targets.Act r h.1)))
+            (λ h among. within whose h.0 (targets.Act r h.1) among good.0.owner (omega (arith, there, rows)))
+            d.event_acts (All-from_flat_map (IsAmong names) (λ (h : Event × Act). event_uses h.0) d.event_acts
+            mine))
         of_part _ r list there room good = All-nil (IsBindingWithin plan)
 
     -- ---- modes and switches
@@ -302,7 +317,9 @@ module _ (S Short : Type 0) (ps : List Part) (modes : ℕ) where
     switch_within : (name : List ℕ) → IsSwitchWithin (length (names Events)) (switch_called names ps name)
     switch_within name =
         unwrap_such W (last_or None (flat_map (switch_for names name) ps)) (record no_switch { name = name })
-        (last_such W None (flat_map (switch_for names name) ps) tt (All-flat_map W (switch_for names name) ps (All-weaker Good (λ p. All W (switch_for names name p)) of_part ps all_good)))
+        (last_such W None (flat_map (switch_for names name) ps) tt
+        (All-flat_map W (switch_for names name) ps
+        (All-weaker Good (λ p. All W (switch_for names name p)) of_part ps all_good)))
         (All-nil (IsEventWithin (length (names Events))), All-nil (IsEventWithin (length (names Events))))
       where
         W : PlanSwitch → Type 0
@@ -315,7 +332,8 @@ module _ (S Short : Type 0) (ps : List Part) (modes : ℕ) where
         of_part : (p : Part) → Good p → All W (switch_for names name p)
         of_part (switch n kind confirms active inactive) good =
             let used = named_events names (active ++ inactive)
-            (All-tail (IsAmong names) (Switches, n) (uses_of Events (active ++ inactive)) (settings_among (switch n kind confirms active inactive) good)) in
+            (All-tail (IsAmong names) (Switches, n) (uses_of Events (active ++ inactive))
+            (settings_among (switch n kind confirms active inactive) good)) in
             let both = All-parts (λ m. IsAmong names (Events, m)) active inactive used in
             where_it (bytes_eq name n) _ (numbered active both.0, numbered inactive both.1)
         of_part _ good = All-nil W
@@ -323,7 +341,7 @@ module _ (S Short : Type 0) (ps : List Part) (modes : ℕ) where
     -- ---- rows
 
     rows_within : (r : RowId) → r.0 < length plan.rows → S → IsRowWithin plan r
-    unfolding plan_by placed
+    unfolding plan_by part_places
     rows_within r within s =
         let at = row_at_number (IsPart S Short modes devices has) ps are r.0 no_row (record { 0 = 0 }) within in
         let is = at.is in
@@ -335,8 +353,10 @@ module _ (S Short : Type 0) (ps : List Part) (modes : ℕ) where
               (owner_within names modes (rows_of_all ps) (lists_of_all ps) has plan sizes at.whose.owner is.owner);
           target =
               subst
-              (λ (x : DeviceRow). IsTargetThere (length plan.rows) (unwrap_or (target_in x.settings) ball_targets.Playfield)) (sym at.row_is)
-              (target_there (length devices) (length plan.rows) at.d.settings (sym (rows_same plan.rows devices (tags_are ps))) is.target);
+              (λ (x : DeviceRow). IsTargetThere (length plan.rows)
+              (unwrap_or (target_in x.settings) ball_targets.Playfield)) (sym at.row_is)
+              (target_there (length devices) (length plan.rows) at.d.settings
+              (sym (rows_same plan.rows devices (tags_are ps))) is.target);
           lists = omega (arith, at.room, is.count s, ap (λ (x : DeviceRow). list_count x.settings) at.row_is, lists);
         }
 
@@ -344,7 +364,8 @@ module _ (S Short : Type 0) (ps : List Part) (modes : ℕ) where
 
     game_within : IfSome (last_or None (flat_map (rules_in names) ps)) (IsGameWithin (length (names Events)))
     game_within = last_such (IsGameWithin (length (names Events))) None (flat_map (rules_in names) ps) tt
-        (All-flat_map (IsGameWithin (length (names Events))) (rules_in names) ps (All-weaker Good (λ p. All (IsGameWithin (length (names Events))) (rules_in names p)) of_part ps all_good))
+        (All-flat_map (IsGameWithin (length (names Events))) (rules_in names) ps
+        (All-weaker Good (λ p. All (IsGameWithin (length (names Events))) (rules_in names p)) of_part ps all_good))
       where
         of_part : (p : Part) → Good p → All (IsGameWithin (length (names Events))) (rules_in names p)
         of_part (game min_balls balls_per_game max_players) good =
@@ -354,7 +375,8 @@ module _ (S Short : Type 0) (ps : List Part) (modes : ℕ) where
             (record {
               within =
                   numbered game_event_names
-                  (named_events names game_event_names (settings_among (game min_balls balls_per_game max_players) good));
+                  (named_events names game_event_names
+                  (settings_among (game min_balls balls_per_game max_players) good));
               min_balls = limits.min_balls_within;
               some_ball = limits.some_ball;
               balls = limits.balls;

@@ -28,7 +28,8 @@ module _ (names : Names) (ps : List Part) where
   switch_name : (name : List ℕ) → (switch_called names ps name).name ≡ name
   switch_name name =
       unwrap_such Named (last_or None (flat_map (switch_for names name) ps)) (record no_switch { name = name })
-      (last_such Named None (flat_map (switch_for names name) ps) tt (All-flat_map Named (switch_for names name) ps (λ i p within. of_part _))) refl
+      (last_such Named None (flat_map (switch_for names name) ps) tt
+      (All-flat_map Named (switch_for names name) ps (λ i p within. of_part _))) refl
     where
       Named : PlanSwitch → Type 0
       Named s = s.name ≡ name

@@ -18,7 +18,7 @@ use Rattle.plan_parts.specs.Parts.{Whose, Device, run, Part, coil, handler, devi
 use Rattle.plan_parts.specs.{PartBounds.{IsFew, AreLimits, IsPart, IsPartOf}, PartKinds.{rows_of_parts, is_game_part}}
 use Rattle.plan_parts.proofs.RowFacts.{parts_are}
 use Rattle.mpf_plan.specs.{Uses.Names, ByName.{AreLimitsByName, ListenersAreOwn}, ByNumber.action_of}
-use Rattle.mpf_plan.specs.PlanOf.{row_count, lists_in, placed_from, placed, lacks_name, names_of, device_row}
+use Rattle.mpf_plan.specs.PlanOf.{row_count, lists_in, placed_from, part_places, lacks_name, names_of, device_row}
 use Rattle.mpf_plan.specs.PlanOf.{first_list, limits_for, actions_in, plan_by, plan_of, plan_at}
 use Rattle.mpf_plan.proofs.{Judged.{plan_at-Ok, plan_at-complete}, Limited.{limits_by_name, coils_within}}
 use Rattle.mpf_plan.proofs.{Tables.{named_apart, names-by}, PlacedParts.parts_placed}
@@ -59,7 +59,8 @@ module _ (S Short : Type 0) (modes : ℕ) (devices : List (Whose × Device)) (ha
 
 -- a row has a first effect list
 firsts_counted : (ps : List Part) (r l : ℕ)
-    → length (flat_map (λ x. first_list x.list x.part) (placed_from r l ps)) ≡ length (flat_map (λ x. device_row x.row x.part) (placed_from r l ps))
+    → length (flat_map (λ x. first_list x.list x.part) (placed_from r l ps))
+    ≡ length (flat_map (λ x. device_row x.row x.part) (placed_from r l ps))
 firsts_counted [] r l = refl
 firsts_counted (device whose d ∷ ps) r l = ap suc (firsts_counted ps (r + 1) (l + length d.lists))
 firsts_counted (p ∷ ps) r l = firsts_counted ps (r + row_count p) (l + length (lists_in p))
@@ -80,7 +81,7 @@ module _ (rows : Rows) where
   Good p = IsPartOf rows p
 
   -- each part where it is placed
-  sited : All (λ x. Good x.part) (placed ps)
+  sited : All (λ x. Good x.part) (part_places ps)
   sited = parts_placed Good ps (parts_are rows)
 
   -- bindings act on rows of their own owner alone, and rows of the machine alone listen to switches
@@ -90,18 +91,21 @@ module _ (rows : Rows) where
   are_own : AreOwn plan
   unfolding plan_by
   are_own =
-      let has = list_any is_game_part ps in
-      (own_bindings (HaveStates rows) (AreListsShort rows) names ps (length rows.modes) has (parts_are rows), own_switches (HaveStates rows) (AreListsShort rows) names ps (length rows.modes) has (parts_are rows))
+      let has = list_any is_game_part ps in (
+        own_bindings (HaveStates rows) (AreListsShort rows) names ps (length rows.modes) has (parts_are rows),
+        own_switches (HaveStates rows) (AreListsShort rows) names ps (length rows.modes) has (parts_are rows),
+      )
 
   entries : HaveStates rows → HasEntries plan
   entries states =
       has_entries (HaveStates rows) (AreListsShort rows) ps (length rows.modes) (parts_are rows)
       (modes-count names rows)
       (All-weaker (IsOwnSwitch plan.rows) (λ s. All (IsListenerWithin (length plan.rows)) s.listeners)
-      (λ s. All-weaker (IsOwnListener plan.rows) (IsListenerWithin (length plan.rows)) (λ l is. is.0) s.listeners) plan.switches are_own.1) states
+      (λ s. All-weaker (IsOwnListener plan.rows) (IsListenerWithin (length plan.rows)) (λ l is. is.0) s.listeners)
+      plan.switches are_own.1) states
 
   firsts : length plan.row_lists ≡ length plan.rows
-  unfolding plan_by placed
+  unfolding plan_by part_places
   firsts = firsts_counted ps 0 0
 
   -- what parts say of coils is within bounds
@@ -122,8 +126,8 @@ module _ (rows : Rows) where
     unfolding plan_by
     settings_within =
         let W : DeviceRow → Type 0 = λ row. IsWithinLimits row.settings in
-        All-flat_map W (λ x. device_row x.row x.part) (placed ps)
-        (λ i x within. of_part (get_or (placed ps) i x).part (get_or (placed ps) i x).row (sited i x within))
+        All-flat_map W (λ x. device_row x.row x.part) (part_places ps)
+        (λ i x within. of_part (get_or (part_places ps) i x).part (get_or (part_places ps) i x).row (sited i x within))
       where
         of_part : (p : Part) (r : RowId) → Good p
             → All (λ (row : DeviceRow). IsWithinLimits row.settings) (device_row r p)
@@ -137,15 +141,17 @@ module _ (rows : Rows) where
     unfolding plan_by
     actions_few states =
         let F : List Action → Type 0 = λ actions. length actions ≤ 1024 in
-        All-flat_map F (λ x. actions_in names x.row x.part) (placed ps)
+        All-flat_map F (λ x. actions_in names x.row x.part) (part_places ps)
         (λ i x within.
-        let y = get_or (placed ps) i x in
+        let y = get_or (part_places ps) i x in
         let few = few_effects (HaveStates rows) (AreListsShort rows) (length rows.modes) (rows_of_parts ps)
         (list_any is_game_part ps) states short y.part (sited i x within) in
         All-map F (map (action_of names y.row)) (lists_in y.part)
-        (λ j es inside. omega (arith, few j es inside, length-map (get_or (lists_in y.part) j es) (action_of names y.row))))
+        (λ j es inside. omega
+        (arith, few j es inside, length-map (get_or (lists_in y.part) j es) (action_of names y.row))))
 
-    -- If no name is lacking, each table is within its limit, no list in the rows is too long, and there are few modes, the
+    -- If no name is lacking, each table is within its limit, no list in the rows is too long, and there are few modes,
+    -- the
     -- plan is valid.
     valid : AreFewModes rows.modes → HaveStates rows → lacks_name ps ≡ false
         → ((t : Table) → entry_count plan t ≤ limit_of t) → IsValid plan
@@ -211,7 +217,8 @@ pub listeners-plan_at : (rows : Rows) (plan : PlanView) → plan_at rows ≡ Ok 
 listeners-plan_at rows plan is =
     let own = subst (AreOwn rows) (sym (plan_at-Ok rows plan is).0) (own-plan_of rows) in
     All-weaker (IsOwnSwitch plan.rows) (λ s. All (λ l. (row_at plan l.row).owner ≡ owners.Machine) s.listeners)
-    (λ s. All-weaker (IsOwnListener plan.rows) (λ l. (row_at plan l.row).owner ≡ owners.Machine) (λ l h. h.1) s.listeners) plan.switches own.1
+    (λ s. All-weaker (IsOwnListener plan.rows) (λ l. (row_at plan l.row).owner ≡ owners.Machine) (λ l h. h.1)
+    s.listeners) plan.switches own.1
 
 limits-plan_of : (rows : Rows) → lacks_name (parts_of rows) ≡ false → AreLimitsByName (parts_of rows) (plan_of rows)
 unfolding plan_of
@@ -223,11 +230,13 @@ limits-plan_at rows plan is =
     subst (AreLimitsByName (parts_of rows)) (sym (plan_at-Ok rows plan is).0)
     (limits-plan_of rows (plan_at-complete rows plan is))
 
--- A plan that planning gives is valid, if no list in the rows is too long, there are few modes, and each profile of shots
+-- A plan that planning gives is valid, if no list in the rows is too long, there are few modes, and each profile of
+-- shots
 -- has a state.
 pub IsValid-plan_at : (rows : Rows) → AreListsShort rows → AreFewModes rows.modes → HaveStates rows
     → (plan : PlanView) → plan_at rows ≡ Ok plan → IsValid plan
 IsValid-plan_at rows short few states plan is =
     let given = plan_at-Ok rows plan is in
     subst IsValid (sym given.0)
-    (IsValid-plan_of rows short few states (plan_at-complete rows plan is) (subst (λ p. (t : Table) → entry_count p t ≤ limit_of t) given.0 given.1))
+    (IsValid-plan_of rows short few states (plan_at-complete rows plan is)
+    (subst (λ p. (t : Table) → entry_count p t ≤ limit_of t) given.0 given.1))

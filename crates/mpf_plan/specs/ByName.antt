@@ -1,12 +1,13 @@
 -- What a plan says, with names in place of numbers: what its effect lists do, and what its coils may be sent.
 use Rattle.std.specs.{Prelude.{ℕ, ◌≡◌, ◌<◌, List, length, Option, None, Some}, List.{All, flat_map, last_or}}
-use Rattle.plan_tables.specs.declared.entries.{CoilId.CoilId, CoilLimits.CoilLimits, Action.Action}
-use Rattle.plan_tables.specs.declared.entries.Action.TheVariants.{Post, Pulse, Enable, Disable, Change, Enter, Leave, Lose, Arrive, Request, AddBalls}
+use Rattle.plan_tables.specs.declared.entries.{CoilId.CoilId, CoilLimits.CoilLimits}
+use Rattle.plan_tables.specs.declared.entries.Action.{Action, TheVariants.{Lose, Arrive, Request, AddBalls}}
+use Rattle.plan_tables.specs.declared.entries.Action.TheVariants.{Post, Pulse, Enable, Disable, Change, Enter, Leave}
 use Rattle.machine_definitions.specs.Players.{player_event}
 use Rattle.plan_tables.specs.declared.entries.Owner.TheVariants as owners
 use Rattle.plan_tables.specs.PlanView.{PlanView, name_of_event, name_of_variable, coil_at, row_at}
-use Rattle.plan_parts.specs.Effects.{pulse, enable, disable, Effect, posts, works, changes, enters, leaves, loses, arrives, requests, adds_balls}
-use Rattle.plan_parts.specs.Parts.{Part}
+use Rattle.plan_parts.specs.Effects.{pulse, enable, disable, Effect, posts, works, changes, enters, leaves, loses}
+use Rattle.plan_parts.specs.{Effects.{arrives, requests, adds_balls}, Parts.Part}
 use Rattle.mpf_plan.specs.PlanOf.{limits_for}
 
 -- ---- what is done
@@ -27,7 +28,8 @@ effect_of plan (AddBalls n) = adds_balls n
 
 -- P holds of all that effect lists do, and S of the name of each event that a switch posts
 pub record IsDone (P : Effect → Type 0) (S : List ℕ → Type 0) (plan : PlanView) : Type 0 where
-  pub switches : All (λ s. All (λ e. S (name_of_event plan e)) s.active × All (λ e. S (name_of_event plan e)) s.inactive) plan.switches
+  pub switches : All (λ s. All (λ e. S (name_of_event plan e)) s.active
+      × All (λ e. S (name_of_event plan e)) s.inactive) plan.switches
   pub lists : All (All (λ a. P (effect_of plan a))) plan.lists
 
 -- the event of a change is that of its variable

@@ -1,7 +1,8 @@
 -- What a draft holds, and what each step adds to it.
-use Rattle.std.specs.Prelude.{◌≡◌, ◌≤◌, ◌<◌, ℕ, ◌+◌, Bool, false, List, [], ◌∷◌, ◌++◌, Option, None, Some, Result, Ok, Err, length, map, drop, slice_get, slice_set, slice_index_or, Vec}
+use Rattle.std.specs.Prelude.{◌≡◌, ◌≤◌, ◌<◌, ℕ, ◌+◌, Bool, false, List, [], ◌∷◌, ◌++◌, Option, None, Some, Result, Ok}
+use Rattle.std.specs.Prelude.{Err, length, map, drop, slice_get, slice_set, slice_index_or, Vec}
 use Rattle.std.specs.{Global.Global, List.{All, flat_map}, Borrow.Bor}
-use Rattle.mpf_values.specs.Events.{Condition, Event}
+use Rattle.mpf_values.specs.Events.{EventCondition, Event}
 use Rattle.setting_values.specs.{declared.values.Guard.Guard, View.guard_view}
 use Rattle.mpf_config.specs.Rows.{Rows}
 use Rattle.plan_tables.specs.declared.{names.NameTable.NameTable, devices.{RowId.RowId, Act.Act}}
@@ -15,15 +16,17 @@ use Rattle.plan_tables.specs.declared.entries.ModeEvent.TheVariants.{WillStart, 
 use Rattle.plan_tables.specs.declared.entries.Target.TheVariants as targets
 use Rattle.plan_tables.specs.PlanView.{PlanView, PlanSwitch, no_switch, PlanCoil, no_coil}
 use Rattle.plan_tables.specs.Limits.{entry_count, first_above, limit_of, order_of}
-use Rattle.plan_tables.specs.Inside.{action_lists, coils_view, mode_entry_view, switches_view}
+use Rattle.plan_tables.specs.PlanFields.{action_lists, coils_view, mode_entry_view, switches_view}
 use Rattle.plan_rows.specs.declared.rows.Row as written
-use Rattle.plan_parts.specs.declared.{names.Parts.Parts, row_parts.Control.{Control, TheVariants.{Start, Stop}}}
-use Rattle.plan_parts.specs.{Effects.Effect, View.parts_text, Parts.{Part, handler, device, act_on, Whose}}
+use Rattle.plan_parts.specs.{declared.names.NamePieces.NamePieces, Effects.Effect, View.pieces_text}
+use Rattle.plan_parts.specs.declared.row_parts.ModeControl.{ModeControl, TheVariants.{Start, Stop}}
+use Rattle.plan_parts.specs.Parts.{Part, handler, device, act_on, Whose}
 use Rattle.mpf_plan.specs.declared.{draft.Draft.Draft, fault.PlanFault.PlanFault}
 use Rattle.mpf_plan.specs.declared.fault.PlanFault.TheVariants as faults
 use Rattle.mpf_plan.specs.declared.names.Names as held_names
 use Rattle.mpf_plan.specs.{Uses.{Names, first_uses}, ByNumber.action_of, Lacking.parts_of_rows}
-use Rattle.mpf_plan.specs.PlanOf.{Use, uses_of, event_uses, effect_uses, part_uses, in_table, names_of, plan_by, binding_of, event_for, listeners_among}
+use Rattle.mpf_plan.specs.PlanOf.{Use, uses_of, event_uses, effect_uses, part_uses, in_table, names_of, plan_by}
+use Rattle.mpf_plan.specs.PlanOf.{binding_of, event_for, listeners_among}
 use Rattle.first_names.specs.FirstNames.{IsNameTableOf}
 
 -- ---- names
@@ -54,9 +57,11 @@ abbrev pub AreWithin : List Use → Type 0
 AreWithin us = (t : Table) → HasNames t → length (names_by us t) ≤ limit_of t
 
 -- the tables have the names of these uses
-pub record AreNamesOf (us : List Use) (held : held_names.Names) : Type 0 where
-  pub limits : (t : Table) (kept : NameTable) → slice_get held.tables.items (order_of t) ≡ Some kept → kept.limit ≡ limit_of t
-  pub names : (t : Table) (kept : NameTable) → slice_get held.tables.items (order_of t) ≡ Some kept → IsNameTableOf (names_by us t) kept
+pub record AreNamesOf (us : List Use) (store : held_names.Names) : Type 0 where
+  pub limits : (t : Table) (name_table : NameTable) → slice_get store.tables.items (order_of t) ≡ Some name_table
+      → name_table.limit ≡ limit_of t
+  pub names : (t : Table) (name_table : NameTable) → slice_get store.tables.items (order_of t) ≡ Some name_table
+      → IsNameTableOf (names_by us t) name_table
 
 -- these uses are added to those before
 abbrev pub Notes : (old new : held_names.Names) → List Use → Type 0
@@ -65,13 +70,14 @@ Notes old new more = (us : List Use) → AreNamesOf us old → AreNamesOf (us ++
 -- `it` is `what` of the names with these uses added, if the names are within their limits. It is so after any further
 -- uses too, since a name keeps its number.
 abbrev pub IsNumbered : {X : Type 0} → held_names.Names → List Use → (Names → X) → X → Type 0
-IsNumbered old more what it = (us : List Use) → AreNamesOf us old → AreWithin (us ++ more) → it ≡ what (names_by (us ++ more))
+IsNumbered old more what it = (us : List Use) → AreNamesOf us old → AreWithin (us ++ more)
+    → it ≡ what (names_by (us ++ more))
 
-abbrev pub names_uses : Table → List Parts → List Use
-names_uses table ns = uses_of table (map parts_text ns)
+abbrev pub names_uses : Table → List NamePieces → List Use
+names_uses table ns = uses_of table (map pieces_text ns)
 
 -- the condition of a handler
-abbrev pub guard_condition : Bor Guard → Condition
+abbrev pub guard_condition : Bor Guard → EventCondition
 guard_condition g = guard_view g.now
 
 -- ---- switches and coils
@@ -103,7 +109,8 @@ IfWithin old more holds = (us : List Use) → AreNamesOf us old → AreWithin (u
 
 -- The name is used. If it was there, nothing else changes. If it is new, there is one switch more, or one coil more, of
 -- which no more is known.
-pub record NotesSwitch (old new : held_names.Names) (before after : Vec SwitchEntry Global) (name : List ℕ) : Type 0 where
+pub record NotesSwitch (old new : held_names.Names) (before after : Vec SwitchEntry Global) (name : List ℕ) : Type
+    0 where
   pub names : Notes old new ((Switches, name) ∷ [])
   pub count : IfWithin old ((Switches, name) ∷ []) (HasOneEach Switches old before → HasOneEach Switches new after)
   pub entries : IfWithin old ((Switches, name) ∷ []) (HasOneEach Switches old before
@@ -111,7 +118,8 @@ pub record NotesSwitch (old new : held_names.Names) (before after : Vec SwitchEn
       ≡ switches_view (kept_names old Switches) before.items
       ++ map named_switch (new_names (kept_names old Switches) (kept_names new Switches)))
 
-pub record NotesCoils (old new : held_names.Names) (before after : Vec CoilLimits Global) (more : List Use) : Type 0 where
+pub record NotesCoils (old new : held_names.Names) (before after : Vec CoilLimits Global) (more : List Use) : Type
+    0 where
   pub names : Notes old new more
   pub count : IfWithin old more (HasOneEach Coils old before → HasOneEach Coils new after)
   pub entries : IfWithin old more (HasOneEach Coils old before
@@ -130,35 +138,40 @@ abbrev pub with_listener : Listener → PlanSwitch → PlanSwitch
 with_listener listener s = record s { listeners = s.listeners ++ listener ∷ [] }
 
 -- the row listens to a switch wherever it is among these
-abbrev pub heard : RowId → List (List ℕ) → PlanSwitch → PlanSwitch
-heard row listens s = record s { listeners = s.listeners ++ listeners_among s.name row listens }
+abbrev pub with_listeners : RowId → List (List ℕ) → PlanSwitch → PlanSwitch
+with_listeners row listens s = record s { listeners = s.listeners ++ listeners_among s.name row listens }
 
 -- one more listens to the switch of this number
 abbrev pub ListensTo : (old new : Vec SwitchEntry Global) → ℕ → Listener → Type 0
 ListensTo old new number listener =
     (length new.items ≡ length old.items)
     × ((ns : List (List ℕ)) → switches_view ns new.items
-    ≡ slice_set (switches_view ns old.items) number (with_listener listener (slice_index_or (switches_view ns old.items) number no_switch)))
+    ≡ slice_set (switches_view ns old.items) number
+    (with_listener listener (slice_index_or (switches_view ns old.items) number no_switch)))
 
 -- the switch of this number is read and posts so
 abbrev pub entered_as : SwitchKind → Bool → (active inactive : List EventId) → PlanSwitch → PlanSwitch
-entered_as kind confirms active inactive s = record s { kind = kind; confirms_playfield = confirms; active = active; inactive = inactive }
+entered_as kind confirms active inactive s =
+    record s { kind = kind; confirms_playfield = confirms; active = active; inactive = inactive }
 
-abbrev pub EntersSwitch : (old new : Vec SwitchEntry Global) → ℕ → SwitchKind → Bool → (active inactive : List EventId) → Type 0
+abbrev pub EntersSwitch : (old new : Vec SwitchEntry Global) → ℕ → SwitchKind → Bool → (active inactive : List EventId)
+    → Type 0
 EntersSwitch old new number kind confirms active inactive =
     (length new.items ≡ length old.items)
     × (number < length old.items → (ns : List (List ℕ)) → switches_view ns new.items
-    ≡ slice_set (switches_view ns old.items) number (entered_as kind confirms active inactive (slice_index_or (switches_view ns old.items) number no_switch)))
+    ≡ slice_set (switches_view ns old.items) number
+    (entered_as kind confirms active inactive (slice_index_or (switches_view ns old.items) number no_switch)))
 
 -- the coil of this number has these limits
-abbrev pub limited : CoilLimits → PlanCoil → PlanCoil
-limited limits c = record c { limits = limits }
+abbrev pub with_limits : CoilLimits → PlanCoil → PlanCoil
+with_limits limits c = record c { limits = limits }
 
 abbrev pub LimitsCoil : (old new : Vec CoilLimits Global) → ℕ → CoilLimits → Type 0
 LimitsCoil old new number limits =
     (length new.items ≡ length old.items)
     × (number < length old.items → (ns : List (List ℕ)) → coils_view ns new.items
-    ≡ slice_set (coils_view ns old.items) number (limited limits (slice_index_or (coils_view ns old.items) number no_coil)))
+    ≡ slice_set (coils_view ns old.items) number
+    (with_limits limits (slice_index_or (coils_view ns old.items) number no_coil)))
 
 -- ---- modes
 
@@ -171,7 +184,7 @@ mode_events_of names name = record {
   stopped = event_for names Stopped name;
 }
 
-abbrev pub control_target : ModeId → Control → Target
+abbrev pub control_target : ModeId → ModeControl → Target
 control_target m Start = targets.Start m
 control_target m Stop = targets.Stop m
 
@@ -182,7 +195,7 @@ abbrev pub seated_part : Whose → ℕ → Event × Act → Part
 seated_part whose number h = handler whose h.0 (act_on (record { 0 = number }) h.1)
 
 abbrev pub seated_parts : Whose → ℕ → List (Event × Act) → List Part
-seated_parts whose number handled = map (seated_part whose number) handled
+seated_parts whose number event_acts = map (seated_part whose number) event_acts
 
 -- ---- the draft
 
@@ -221,7 +234,8 @@ pub record IsDraftOf (ps : List Part) (d : Draft) : Type 0 where
   pub switches : AreWithin (flat_map part_uses ps) → HasOneEach Switches d.names d.switches
   pub coils : AreWithin (flat_map part_uses ps) → HasOneEach Coils d.names d.coils
   pub counts : HasCounts ps d
-  pub plan : All IsKept ps → ((t : Table) → entry_count (plan_by (names_of ps) ps) t ≤ limit_of t) → draft_view d ≡ plan_by (names_of ps) ps
+  pub plan : All IsKept ps → ((t : Table) → entry_count (plan_by (names_of ps) ps) t ≤ limit_of t)
+      → draft_view d ≡ plan_by (names_of ps) ps
 
 -- these parts are added to those before
 abbrev pub Adds : (old new : Draft) → List Part → Type 0
@@ -230,11 +244,11 @@ Adds old new more = (ps : List Part) → IsDraftOf ps old → IsDraftOf (ps ++ m
 -- what the pass over the rows answers: the draft of their parts; or that there are too many events, which is the table
 -- that is judged first
 abbrev pub GivesDraft : Rows → List written.Row → Result Draft PlanFault → Type 0
-GivesDraft defined rows (Ok d) = IsDraftOf (parts_of_rows defined rows) d
-GivesDraft defined rows (Err faults.NoMemory) = Unit {0}
-GivesDraft defined rows (Err faults.NoSuchName) = ⊥
-GivesDraft defined rows (Err (faults.Limit t)) =
-    first_above (plan_by (names_of (parts_of_rows defined rows)) (parts_of_rows defined rows)) ≡ Some t
+GivesDraft definitions rows (Ok d) = IsDraftOf (parts_of_rows definitions rows) d
+GivesDraft definitions rows (Err faults.NoMemory) = Unit {0}
+GivesDraft definitions rows (Err faults.NoSuchName) = ⊥
+GivesDraft definitions rows (Err (faults.Limit t)) =
+    first_above (plan_by (names_of (parts_of_rows definitions rows)) (parts_of_rows definitions rows)) ≡ Some t
 
 -- ---- pieces of a part
 
@@ -261,8 +275,9 @@ AddsBinding old new whose e target = AddsBindings old new (event_uses e) (λ ns.
 
 -- bindings of events that act on this row
 abbrev pub AddsActs : (old new : Draft) → Whose → RowId → List (Event × Act) → Type 0
-AddsActs old new whose row handled =
-    AddsBindings old new (flat_map (λ h. event_uses h.0) handled) (λ ns. map (λ h. binding_of ns whose h.0 (targets.Act row h.1)) handled)
+AddsActs old new whose row event_acts =
+    AddsBindings old new (flat_map (λ h. event_uses h.0) event_acts)
+    (λ ns. map (λ h. binding_of ns whose h.0 (targets.Act row h.1)) event_acts)
 
 -- effect lists of this row
 pub record AddsLists (old new : Draft) (row : RowId) (more : List (List Effect)) : Type 0 where
@@ -275,7 +290,8 @@ pub record AddsLists (old new : Draft) (row : RowId) (more : List (List Effect))
   pub count : length new.lists.items ≡ length old.lists.items + length more
   pub lists : (us : List Use) → AreNamesOf us old.names → AreWithin (us ++ flat_map (flat_map effect_uses) more)
       → action_lists new.lists.items
-      ≡ action_lists old.lists.items ++ map (map (action_of (names_by (us ++ flat_map (flat_map effect_uses) more)) row)) more
+      ≡ action_lists old.lists.items ++ map
+      (map (action_of (names_by (us ++ flat_map (flat_map effect_uses) more)) row)) more
 
 -- the row listens to these switches
 pub record AddsListeners (old new : Draft) (row : RowId) (listens : List (List ℕ)) : Type 0 where
@@ -285,9 +301,10 @@ pub record AddsListeners (old new : Draft) (row : RowId) (listens : List (List �
   pub bindings : new.bindings ≡ old.bindings
   pub rows : new.rows ≡ old.rows
   pub row_lists : new.row_lists ≡ old.row_lists
-  pub count : IfWithin old.names (uses_of Switches listens) (HasOneEach Switches old.names old.switches → HasOneEach Switches new.names new.switches)
-  pub heard : IfWithin old.names (uses_of Switches listens) (HasOneEach Switches old.names old.switches
+  pub count : IfWithin old.names (uses_of Switches listens)
+      (HasOneEach Switches old.names old.switches → HasOneEach Switches new.names new.switches)
+  pub listeners : IfWithin old.names (uses_of Switches listens) (HasOneEach Switches old.names old.switches
       → switches_view (kept_names new.names Switches) new.switches.items
-      ≡ map (heard row listens)
+      ≡ map (with_listeners row listens)
       (switches_view (kept_names old.names Switches) old.switches.items
       ++ map named_switch (new_names (kept_names old.names Switches) (kept_names new.names Switches))))

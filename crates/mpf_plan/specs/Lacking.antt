@@ -11,10 +11,11 @@ use Rattle.plan_parts.specs.Parts.{Part, handler, run, device, mention, unknown}
 
 -- the parts of these rows, which begin with the machine's
 abbrev pub parts_of_rows : Rows → List written.Row → List Part
-parts_of_rows defined rows = parts_from defined.machine machine_text (row_list_view rows)
+parts_of_rows definitions rows = parts_from definitions.machine machine_text (row_list_view rows)
 
 module _ (machine : List SectionRows) where
-  -- whether a name of this table has to be given, and the machine text does not: it gives names of switches and of coils
+  -- whether a name of this table has to be given, and the machine text does not: it gives names of switches and of
+  -- coils
   abbrev pub lacks : Table → List ℕ → Bool
   lacks Events name = false
   lacks Switches name = not (has_switch machine name)

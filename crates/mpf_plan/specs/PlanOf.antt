@@ -7,9 +7,10 @@
 --    the parts give. Events and variables are names alone. What a switch or a coil is, the part of its name says; what
 --    the game is, the part that is the game. The number of a row, and of an effect list, is how many of them come
 --    before it: `placed`.
-use Rattle.std.specs.Prelude.{◌≡◌, ℕ, ◌+◌, ◌==◌, ◌||◌, Bool, true, false, if◌then◌else◌, cond, List, [], ◌∷◌, ◌++◌, Option, None, Some, Result, Ok, Err, map, filter, length, option_map, slice_index_or, unwrap_or}
-use Rattle.std.specs.{List.{flat_map, list_any, last_or, range_with_len}, Str.bytes_eq}
-use Rattle.mpf_values.specs.Events.{Condition, Event}
+use Rattle.std.specs.Prelude.{◌≡◌, ℕ, ◌+◌, ◌==◌, ◌||◌, Bool, true, false, if◌then◌else◌, cond, List, [], ◌∷◌, ◌++◌}
+use Rattle.std.specs.Prelude.{Option, None, Some, Result, Ok, Err, map, filter, length, option_map, slice_index_or}
+use Rattle.std.specs.{Prelude.unwrap_or, List.{flat_map, list_any, last_or, range_with_len}, Str.bytes_eq}
+use Rattle.mpf_values.specs.Events.{EventCondition, Event}
 use Rattle.mpf_config.specs.Rows.{Rows}
 use Rattle.machine_definitions.specs.{GameEvents.game_event_names, Players.player_event}
 use Rattle.plan_tables.specs.declared.entries.{EventId.EventId, Listener.Listener, Binding.Binding, Target.Target}
@@ -22,7 +23,8 @@ use Rattle.plan_tables.specs.declared.table.Table.{Table, TheVariants.{Events, S
 use Rattle.plan_tables.specs.PlanView.{PlanSwitch, no_switch, PlanCoil, no_coil, PlanMode, PlanView}
 use Rattle.plan_tables.specs.Limits.{order_of, first_above, IsFirstAbove}
 use Rattle.plan_parts.specs.Effects.{mode_event_name, Effect, posts, works, changes, enters}
-use Rattle.plan_parts.specs.Parts.{Part, switch, coil, game, mode, handler, device, mention, unknown, Reaction, run, start, stop, act_on, Whose, parts_of}
+use Rattle.plan_parts.specs.Parts.{Part, switch, coil, game, mode, handler, device, mention, unknown, Reaction, run}
+use Rattle.plan_parts.specs.Parts.{start, stop, act_on, Whose, parts_of}
 use Rattle.mpf_plan.specs.{declared.fault.PlanFault.PlanFault, Uses.{Names, first_uses, is_lacking}}
 use Rattle.mpf_plan.specs.declared.fault.PlanFault.TheVariants as faults
 use Rattle.mpf_plan.specs.ByNumber.{event_of, action_of, condition_of, rules_of}
@@ -36,7 +38,7 @@ Use = Table × List ℕ
 abbrev pub uses_of : Table → List (List ℕ) → List Use
 uses_of table names = map (λ n. (table, n)) names
 
-abbrev pub condition_uses : Option Condition → List Use
+abbrev pub condition_uses : Option EventCondition → List Use
 condition_uses None = []
 condition_uses (Some c) = (Variables, c.variable) ∷ []
 
@@ -57,7 +59,8 @@ lists_in (device whose d) = d.lists
 lists_in _ = []
 
 abbrev pub mode_event_names : List ℕ → List (List ℕ)
-mode_event_names name = map (λ which. mode_event_name which name) (WillStart ∷ Starting ∷ Started ∷ Stopping ∷ Stopped ∷ [])
+mode_event_names name = map (λ which. mode_event_name which name)
+    (WillStart ∷ Starting ∷ Started ∷ Stopping ∷ Stopped ∷ [])
 
 -- what a part names before its effect lists do: of a device, the switches to which it listens, the events that it
 -- handles, with the variables of their conditions, and those that it mentions
@@ -67,7 +70,8 @@ settings_uses (coil name limits) = (Coils, name) ∷ []
 settings_uses (game min_balls balls_per_game max_players) = uses_of Events game_event_names
 settings_uses (mode name s) = uses_of Events (mode_event_names name)
 settings_uses (handler whose e reaction) = event_uses e
-settings_uses (device whose d) = uses_of Switches d.listens ++ flat_map (λ h. event_uses h.0) d.handled ++ uses_of Events d.mentioned
+settings_uses (device whose d) = uses_of Switches d.listens ++ flat_map (λ h. event_uses h.0) d.event_acts
+    ++ uses_of Events d.other_mentions
 settings_uses (mention table name) = (table, name) ∷ []
 settings_uses unknown = []
 
@@ -103,7 +107,7 @@ lacks_name parts =
 
 -- A part, with the numbers of its row and of the first of its effect lists. If it has no row, or no list, it has the
 -- number of the next.
-pub record Placed : Type 0 where
+pub record PartPlace : Type 0 where
   pub row : RowId
   pub list : ListId
   pub part : Part
@@ -112,14 +116,14 @@ abbrev pub row_count : Part → ℕ
 row_count (device whose d) = 1
 row_count _ = 0
 
-abbrev pub placed_from : (rows lists : ℕ) → List Part → List Placed
+abbrev pub placed_from : (rows lists : ℕ) → List Part → List PartPlace
 placed_from rows lists [] = []
 placed_from rows lists (p ∷ ps) =
     record { row = record { 0 = rows }; list = record { 0 = lists }; part = p }
     ∷ placed_from (rows + row_count p) (lists + length (lists_in p)) ps
 
-unfoldable pub placed : List Part → List Placed
-placed parts = placed_from 0 0 parts
+unfoldable pub part_places : List Part → List PartPlace
+part_places parts = placed_from 0 0 parts
 
 -- ---- what a part gives to the tables
 
@@ -135,7 +139,8 @@ first_list list _ = []
 -- in a row is its place among them
 abbrev pub listeners_among : List ℕ → RowId → (listens : List (List ℕ)) → List Listener
 listeners_among name row listens =
-    map (λ k. record { row = row; switch = k }) (filter (λ k. bytes_eq name (slice_index_or listens k [])) (range_with_len 0 (length listens)))
+    map (λ k. record { row = row; switch = k })
+    (filter (λ k. bytes_eq name (slice_index_or listens k [])) (range_with_len 0 (length listens)))
 
 abbrev pub listeners : List ℕ → RowId → Part → List Listener
 listeners name row (device whose d) = listeners_among name row d.listens
@@ -164,7 +169,7 @@ module _ (names : Names) where
 
   abbrev pub bindings_in : RowId → ListId → Part → List Binding
   bindings_in row list (handler whose e reaction) = binding_of whose e (target_of list reaction) ∷ []
-  bindings_in row list (device whose d) = map (λ h. binding_of whose h.0 (targets.Act row h.1)) d.handled
+  bindings_in row list (device whose d) = map (λ h. binding_of whose h.0 (targets.Act row h.1)) d.event_acts
   bindings_in row list _ = []
 
   abbrev pub actions_in : RowId → Part → List (List Action)
@@ -192,7 +197,8 @@ module _ (names : Names) where
   plan_mode _ = []
 
   abbrev pub rules_in : Part → List GameRules
-  rules_in (game min_balls balls_per_game max_players) = rules_of (names Events) min_balls balls_per_game max_players ∷ []
+  rules_in (game min_balls balls_per_game max_players) =
+      rules_of (names Events) min_balls balls_per_game max_players ∷ []
   rules_in _ = []
 
   -- the switch of this name, without its listeners
@@ -213,12 +219,14 @@ module _ (names : Names) where
   -- The switch of this name, and the coil. Entries have distinct names, so there is at most one; of two, the last would
   -- count. If there is none, the parts use a name that nothing has, and there is no plan.
   abbrev pub switch_called : List Part → List ℕ → PlanSwitch
-  switch_called parts name = record (unwrap_or (last_or None (flat_map (switch_for name) parts)) (record no_switch { name = name })) {
-    listeners = flat_map (λ p. listeners name p.row p.part) (placed parts);
-  }
+  switch_called parts name = record (unwrap_or (last_or None (flat_map (switch_for name) parts))
+      (record no_switch { name = name })) {
+        listeners = flat_map (λ p. listeners name p.row p.part) (part_places parts);
+      }
 
   abbrev pub coil_called : List Part → List ℕ → PlanCoil
-  coil_called parts name = record { name = name; limits = unwrap_or (last_or None (flat_map (limits_for name) parts)) no_coil.limits }
+  coil_called parts name =
+      record { name = name; limits = unwrap_or (last_or None (flat_map (limits_for name) parts)) no_coil.limits }
 
   -- ---- the plan
 
@@ -228,10 +236,10 @@ module _ (names : Names) where
     events = names Events;
     switches = map (switch_called parts) (names Switches);
     coils = map (coil_called parts) (names Coils);
-    lists = flat_map (λ p. actions_in p.row p.part) (placed parts);
-    bindings = flat_map (λ p. bindings_in p.row p.list p.part) (placed parts);
-    rows = flat_map (λ p. device_row p.row p.part) (placed parts);
-    row_lists = flat_map (λ p. first_list p.list p.part) (placed parts);
+    lists = flat_map (λ p. actions_in p.row p.part) (part_places parts);
+    bindings = flat_map (λ p. bindings_in p.row p.list p.part) (part_places parts);
+    rows = flat_map (λ p. device_row p.row p.part) (part_places parts);
+    row_lists = flat_map (λ p. first_list p.list p.part) (part_places parts);
     variables = names Variables;
     game = last_or None (flat_map rules_in parts);
   }
@@ -252,7 +260,8 @@ plan_of rows = plan_by (names_of (parts_of rows)) (parts_of rows)
 
 -- the plan; or that the rows use a name that nothing has; or the first of the tables that is above its limit
 unfoldable pub plan_at : Rows → Result PlanView PlanRefusal
-plan_at rows = cond (lacks_name (parts_of rows)) (Err no_such_name) (fitting (plan_of rows) (first_above (plan_of rows)))
+plan_at rows = cond (lacks_name (parts_of rows)) (Err no_such_name)
+    (fitting (plan_of rows) (first_above (plan_of rows)))
 
 -- the table is the first of the rows' plan that is above its limit
 abbrev pub IsExceeded : Rows → Table → Type 0

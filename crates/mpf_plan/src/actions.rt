@@ -27,7 +27,8 @@ pub(crate) fn note_switch(
     name: &[u8],
 ) -> Result<usize, AllocError>
     ensures names { OnOk result (NotesSwitch names.old names.new switches.old switches.new name.now) }
-    ensures number { IfOk result (IsNumbered names.old ((Switches, name.now) ∷ []) (λ ns. number_among (ns Switches) name.now)) }
+    ensures number { IfOk result (IsNumbered names.old ((Switches, name.now) ∷ [])
+        (λ ns. number_among (ns Switches) name.now)) }
 {
     let number = note(alloc, names, Table::Switches, whole(name))?;
     if switches.len() < names.count(Table::Switches) {
@@ -87,7 +88,8 @@ pub(crate) fn actions_of(
     effects: &[Effect],
 ) -> Result<Vec<Action>, AllocError>
     ensures names { OnOk result (NotesEffects names.old names.new coils.old coils.new (map effect_view effects.now)) }
-    ensures actions { IfOk result (λ v. IsNumbered names.old (flat_map effect_uses (map effect_view effects.now)) (λ ns. map (action_of ns row) (map effect_view effects.now)) v.items) }
+    ensures actions { IfOk result (λ v. IsNumbered names.old (flat_map effect_uses (map effect_view effects.now))
+        (λ ns. map (action_of ns row) (map effect_view effects.now)) v.items) }
 {
     let mut actions = Vec::with_capacity(alloc, effects.len())?;
     for effect in effects {
@@ -105,7 +107,8 @@ fn action_of(
     effect: Effect,
 ) -> Result<Action, AllocError>
     ensures names { OnOk result (NotesEffects names.old names.new coils.old coils.new (effect_view effect.entry ∷ [])) }
-    ensures action { IfOk result (IsNumbered names.old (effect_uses (effect_view effect.entry)) (λ ns. action_of ns row (effect_view effect.entry))) }
+    ensures action { IfOk result (IsNumbered names.old (effect_uses (effect_view effect.entry))
+        (λ ns. action_of ns row (effect_view effect.entry))) }
 {
     match effect {
         Effect::Post(name) => Ok(Action::Post(note_event(alloc, names, name)?)),

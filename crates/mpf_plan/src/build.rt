@@ -9,7 +9,7 @@ ghost use Rattle.plan_parts.specs.Parts.{Part, parts_of};
 ghost use Rattle.plan_rows.specs.Rows.{rows_of};
 ghost use Rattle.plan_rows.specs.View.{row_list_view};
 ghost use Rattle.plan_tables.specs.declared.table.Table.{Table as TableValue};
-ghost use Rattle.plan_tables.specs.Inside.{tables_view};
+ghost use Rattle.plan_tables.specs.PlanFields.{tables_view};
 ghost use Rattle.plan_tables.specs.Limits.{entry_count, first_above, limit_of};
 ghost use Rattle.mpf_plan.specs.PlanOf.{plan_at, plan_by, plan_of, lacks_name, names_of, GivesPlan, IsExceeded};
 ghost use Rattle.mpf_plan.specs.OfConfig.{PlansConfig, plan_of_config, IsExceededBy};
@@ -21,7 +21,7 @@ use crate::lacking::lacks_name;
 use machine_definitions::Definitions;
 use mpf_config::config::Config;
 use plan_rows::{Row, rows_of};
-use plan_tables::names::NameSets;
+use plan_tables::names::{NameHashing, NameSets};
 use plan_tables::table::{TABLES, Table};
 use plan_tables::tables::{Plan, Tables};
 use std::alloc::Global;
@@ -58,14 +58,13 @@ fn plan_of_definitions(alloc: Global, definitions: &Definitions<'_>) -> Result<P
     ensures within { IfOk result (λ _. (t : TableValue) → entry_count (plan_of definitions.now) t ≤ limit_of t) }
     ensures limit { (t : TableValue) → result ≡ Err (PlanFault.Limit t) → IsExceeded definitions.now t }
 {
-    // its lists are short, its profiles have states, and its modes are few
-    let _config = definitions.config();
+    let config = definitions.config();
     let rows = rows_of(alloc, definitions)?;
     let lacking = lacks_name(alloc, definitions, &rows)?;
     if lacking {
         return Err(PlanFault::NoSuchName);
     }
-    plan_of_rows(alloc, definitions, &rows)
+    plan_of_rows(alloc, config.hashing, definitions, &rows)
 }
 
 /// The plan of the rows that these definitions are of, as [`plan`] gives it, if no name is used
@@ -82,14 +81,18 @@ pub fn plan_complete(alloc: Global, definitions: &Definitions<'_>) -> Result<Pla
     ensures within { IfOk result (λ _. (t : TableValue) → entry_count (plan_of definitions.now) t ≤ limit_of t) }
     ensures limit { (t : TableValue) → result ≡ Err (PlanFault.Limit t) → IsExceeded definitions.now t }
 {
-    // its lists are short, its profiles have states, and its modes are few
-    let _config = definitions.config();
+    let config = definitions.config();
     let rows = rows_of(alloc, definitions)?;
-    plan_of_rows(alloc, definitions, &rows)
+    plan_of_rows(alloc, config.hashing, definitions, &rows)
 }
 
 /// The plan of these rows, if they use no name that nothing has.
-fn plan_of_rows(alloc: Global, definitions: &Definitions, rows: &[Row]) -> Result<Plan, PlanFault>
+fn plan_of_rows(
+    alloc: Global,
+    hashing: NameHashing,
+    definitions: &Definitions,
+    rows: &[Row],
+) -> Result<Plan, PlanFault>
     requires rows { row_list_view rows.now ≡ rows_of definitions.now }
     requires complete { lacks_name (parts_of definitions.now) ≡ false }
     requires short { AreListsShort definitions.now }
@@ -100,7 +103,7 @@ fn plan_of_rows(alloc: Global, definitions: &Definitions, rows: &[Row]) -> Resul
     ensures within { IfOk result (λ _. (t : TableValue) → entry_count (plan_of definitions.now) t ≤ limit_of t) }
     ensures limit { (t : TableValue) → result ≡ Err (PlanFault.Limit t) → IsExceeded definitions.now t }
 {
-    let draft = fill(alloc, definitions, rows)?;
+    let draft = fill(alloc, hashing, definitions, rows)?;
     if let Some(table) = first_above(&draft) {
         return Err(PlanFault::Limit(table));
     }
@@ -145,7 +148,8 @@ fn first_above(draft: &Draft) -> Option<Table>
 }
 
 fn is_above(draft: &Draft, table: Table) -> bool
-    ensures { (ps : List Part) → IsDraftOf ps draft.now → result ≡ nat_lt (limit_of table) (entry_count (plan_by (names_of ps) ps) table) }
+    ensures { (ps : List Part) → IsDraftOf ps draft.now
+        → result ≡ nat_lt (limit_of table) (entry_count (plan_by (names_of ps) ps) table) }
 {
     match table {
         Table::Bindings => draft.bindings.len() > table.limit(),

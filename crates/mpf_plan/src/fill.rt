@@ -4,11 +4,14 @@ ghost use Rattle.std.specs.Prelude.{◌≡◌, ◌≤◌, ◌<◌, ◌∷◌, []
 ghost use Rattle.machine_definitions.specs.GameEvents.{game_event_names};
 ghost use Rattle.mpf_config.specs.FewModes.{AreFewModes};
 ghost use Rattle.mpf_plan.specs.ByNumber.{event_of};
-ghost use Rattle.mpf_plan.specs.Drafting.{Adds, AddsActs, AddsBinding, AddsLists, AddsListeners, EntersSwitch, GivesDraft, IsNumbered, LimitsCoil, ListensTo, Notes, mode_events_of, control_target, seated_parts};
+ghost use Rattle.mpf_plan.specs.Drafting.{Adds, AddsActs, AddsBinding, AddsLists, AddsListeners, EntersSwitch};
+ghost use Rattle.mpf_plan.specs.Drafting.{GivesDraft, IsNumbered, LimitsCoil, ListensTo, Notes, mode_events_of};
+ghost use Rattle.mpf_plan.specs.Drafting.{control_target, seated_parts};
 ghost use Rattle.mpf_plan.specs.PlanOf.{mode_event_names, uses_of};
 ghost use Rattle.mpf_sections.specs.View.{mode_settings_view};
 ghost use Rattle.plan_parts.specs.Parts.{coil, game, handler, mention, mode, run, switch, where_some};
-ghost use Rattle.plan_parts.specs.RowViews.{acts_view, bytes_view, control_parts, controls_view, device_in, handled_event_view, head_parts, names_view, parts_in, whose_view};
+ghost use Rattle.plan_parts.specs.RowViews.{acts_view, bytes_view, control_parts, controls_view, device_in};
+ghost use Rattle.plan_parts.specs.RowViews.{handled_event_view, head_parts, names_view, parts_in, whose_view};
 ghost use Rattle.plan_parts.specs.View.{effect_view};
 ghost use Rattle.plan_rows.specs.Rows.{rows_of};
 ghost use Rattle.plan_rows.specs.View.{row_list_view};
@@ -21,8 +24,8 @@ use crate::numbering::{Names, as_kept, note_condition, note_event, note_events, 
 use machine_definitions::{Definitions, GAME_EVENT_NAMES};
 use mpf_config::ModeSettings;
 use plan_parts::{
-    Control, Effect, EffectLists, Handled, Head, Parts, RowParts, Text, Whose, collect_row,
-    mode_event_name, whole,
+    Effect, EffectLists, HandledName, ModeControl, NamePieces, RowHead, RowParts, RowText, Whose,
+    collect_row, mode_event_name, whole,
 };
 use plan_rows::Row;
 use plan_tables::devices::{Act, DeviceRow, RowId, Settings};
@@ -30,6 +33,7 @@ use plan_tables::entries::{
     Action, Binding, CoilLimits, EventId, GameRules, ListId, Listener, Mode, ModeEntry, ModeEvent,
     ModeEvents, ModeId, SwitchEntry, SwitchKind, Target,
 };
+use plan_tables::names::NameHashing;
 use plan_tables::table::Table;
 use std::alloc::{AllocError, Global};
 
@@ -37,6 +41,7 @@ use std::alloc::{AllocError, Global};
 /// at.
 pub(crate) fn fill(
     alloc: Global,
+    hashing: NameHashing,
     definitions: &Definitions,
     rows: &[Row],
 ) -> Result<Draft, PlanFault>
@@ -44,9 +49,9 @@ pub(crate) fn fill(
     requires modes { AreFewModes definitions.now.modes }
     ensures { GivesDraft definitions.now rows.now result }
 {
-    let mut draft = blank(alloc, definitions.config().hashing)?;
+    let mut draft = blank(alloc, hashing)?;
     let mut parts = RowParts::new(alloc);
-    let mut text = Text::machine();
+    let mut text = RowText::machine();
     for row in rows {
         collect_row(&mut parts, definitions, text, *row)?;
         add_row(alloc, &mut draft, &parts)?;
@@ -82,27 +87,33 @@ fn add_head(alloc: Global, draft: &mut Draft, parts: &RowParts) -> Result<(), Al
     ensures { OnOk result (Adds draft.old draft.new (head_parts parts.now)) }
 {
     match parts.head {
-        Head::Nothing => Ok(()),
-        Head::Switch {
+        RowHead::Nothing => Ok(()),
+        RowHead::Switch {
             name,
             kind,
             confirms_playfield,
         } => add_switch(alloc, draft, name, kind, confirms_playfield, parts),
-        Head::Coil(name, limits) => add_coil(alloc, draft, name, limits),
-        Head::Game {
+        RowHead::Coil(name, limits) => add_coil(alloc, draft, name, limits),
+        RowHead::Game {
             min_balls,
             balls_per_game,
             max_players,
         } => add_game(alloc, draft, min_balls, balls_per_game, max_players),
-        Head::Mode(number, name, settings) => {
+        RowHead::Mode(number, name, settings) => {
             add_mode(alloc, draft, name, settings)?;
             add_controls(alloc, draft, parts.whose, number, &parts.controls)
         }
-        Head::Handler(handled) => {
-            add_handler(alloc, draft, parts.whose, handled, parts.lists.effects())
+        RowHead::Handler(handled_name) => {
+            add_handler(
+                alloc,
+                draft,
+                parts.whose,
+                handled_name,
+                parts.lists.effects(),
+            )
         }
-        Head::Device(settings) => add_device(alloc, draft, parts, settings),
-        Head::Seat(row) => add_seated(alloc, draft, parts.whose, row, &parts.handled),
+        RowHead::Device(settings) => add_device(alloc, draft, parts, settings),
+        RowHead::Seat(row) => add_seated(alloc, draft, parts.whose, row, &parts.event_acts),
     }
 }
 
@@ -117,34 +128,37 @@ fn add_switch(
     confirms_playfield: bool,
     parts: &RowParts,
 ) -> Result<(), AllocError>
-    ensures { OnOk result (Adds draft.old draft.new (switch name.now kind confirms_playfield (names_view parts.now.active.items) (names_view parts.now.inactive.items) ∷ [])) }
+    ensures { OnOk result (Adds draft.old draft.new
+        (switch name.now kind confirms_playfield (names_view parts.now.active.items)
+        (names_view parts.now.inactive.items) ∷ [])) }
 {
     let number = note_switch(alloc, &mut draft.names, &mut draft.switches, name)?;
     let active = note_events(alloc, &mut draft.names, &parts.active)?;
     let inactive = note_events(alloc, &mut draft.names, &parts.inactive)?;
-    let entered = SwitchEntry {
+    let switch_entry = SwitchEntry {
         kind,
         listeners: Vec::new(alloc),
         confirms_playfield,
         active,
         inactive,
     };
-    enter_switch(&mut draft.switches, number, entered);
+    enter_switch(&mut draft.switches, number, switch_entry);
     Ok(())
 }
 
 /// The switch of this number becomes this one, and keeps its listeners.
-fn enter_switch(switches: &mut Vec<SwitchEntry>, number: usize, entered: SwitchEntry)
-    ensures { EntersSwitch switches.old switches.new number entered.kind entered.confirms_playfield entered.active.items entered.inactive.items }
+fn enter_switch(switches: &mut Vec<SwitchEntry>, number: usize, switch_entry: SwitchEntry)
+    ensures { EntersSwitch switches.old switches.new number switch_entry.kind switch_entry.confirms_playfield
+        switch_entry.active.items switch_entry.inactive.items }
 {
     if number >= switches.len() {
         return;
     }
     let entry = &mut switches[number];
-    entry.kind = entered.kind;
-    entry.confirms_playfield = entered.confirms_playfield;
-    entry.active = entered.active;
-    entry.inactive = entered.inactive;
+    entry.kind = switch_entry.kind;
+    entry.confirms_playfield = switch_entry.confirms_playfield;
+    entry.active = switch_entry.active;
+    entry.inactive = switch_entry.inactive;
 }
 
 // ---- coils
@@ -198,7 +212,8 @@ fn add_game(
 /// The events of the game, in their order.
 fn game_events(alloc: Global, names: &mut Names) -> Result<[EventId; 21], AllocError>
     ensures names { OnOk result (Notes names.old names.new (uses_of Events game_event_names)) }
-    ensures events { IfOk result (IsNumbered names.old (uses_of Events game_event_names) (λ ns. map (event_of (ns Events)) game_event_names)) }
+    ensures events { IfOk result (IsNumbered names.old (uses_of Events game_event_names)
+        (λ ns. map (event_of (ns Events)) game_event_names)) }
 {
     let mut events = [EventId(0); 21];
     for place in 0..GAME_EVENT_NAMES.len() {
@@ -240,7 +255,8 @@ fn add_mode(
 /// The events of the mode of this name.
 fn mode_events(alloc: Global, names: &mut Names, name: &[u8]) -> Result<ModeEvents, AllocError>
     ensures names { OnOk result (Notes names.old names.new (uses_of Events (mode_event_names name.now))) }
-    ensures events { IfOk result (IsNumbered names.old (uses_of Events (mode_event_names name.now)) (λ ns. mode_events_of ns name.now)) }
+    ensures events { IfOk result (IsNumbered names.old (uses_of Events (mode_event_names name.now))
+        (λ ns. mode_events_of ns name.now)) }
 {
     let will_start = note_event(alloc, names, mode_event_name(ModeEvent::WillStart, name))?;
     let starting = note_event(alloc, names, mode_event_name(ModeEvent::Starting, name))?;
@@ -262,9 +278,10 @@ fn add_controls(
     draft: &mut Draft,
     whose: Whose,
     number: ModeId,
-    controls: &[(Handled, Control)],
+    controls: &[(HandledName, ModeControl)],
 ) -> Result<(), AllocError>
-    ensures { OnOk result (Adds draft.old draft.new (control_parts (whose_view whose) number (controls_view controls.now))) }
+    ensures { OnOk result (Adds draft.old draft.new
+        (control_parts (whose_view whose) number (controls_view controls.now))) }
 {
     for each in controls {
         let target = control_target(number, each.1);
@@ -274,12 +291,12 @@ fn add_controls(
 }
 
 /// What is done with the mode of this number.
-fn control_target(mode: ModeId, control: Control) -> Target
+fn control_target(mode: ModeId, control: ModeControl) -> Target
     ensures { result ≡ control_target mode control }
 {
     match control {
-        Control::Start => Target::Start(mode),
-        Control::Stop => Target::Stop(mode),
+        ModeControl::Start => Target::Start(mode),
+        ModeControl::Stop => Target::Stop(mode),
     }
 }
 
@@ -290,13 +307,14 @@ fn add_binding(
     alloc: Global,
     draft: &mut Draft,
     whose: Whose,
-    handled: Handled,
+    handled_name: HandledName,
     target: Target,
 ) -> Result<(), AllocError>
-    ensures { OnOk result (AddsBinding draft.old draft.new (whose_view whose) (handled_event_view handled.entry) target) }
+    ensures { OnOk result (AddsBinding draft.old draft.new (whose_view whose) (handled_event_view handled_name.entry)
+        target) }
 {
-    let event = note_event(alloc, &mut draft.names, handled.event)?;
-    let condition = note_condition(alloc, &mut draft.names, handled.condition)?;
+    let event = note_event(alloc, &mut draft.names, handled_name.event)?;
+    let condition = note_condition(alloc, &mut draft.names, handled_name.condition)?;
     draft.bindings.push(Binding {
         event,
         owner: whose.owner,
@@ -312,14 +330,15 @@ fn add_handler(
     alloc: Global,
     draft: &mut Draft,
     whose: Whose,
-    handled: Handled,
+    handled_name: HandledName,
     effects: &[Effect],
 ) -> Result<(), AllocError>
-    ensures { OnOk result (Adds draft.old draft.new (handler (whose_view whose) (handled_event_view handled.entry) (run (map effect_view effects.now)) ∷ [])) }
+    ensures { OnOk result (Adds draft.old draft.new
+        (handler (whose_view whose) (handled_event_view handled_name.entry) (run (map effect_view effects.now)) ∷ [])) }
 {
     let list = next_list(draft);
     let row = next_row(draft);
-    add_binding(alloc, draft, whose, handled, Target::Run(list))?;
+    add_binding(alloc, draft, whose, handled_name, Target::Run(list))?;
     add_list(alloc, draft, row, effects)
 }
 
@@ -372,12 +391,13 @@ fn add_seated(
     draft: &mut Draft,
     whose: Whose,
     number: usize,
-    handled: &[(Handled, Act)],
+    event_acts: &[(HandledName, Act)],
 ) -> Result<(), AllocError>
-    ensures { OnOk result (Adds draft.old draft.new (seated_parts (whose_view whose) number (acts_view handled.now))) }
+    ensures { OnOk result (Adds draft.old draft.new
+        (seated_parts (whose_view whose) number (acts_view event_acts.now))) }
 {
     let row = RowId(as_kept(number));
-    for each in handled {
+    for each in event_acts {
         add_binding(alloc, draft, whose, each.0, Target::Act(row, each.1))?;
     }
     Ok(())
@@ -404,8 +424,8 @@ fn add_device(
     })?;
     draft.row_lists.push(first)?;
     add_listeners(alloc, draft, row, &parts.listens)?;
-    add_acts(alloc, draft, parts.whose, row, &parts.handled)?;
-    note_mentioned(alloc, &mut draft.names, &parts.mentioned)?;
+    add_acts(alloc, draft, parts.whose, row, &parts.event_acts)?;
+    note_mentioned(alloc, &mut draft.names, &parts.other_mentions)?;
     add_lists(alloc, draft, row, &parts.lists)
 }
 
@@ -451,11 +471,11 @@ fn add_acts(
     draft: &mut Draft,
     whose: Whose,
     row: RowId,
-    handled: &[(Handled, Act)],
+    event_acts: &[(HandledName, Act)],
 ) -> Result<(), AllocError>
-    ensures { OnOk result (AddsActs draft.old draft.new (whose_view whose) row (acts_view handled.now)) }
+    ensures { OnOk result (AddsActs draft.old draft.new (whose_view whose) row (acts_view event_acts.now)) }
 {
-    for each in handled {
+    for each in event_acts {
         add_binding(alloc, draft, whose, each.0, Target::Act(row, each.1))?;
     }
     Ok(())

@@ -12,7 +12,7 @@ ghost use Rattle.plan_rows.specs.View.{row_list_view};
 ghost use Rattle.plan_tables.specs.declared.table.Table.TheVariants.{Switches};
 
 use machine_definitions::Definitions;
-use plan_parts::{Effect, Head, RowParts, Text, collect_row};
+use plan_parts::{Effect, RowHead, RowParts, RowText, collect_row};
 use plan_rows::Row;
 use std::alloc::{AllocError, Global};
 
@@ -27,7 +27,7 @@ pub(crate) fn lacks_name(
     ensures { IfOk result (λ b. b ≡ lacks_name (parts_of_rows definitions.now rows.now)) }
 {
     let mut parts = RowParts::new(alloc);
-    let mut text = Text::machine();
+    let mut text = RowText::machine();
     for row in rows {
         collect_row(&mut parts, definitions, text, *row)?;
         if lacks_part(definitions, &parts) {
@@ -51,11 +51,11 @@ fn lacks_in_head(definitions: &Definitions, parts: &RowParts) -> bool
     ensures { result ≡ list_any (lacks_part definitions.now.machine) (head_parts parts.now) }
 {
     match parts.head {
-        Head::Device(_) => {
+        RowHead::Device(_) => {
             lacks_listened(definitions, &parts.listens)
                 || lacks_coil(definitions, parts.lists.effects())
         }
-        Head::Handler(_) => lacks_coil(definitions, parts.lists.effects()),
+        RowHead::Handler(_) => lacks_coil(definitions, parts.lists.effects()),
         _ => false,
     }
 }

@@ -6,13 +6,13 @@ ghost use Rattle.mpf_plan.specs.Drafting.{AreNamesOf, HasNames, IsNumbered, Note
 ghost use Rattle.mpf_plan.specs.ByNumber.{condition_of, event_of, variable_of};
 ghost use Rattle.mpf_plan.specs.Uses.{number_among};
 ghost use Rattle.mpf_plan.specs.PlanOf.{condition_uses};
-ghost use Rattle.plan_parts.specs.View.{parts_text};
+ghost use Rattle.plan_parts.specs.View.{pieces_text};
 ghost use Rattle.plan_tables.specs.declared.table.Table.TheVariants.{Events, Variables};
 
 pub(crate) use crate::names::Names;
 use first_names::note_name;
 use mpf_config::Guard;
-use plan_parts::{Parts, is_whole, whole, write_name};
+use plan_parts::{NamePieces, is_whole, whole, write_name};
 use plan_tables::entries::{Condition, EventId, VariableId};
 use plan_tables::names::{NameHashing, NameSet, NameTable};
 use plan_tables::table::{TABLES, Table};
@@ -60,10 +60,12 @@ pub(crate) fn note(
     alloc: Global,
     names: &mut Names,
     table: Table,
-    name: Parts,
+    name: NamePieces,
 ) -> Result<u16, AllocError>
-    ensures names { OnOk result (Notes names.old names.new ((table, parts_text name.entry) ∷ [])) }
-    ensures number { IfOk result (λ n. HasNames table → IsNumbered names.old ((table, parts_text name.entry) ∷ []) (λ ns. number_among (ns table) (parts_text name.entry)) n) }
+    ensures names { OnOk result (Notes names.old names.new ((table, pieces_text name.entry) ∷ [])) }
+    ensures number { IfOk result (λ n. HasNames table
+        → IsNumbered names.old ((table, pieces_text name.entry) ∷ [])
+        (λ ns. number_among (ns table) (pieces_text name.entry)) n) }
 {
     let number = note_pieces(
         alloc,
@@ -79,14 +81,15 @@ fn note_pieces(
     alloc: Global,
     table: &mut NameTable,
     text: &mut Vec<u8>,
-    name: Parts,
+    name: NamePieces,
 ) -> Result<usize, AllocError>
     ensures limit { OnOk result (table.new.limit ≡ table.old.limit) }
-    ensures names { OnOk result ((all : List (List ℕ)) → IsNameTableOf all table.old → IsNameTableOf (with_name all (parts_text name.entry)) table.new) }
-    ensures number { IfOk result (IsNumberIn table.old (parts_text name.entry)) }
+    ensures names { OnOk result ((all : List (List ℕ)) → IsNameTableOf all table.old
+        → IsNameTableOf (with_name all (pieces_text name.entry)) table.new) }
+    ensures number { IfOk result (IsNumberIn table.old (pieces_text name.entry)) }
 {
     if is_whole(&name) {
-        return note_name(alloc, table, name.sixth);
+        return note_name(alloc, table, name.end);
     }
     write_name(text, name)?;
     note_name(alloc, table, text)
@@ -108,10 +111,11 @@ pub(crate) fn as_kept(number: usize) -> u16
 pub(crate) fn note_event(
     alloc: Global,
     names: &mut Names,
-    name: Parts,
+    name: NamePieces,
 ) -> Result<EventId, AllocError>
-    ensures names { OnOk result (Notes names.old names.new ((Events, parts_text name.entry) ∷ [])) }
-    ensures number { IfOk result (IsNumbered names.old ((Events, parts_text name.entry) ∷ []) (λ ns. event_of (ns Events) (parts_text name.entry))) }
+    ensures names { OnOk result (Notes names.old names.new ((Events, pieces_text name.entry) ∷ [])) }
+    ensures number { IfOk result (IsNumbered names.old ((Events, pieces_text name.entry) ∷ [])
+        (λ ns. event_of (ns Events) (pieces_text name.entry))) }
 {
     Ok(EventId(note(alloc, names, Table::Events, name)?))
 }
@@ -120,10 +124,11 @@ pub(crate) fn note_event(
 pub(crate) fn note_events(
     alloc: Global,
     names: &mut Names,
-    events: &[Parts],
+    events: &[NamePieces],
 ) -> Result<Vec<EventId>, AllocError>
     ensures names { OnOk result (Notes names.old names.new (names_uses Events events.now)) }
-    ensures numbers { IfOk result (λ v. IsNumbered names.old (names_uses Events events.now) (λ ns. map (λ e. event_of (ns Events) (parts_text e)) events.now) v.items) }
+    ensures numbers { IfOk result (λ v. IsNumbered names.old (names_uses Events events.now)
+        (λ ns. map (λ e. event_of (ns Events) (pieces_text e)) events.now) v.items) }
 {
     let mut numbers = Vec::with_capacity(alloc, events.len())?;
     for event in events {
@@ -136,7 +141,7 @@ pub(crate) fn note_events(
 pub(crate) fn note_mentioned(
     alloc: Global,
     names: &mut Names,
-    events: &[Parts],
+    events: &[NamePieces],
 ) -> Result<(), AllocError>
     ensures { OnOk result (Notes names.old names.new (names_uses Events events.now)) }
 {
@@ -153,7 +158,8 @@ pub(crate) fn note_variable(
     name: &[u8],
 ) -> Result<VariableId, AllocError>
     ensures names { OnOk result (Notes names.old names.new ((Variables, name.now) ∷ [])) }
-    ensures number { IfOk result (IsNumbered names.old ((Variables, name.now) ∷ []) (λ ns. variable_of (ns Variables) name.now)) }
+    ensures number { IfOk result (IsNumbered names.old ((Variables, name.now) ∷ [])
+        (λ ns. variable_of (ns Variables) name.now)) }
 {
     Ok(VariableId(note(alloc, names, Table::Variables, whole(name))?))
 }
@@ -164,8 +170,10 @@ pub(crate) fn note_condition(
     names: &mut Names,
     condition: Option<&Guard>,
 ) -> Result<Option<Condition>, AllocError>
-    ensures names { OnOk result (Notes names.old names.new (condition_uses (option_map guard_condition condition.entry))) }
-    ensures number { IfOk result (IsNumbered names.old (condition_uses (option_map guard_condition condition.entry)) (λ ns. option_map (condition_of ns) (option_map guard_condition condition.entry))) }
+    ensures names { OnOk result (Notes names.old names.new
+        (condition_uses (option_map guard_condition condition.entry))) }
+    ensures number { IfOk result (IsNumbered names.old (condition_uses (option_map guard_condition condition.entry))
+        (λ ns. option_map (condition_of ns) (option_map guard_condition condition.entry))) }
 {
     let Some(guard) = condition else {
         return Ok(None);

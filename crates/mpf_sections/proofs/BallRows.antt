@@ -8,7 +8,7 @@ use Rattle.mpf_sections.specs.Short.{IsShortBallDevice, IsShortSection}
 use Rattle.mpf_tables.proofs.TableNames.{playfield_named}
 use Rattle.mpf_sections.proofs.{NumberRows.time_in_range, ShotRows.{few_all, few_short}}
 use Rattle.mpf_sections.proofs.RowNames.{is_name, value_at_named, names_named, entries_of_named}
-use Rattle.mpf_sections.proofs.ShortRows.{value_at_short, names_short, entries_of_short}
+use Rattle.mpf_sections.proofs.ShortRows.{value_at_short, names_short}
 use Rattle.mpf_sections.proofs.CoilRows.{written_named, some_named, either_named}
 use Rattle.yaml_bytes.proofs.Each.{made_each}
 
@@ -17,12 +17,19 @@ use Rattle.yaml_bytes.proofs.Each.{made_each}
 -- The names in an entry of `ball_devices` are names.
 pub ball_device_named : (e : Entry) → IsNamedEntry e → IsNamedBallDevice (ball_device_of e)
 unfolding ball_device_of
-ball_device_named e h = search (rules, few_all, is_name, slice_get, names_named, value_at_named, some_named, written_named, either_named, playfield_named)
-
--- so they are in a section
-pub ball_devices_named : (s : SectionRows) → IsNamed s → All IsNamedBallDevice (ball_devices_in s)
-unfolding ball_devices_in
-ball_devices_named s h = made_each IsNamedBallDevice ball_device_of ball_device_named (entries_of ball_devices_name s) (entries_of_named ball_devices_name s h)
+ball_device_named e h =
+    search (
+      rules,
+      few_all,
+      is_name,
+      slice_get,
+      names_named,
+      value_at_named,
+      some_named,
+      written_named,
+      either_named,
+      playfield_named,
+    )
 
 -- ---- ranges
 
@@ -30,11 +37,6 @@ ball_devices_named s h = made_each IsNamedBallDevice ball_device_of ball_device_
 pub ball_device_short : (e : Entry) → IsShortEntry 1024 e → IsShortBallDevice (ball_device_of e)
 unfolding ball_device_of
 ball_device_short e h = search (rules, few_short, slice_get, time_in_range, names_short, value_at_short)
-
--- so it is with those of a section
-pub ball_devices_short : (s : SectionRows) → IsShortSection s → All IsShortBallDevice (ball_devices_in s)
-unfolding ball_devices_in
-ball_devices_short s h = made_each IsShortBallDevice ball_device_of ball_device_short (entries_of ball_devices_name s) (entries_of_short ball_devices_name s h)
 
 -- The ball devices of a section are its entries, if it is `ball_devices`.
 pub ball_devices_are : (s : SectionRows) → map ball_device_of (entries_of ball_devices_name s) ≡ ball_devices_in s

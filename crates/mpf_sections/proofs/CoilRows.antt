@@ -1,20 +1,22 @@
 -- What holds of coils, coil players, flippers and autofire coils, by the names of their settings: their names are
 -- names, and their settings are in their ranges.
-use Rattle.std.proofs.Common.{rules, ◌≡◌, ℕ, ◌≤◌, Bool, true, false, ◌||◌, List, [], ◌∷◌, map, length, Option, Some, IfSome, is_some, unwrap_or, slice_get, refl, arith}
+use Rattle.std.proofs.Common.{rules, ◌≡◌, ℕ, ◌≤◌, Bool, true, false, ◌||◌, List, [], ◌∷◌, map, length, Option, Some}
+use Rattle.std.proofs.{Common.{IfSome, is_some, unwrap_or, slice_get, refl, arith}, lemmas.List.length-map}
 use Rattle.std.specs.{List.{All, list_any}, Prelude.{if◌then◌else◌, option_map}, Str.bytes_eq}
-use Rattle.std.proofs.lemmas.List.{length-map}
 use Rattle.mpf_tables.specs.SectionTables.{named_in}
 use Rattle.mpf_values.specs.Names.{IsName}
-use Rattle.setting_values.specs.Values.{Plain, Keyed, Value}
+use Rattle.setting_values.specs.Values.{Plain, KeyedValues, Value}
 use Rattle.section_tables.specs.{Rows.{Entry, Player}, Named.{IsNamedEntry, IsNamedPlayer, IsShortPlayer}}
-use Rattle.mpf_sections.specs.{Rows.{Written, SectionRows}, Inside.rule_at}
+use Rattle.mpf_sections.specs.{Rows.{WrittenName, SectionRows}, Short.IsCoilPlayerInRange}
+use Rattle.mpf_sections.specs.{EntryReading.rule_at, Named.IsNamed}
 use Rattle.mpf_sections.specs.Typed.{text_of, listed_keyed, name_in, pulse_in, power_in, entries_of, players_of}
 use Rattle.mpf_sections.specs.CoilRules.{CoilRule, coil_rules, coil_rule_sections, coil_rule_of, IsNamedCoilRule}
-use Rattle.mpf_sections.specs.TypedCoils.{coils_name, coil_player_name, max_hold_power, coil_of, coil_item_of, coil_player_of, needed_at, flipper_of, autofire_of, coils_in, coil_players_in}
-use Rattle.mpf_sections.specs.Named.{IsNamedCoil, IsNamedCoilPlayer, IsNamedRule, IsNamedFlipper, IsNamedAutofire, IsNamed}
-use Rattle.mpf_sections.specs.Short.{IsPulseInRange, IsPowerInRange, IsCoilInRange, IsItemInRange, IsShortCoilPlayer, IsCoilPlayerInRange}
-use Rattle.mpf_sections.proofs.{ShortRows.IsShortOption, NumberRows.time_in_range}
-use Rattle.mpf_sections.proofs.RowNames.{IsNamedOption, value_at_named, events_named, event_named, keyed_named, entries_of_named}
+use Rattle.mpf_sections.specs.TypedCoils.{coils_name, coil_player_name, max_hold_power, coil_of, coil_item_of}
+use Rattle.mpf_sections.specs.TypedCoils.{coil_player_of, needed_at, flipper_of, autofire_of, coils_in, coil_players_in}
+use Rattle.mpf_sections.specs.Named.{IsNamedCoil, IsNamedCoilPlayer, IsNamedRule, IsNamedFlipper, IsNamedAutofire}
+use Rattle.mpf_sections.specs.Short.{IsPulseInRange, IsPowerInRange, IsCoilInRange, IsItemInRange, IsShortCoilPlayer}
+use Rattle.mpf_sections.proofs.{ShortRows.IsShortOption, NumberRows.time_in_range, RowNames.entries_of_named}
+use Rattle.mpf_sections.proofs.RowNames.{IsNamedOption, value_at_named, events_named, event_named, keyed_named}
 use Rattle.mpf_sections.proofs.DeviceRows.{IsNamedText, IsNamedWritten, name_in_named}
 use Rattle.yaml_bytes.proofs.Each.{all_mapped, made_each, or_else}
 
@@ -36,12 +38,14 @@ text_named : (o : Option Value) → IsNamedOption o → IsNamedText (text_of o)
 text_named x1 h = search rules
 
 pub written_named : (e : Entry) (i : ℕ) → IsNamedEntry e → IsNamedWritten (name_in (text_of (slice_get e.values i)))
-written_named e i h = name_in_named (text_of (slice_get e.values i)) (text_named (slice_get e.values i) (value_at_named e.values i h.values))
+written_named e i h = name_in_named (text_of (slice_get e.values i))
+    (text_named (slice_get e.values i) (value_at_named e.values i h.values))
 
-pub some_named : (o : Option Written) → IsNamedWritten o → IfSome o (λ w. IsName w.text)
+pub some_named : (o : Option WrittenName) → IsNamedWritten o → IfSome o (λ w. IsName w.text)
 some_named x1 h = search rules
 
-pub either_named : (o : Option Written) (other : Written) → IsNamedWritten o → IsName other.text → IsName (unwrap_or o other).text
+pub either_named : (o : Option WrittenName) (other : WrittenName) → IsNamedWritten o → IsName other.text
+    → IsName (unwrap_or o other).text
 either_named x1 other h is = search rules
 
 needed_named : (e : Entry) (i : ℕ) → IsNamedEntry e → IsName (needed_at i e).text
@@ -66,23 +70,22 @@ pub coil_rule_named : (section : List ℕ) (e : Entry) → IsNamedEntry e → If
 coil_rule_named section e h = search (rules, flipper_named, autofire_named)
 
 -- The entries of these sections are coil rules, and no others.
-pub coil_rule_some : (section : List ℕ) (e : Entry) → is_some (coil_rule_of section e) ≡ list_any (bytes_eq section) coil_rule_sections
+pub coil_rule_some : (section : List ℕ) (e : Entry)
+    → is_some (coil_rule_of section e) ≡ list_any (bytes_eq section) coil_rule_sections
 coil_rule_some section e = by coil_rules
   where
     by : (each : List (List ℕ × (Entry → CoilRule)))
-        → is_some (option_map (λ rule_of. rule_of e) (named_in section each)) ≡ list_any (bytes_eq section) (map (λ r. r.0) each)
+        → is_some (option_map (λ rule_of. rule_of e) (named_in section each))
+        ≡ list_any (bytes_eq section) (map (λ r. r.0) each)
     by [] = refl
     by (r ∷ rest) = either (bytes_eq section r.0) (by rest)
       where
-        either : (is : Bool) → is_some (option_map (λ rule_of. rule_of e) (named_in section rest)) ≡ list_any (bytes_eq section) (map (λ x. x.0) rest)
-            → is_some (option_map (λ rule_of. rule_of e) (if is then Some r.1 else named_in section rest)) ≡ (is || list_any (bytes_eq section) (map (λ x. x.0) rest))
+        either : (is : Bool) → is_some (option_map (λ rule_of. rule_of e) (named_in section rest))
+            ≡ list_any (bytes_eq section) (map (λ x. x.0) rest)
+            → is_some (option_map (λ rule_of. rule_of e) (if is then Some r.1 else named_in section rest))
+            ≡ (is || list_any (bytes_eq section) (map (λ x. x.0) rest))
         either true h = refl
         either false h = h
-
--- so they are in a section
-pub coils_named : (s : SectionRows) → IsNamed s → All IsNamedCoil (coils_in s)
-unfolding coils_in
-coils_named s h = made_each IsNamedCoil coil_of coil_named (entries_of coils_name s) (entries_of_named coils_name s h)
 
 -- ---- ranges
 
@@ -95,7 +98,8 @@ power_in_range x1 = search rules
 full : IsPowerInRange 1000
 full = omega arith
 
-hold_in_range : (written : Option ℕ) (allowed : Bool) (hold : Option ℕ) → IfSome written IsPowerInRange → IfSome hold IsPowerInRange
+hold_in_range : (written : Option ℕ) (allowed : Bool) (hold : Option ℕ) → IfSome written IsPowerInRange
+    → IfSome hold IsPowerInRange
     → IsPowerInRange (max_hold_power written allowed hold)
 hold_in_range x1 x2 hold h k = search rules
 
@@ -105,7 +109,7 @@ unfolding coil_of
 coil_in_range e = search (rules, slice_get, time_in_range, hold_in_range, power_in_range, or_else, pulse_in_range, full)
 
 -- So are those that an entry of `coil_player` says.
-item_in_range : (k : Keyed) → IsItemInRange (coil_item_of k)
+item_in_range : (k : KeyedValues) → IsItemInRange (coil_item_of k)
 unfolding coil_item_of
 item_in_range k = search rules
 
@@ -128,4 +132,5 @@ coils_in_range s = all_mapped IsCoilInRange coil_of coil_in_range (entries_of co
 
 pub coil_players_in_range : (s : SectionRows) → All IsCoilPlayerInRange (coil_players_in s)
 unfolding coil_players_in
-coil_players_in_range s = all_mapped IsCoilPlayerInRange coil_player_of coil_player_in_range (players_of coil_player_name s)
+coil_players_in_range s = all_mapped IsCoilPlayerInRange coil_player_of coil_player_in_range
+    (players_of coil_player_name s)

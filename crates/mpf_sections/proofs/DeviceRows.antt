@@ -3,15 +3,17 @@
 use Rattle.std.proofs.Common.{rules, ℕ, zero, suc, ◌≤◌, nat_le, List, [], ◌∷◌, length, Option, Some, None, slice_get}
 use Rattle.std.{specs.List.{All, AllByRecursion}, proofs.lemmas.List.Elements.{All-nil, All-weaker, All-from_recursion}}
 use Rattle.mpf_values.specs.Names.{IsName}
-use Rattle.setting_values.specs.Values.{Plain, Fields, Value, steps, maps}
+use Rattle.setting_values.specs.{Values.{Plain, Fields, Value, steps, maps}, NamedValues.IsShortValue}
 use Rattle.section_tables.specs.{Rows.Entry, Named.{IsNamedEntry, IsShortEntry}}
-use Rattle.setting_values.specs.NamedValues.{IsNamedHandled, IsNamedPlain, AreNamedEvents, AreNamedPlains, IsNamedValue, IsShortValue}
-use Rattle.mpf_sections.specs.{Rows.{Written, Handled, Control, SectionRows}, Inside.block_at}
-use Rattle.mpf_sections.specs.Typed.{counters_name, timers_name, limit_of, listed_steps, listed_maps, name_in, event_in, control_from, control_of, with_control, controls_of, counter_of, step_block_of, timer_of, counters_in, timers_in, entries_of}
+use Rattle.setting_values.specs.NamedValues.{IsNamedHandled, IsNamedPlain, AreNamedEvents, AreNamedPlains, IsNamedValue}
+use Rattle.mpf_sections.specs.Rows.{WrittenName, HandledEvent, ControlEvent, SectionRows}
+use Rattle.mpf_sections.{specs.{EntryReading.block_at, Named.IsNamed}, proofs.ShortRows.{value_at_short, posts_short}}
+use Rattle.mpf_sections.specs.Typed.{counters_name, timers_name, limit_of, listed_steps, listed_maps, name_in, event_in}
+use Rattle.mpf_sections.specs.Typed.{control_from, control_of, with_control, controls_of, counter_of, step_block_of}
+use Rattle.mpf_sections.specs.Typed.{timer_of, counters_in, timers_in, entries_of}
 use Rattle.machine_settings.specs.Limits.{IsEndWithin}
-use Rattle.mpf_sections.specs.Named.{AllNamedEvents, IsNamedBlock, IsNamedCounter, IsNamedStepBlock, IsNamedTimer, IsNamed}
+use Rattle.mpf_sections.specs.Named.{AllNamedEvents, IsNamedBlock, IsNamedCounter, IsNamedStepBlock, IsNamedTimer}
 use Rattle.mpf_sections.specs.Short.{IsShortBlock, IsShortCounter, IsShortStepBlock, IsShortTimer, IsShortSection}
-use Rattle.mpf_sections.proofs.ShortRows.{value_at_short, posts_short, entries_of_short}
 use Rattle.mpf_sections.proofs.RowNames.{IsNamedOption, value_at_named, events_named, posts_named, entries_of_named}
 use Rattle.yaml_bytes.proofs.Each.{all_where, made_each}
 
@@ -29,8 +31,9 @@ counter_named e h = record {
   block = block_named 6 e.values h.values;
 }
 
-all_steps : (ss : List (List Handled)) → AllByRecursion AreNamedEvents ss → All AllNamedEvents ss
-all_steps ss h = All-weaker AreNamedEvents AllNamedEvents (λ hs k. All-from_recursion IsNamedHandled hs k) ss (All-from_recursion AreNamedEvents ss h)
+all_steps : (ss : List (List HandledEvent)) → AllByRecursion AreNamedEvents ss → All AllNamedEvents ss
+all_steps ss h = All-weaker AreNamedEvents AllNamedEvents (λ hs k. All-from_recursion IsNamedHandled hs k) ss
+    (All-from_recursion AreNamedEvents ss h)
 
 steps_named : (o : Option Value) → IsNamedOption o → All AllNamedEvents (listed_steps o)
 steps_named (Some (steps ss)) h = all_where AllNamedEvents (nat_le (length ss) 16) ss (all_steps ss h)
@@ -45,7 +48,7 @@ step_block_named e h = record {
   block = block_named 1 e.values h.values;
 }
 
-abbrev HasNames : Control → Type 0
+abbrev HasNames : ControlEvent → Type 0
 HasNames c = IsNamedHandled c.event
 
 abbrev pub IsNamedText : Option Plain → Type 0
@@ -57,21 +60,22 @@ text_at_named [] i h = tt
 text_at_named (x ∷ xs) zero h = h.0
 text_at_named (x ∷ xs) (suc i) h = text_at_named xs i h.1
 
-abbrev IsNamedFound : Option Handled → Type 0
+abbrev IsNamedFound : Option HandledEvent → Type 0
 IsNamedFound None = Unit {0}
 IsNamedFound (Some h) = IsNamedHandled h
 
 event_in_named : (o : Option Plain) → IsNamedText o → IsNamedFound (event_in o)
 event_in_named x1 h = search rules
 
-abbrev pub IsNamedWritten : Option Written → Type 0
+abbrev pub IsNamedWritten : Option WrittenName → Type 0
 IsNamedWritten None = Unit {0}
 IsNamedWritten (Some w) = IsName w.text
 
 pub name_in_named : (o : Option Plain) → IsNamedText o → IsNamedWritten (name_in o)
 name_in_named x1 h = search rules
 
-one_control : (m : Fields) (o : Option Handled) → IsNamedFound o → (cs : List Control) → All HasNames cs → All HasNames (with_control (control_from m o) cs)
+one_control : (m : Fields) (o : Option HandledEvent) → IsNamedFound o → (cs : List ControlEvent) → All HasNames cs
+    → All HasNames (with_control (control_from m o) cs)
 one_control m x2 h cs rest = search rules
 
 controls_named : (ms : List Fields) → AllByRecursion (λ m. AreNamedPlains m.values) ms → All HasNames (controls_of ms)
@@ -86,16 +90,8 @@ maps_named _ h = All-nil HasNames
 -- Those in an entry of `timers` are, too.
 pub timer_named : (e : Entry) → IsNamedEntry e → IsNamedTimer (timer_of e)
 unfolding timer_of
-timer_named e h = record { name = h.name; controls = maps_named (slice_get e.values 6) (value_at_named e.values 6 h.values) }
-
--- so they are in a section
-pub counters_named : (s : SectionRows) → IsNamed s → All IsNamedCounter (counters_in s)
-unfolding counters_in
-counters_named s h = made_each IsNamedCounter counter_of counter_named (entries_of counters_name s) (entries_of_named counters_name s h)
-
-pub timers_named : (s : SectionRows) → IsNamed s → All IsNamedTimer (timers_in s)
-unfolding timers_in
-timers_named s h = made_each IsNamedTimer timer_of timer_named (entries_of timers_name s) (entries_of_named timers_name s h)
+timer_named e h =
+    record { name = h.name; controls = maps_named (slice_get e.values 6) (value_at_named e.values 6 h.values) }
 
 -- ---- ranges
 
@@ -120,8 +116,3 @@ step_block_short e h = record { steps = steps_few (slice_get e.values 0); block 
 pub timer_in_range : (e : Entry) → IsShortTimer (timer_of e)
 unfolding timer_of
 timer_in_range e = search rules
-
--- so it is with those of a section
-pub counters_short : (s : SectionRows) → IsShortSection s → All IsShortCounter (counters_in s)
-unfolding counters_in
-counters_short s h = made_each IsShortCounter counter_of counter_short (entries_of counters_name s) (entries_of_short counters_name s h)

@@ -3,9 +3,10 @@ use Rattle.std.proofs.Common.{rules, ℕ, zero, suc, ◌≤◌, List, [], ◌∷
 use Rattle.std.{specs.{List.All, Str.bytes_eq}, proofs.lemmas.List.Elements.{All-head, All-tail}}
 use Rattle.setting_values.specs.{Values.Value, NamedValues.IsShortValue}
 use Rattle.section_tables.specs.{Rows.{Entry, Player}, Named.{IsShortEntry, IsShortPlayer}}
-use Rattle.mpf_sections.specs.{Rows.SectionRows, Short.{IsShortSection, IsShortSwitch, IsShortEventPlayer}}
+use Rattle.mpf_sections.specs.{Rows.SectionRows, Typed.switches_in}
+use Rattle.mpf_sections.specs.Short.{IsShortSection, IsShortSwitch, IsShortEventPlayer}
 use Rattle.mpf_tables.specs.SectionTables.{switches_name}
-use Rattle.mpf_sections.specs.Typed.{listed_names, listed_posts, switch_of, event_player_of, entries_in, entries_of, switches_in}
+use Rattle.mpf_sections.specs.Typed.{listed_names, listed_posts, switch_of, event_player_of, entries_in, entries_of}
 use Rattle.yaml_bytes.proofs.Each.{all_where, made_each}
 
 pub none_short : 0 ≤ 1024
@@ -29,20 +30,7 @@ names_short x1 h = search rules
 pub posts_short : (o : Option Value) → IsShortOption o → length (listed_posts o) ≤ 1024
 posts_short x1 h = search rules
 
--- No list in an entry of `switches` has more items.
-pub switch_short : (e : Entry) → IsShortEntry 1024 e → IsShortSwitch (switch_of e)
-unfolding switch_of
-switch_short e h = search (rules, names_short, slice_get, value_at_short, posts_short)
-
 -- No list in an entry of `event_player` has, either.
 pub event_player_short : (p : Player) → IsShortPlayer 1024 p → IsShortEventPlayer (event_player_of p)
 unfolding event_player_of
 event_player_short p h = posts_short (Some p.value) h
-
-pub entries_of_short : (section : List ℕ) (s : SectionRows) → IsShortSection s → All (IsShortEntry 1024) (entries_of section s)
-entries_of_short section s h = all_where (IsShortEntry 1024) (bytes_eq s.name section) (entries_in s.content) h.0
-
--- No list in the switches of a section has more items.
-pub switches_short : (s : SectionRows) → IsShortSection s → All IsShortSwitch (switches_in s)
-unfolding switches_in
-switches_short s h = made_each IsShortSwitch switch_of switch_short (entries_of switches_name s) (entries_of_short switches_name s h)

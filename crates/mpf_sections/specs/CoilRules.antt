@@ -5,13 +5,13 @@ use Rattle.section_tables.specs.declared.rows.Entry as entry_rows
 use Rattle.mpf_tables.specs.SectionTables.{named_in}
 use Rattle.mpf_sections.specs.declared.coil_rules.CoilRule as typed_coil_rules
 use Rattle.mpf_sections.specs.declared.coil_rules.CoilRule.TheVariants as kinds
-use Rattle.mpf_sections.specs.{Rows.{Flipper, Autofire}, View.{flipper_view, autofire_view}}
+use Rattle.mpf_sections.specs.{Rows.{FlipperEntry, AutofireEntry}, View.{flipper_view, autofire_view}}
 use Rattle.mpf_sections.specs.TypedCoils.{flippers_name, autofire_coils_name, flipper_of, autofire_of}
 use Rattle.mpf_sections.specs.Named.{IsNamedFlipper, IsNamedAutofire}
 
 pub data CoilRule : Type 0 where
-  flipper : Flipper → CoilRule
-  autofire : Autofire → CoilRule
+  flipper : FlipperEntry → CoilRule
+  autofire : AutofireEntry → CoilRule
 
 -- the sections of the machine text whose entries are coil rules, and the one that an entry is
 abbrev pub coil_rules : List (List ℕ × (Entry → CoilRule))

@@ -12,4 +12,4 @@ pub mod SectionView
 pub mod View
 pub mod TypedOf
 pub mod CoilRules
-pub mod Inside
+pub mod EntryReading

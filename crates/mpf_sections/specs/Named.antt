@@ -2,23 +2,26 @@
 use Rattle.std.specs.{Prelude.{List, IfSome}, List.All}
 pub use Rattle.setting_values.specs.NamedValues.{IsNamedHandled}
 pub use Rattle.section_tables.specs.Named.{IsNamedEntry, IsNamedPlayer}
-use Rattle.mpf_sections.specs.Rows.{Written, Handled, Switch, EventPlayer, Coil, CoilPlayer, VariablePlayer, Rule, Flipper, Autofire, Shot, ShotGroup, ShotProfile, BallDevice, BallSave, Multiball, BlockEvents, Counter, StepBlock, Timer, ModeSettings, Content, entries, players, entry, listed, SectionRows}
+use Rattle.mpf_sections.specs.Rows.{WrittenName, HandledEvent, Switch, EventPlayer, Coil, CoilPlayer, VariablePlayer}
+use Rattle.mpf_sections.specs.Rows.{Rule, FlipperEntry, AutofireEntry, Shot, ShotGroup, ShotProfile, BallDeviceEntry}
+use Rattle.mpf_sections.specs.Rows.{BallSaveEntry, MultiballEntry, BlockEvents, CounterEntry, StepBlock, TimerEntry}
+use Rattle.mpf_sections.specs.Rows.{ModeSettings, Content, entries, players, entry, name_list, SectionRows}
 pub use Rattle.mpf_values.specs.Names.{IsName}
 
 -- each name in a list is one
-abbrev pub AllNames : List Written → Type 0
+abbrev pub AllNames : List WrittenName → Type 0
 AllNames names = All (λ w. IsName w.text) names
 
 -- the names of each handled event in a list are names
-abbrev pub AllNamedEvents : List Handled → Type 0
+abbrev pub AllNamedEvents : List HandledEvent → Type 0
 AllNamedEvents events = All IsNamedHandled events
 
 -- the name of a switch is one, and so are those of its tags and of the events that its entry lists
 pub record IsNamedSwitch (s : Switch) : Type 0 where
   pub name : IsName s.name.text
   pub tags : AllNames s.tags
-  pub activated : AllNames s.activated
-  pub deactivated : AllNames s.deactivated
+  pub activation_events : AllNames s.activation_events
+  pub deactivation_events : AllNames s.deactivation_events
 
 -- the names of the event that an entry handles are names, and so are those of the events that it posts
 pub record IsNamedEventPlayer (p : EventPlayer) : Type 0 where
@@ -47,12 +50,12 @@ pub record IsNamedRule (r : Rule) : Type 0 where
   pub disables : AllNamedEvents r.disables
 
 -- those of its coils are, too
-pub record IsNamedFlipper (f : Flipper) : Type 0 where
+pub record IsNamedFlipper (f : FlipperEntry) : Type 0 where
   pub main_coil : IsName f.main_coil.text
   pub hold_coil : IfSome f.hold_coil (λ w. IsName w.text)
   pub rule : IsNamedRule f.rule
 
-pub record IsNamedAutofire (a : Autofire) : Type 0 where
+pub record IsNamedAutofire (a : AutofireEntry) : Type 0 where
   pub coil : IsName a.coil.text
   pub rule : IsNamedRule a.rule
 
@@ -82,7 +85,7 @@ pub record IsNamedShotProfile (p : ShotProfile) : Type 0 where
   pub states : AllNames p.states
 
 -- the name of a ball device is one, and so are those of its ball switches, its coil, its target and its tags
-pub record IsNamedBallDevice (d : BallDevice) : Type 0 where
+pub record IsNamedBallDevice (d : BallDeviceEntry) : Type 0 where
   pub name : IsName d.name.text
   pub switches : AllNames d.switches
   pub eject_coil : IfSome d.eject_coil (λ w. IsName w.text)
@@ -90,13 +93,13 @@ pub record IsNamedBallDevice (d : BallDevice) : Type 0 where
   pub tags : AllNames d.tags
 
 -- the name of a ball save is one, and so are those of its events
-pub record IsNamedBallSave (b : BallSave) : Type 0 where
+pub record IsNamedBallSave (b : BallSaveEntry) : Type 0 where
   pub name : IsName b.name.text
   pub enable_events : AllNamedEvents b.enable_events
   pub disable_events : AllNamedEvents b.disable_events
 
 -- those of a multiball, too
-pub record IsNamedMultiball (m : Multiball) : Type 0 where
+pub record IsNamedMultiball (m : MultiballEntry) : Type 0 where
   pub name : IsName m.name.text
   pub start_events : AllNamedEvents m.start_events
 
@@ -110,7 +113,7 @@ pub record IsNamedBlock (b : BlockEvents) : Type 0 where
   pub complete : AllNames b.complete
 
 -- the name of a counter is one, and so are its events
-pub record IsNamedCounter (c : Counter) : Type 0 where
+pub record IsNamedCounter (c : CounterEntry) : Type 0 where
   pub name : IsName c.name.text
   pub counts : AllNamedEvents c.counts
   pub block : IsNamedBlock c.block
@@ -122,7 +125,7 @@ pub record IsNamedStepBlock (b : StepBlock) : Type 0 where
   pub block : IsNamedBlock b.block
 
 -- those of a timer, too
-pub record IsNamedTimer (t : Timer) : Type 0 where
+pub record IsNamedTimer (t : TimerEntry) : Type 0 where
   pub name : IsName t.name.text
   pub controls : All (λ c. IsNamedHandled c.event) t.controls
 
@@ -136,7 +139,7 @@ abbrev pub IsNamedContent : Content → Type 0
 IsNamedContent (entries es) = All IsNamedEntry es
 IsNamedContent (players ps) = All IsNamedPlayer ps
 IsNamedContent (entry e) = IsNamedEntry e
-IsNamedContent (listed ws) = AllNames ws
+IsNamedContent (name_list ws) = AllNames ws
 
 abbrev pub IsNamed : SectionRows → Type 0
 IsNamed s = IsNamedContent s.content

@@ -1,15 +1,19 @@
 -- What it means that no list in a section has more than 1,024 items, and that settings are in their ranges.
 use Rattle.std.specs.{Prelude.{ℕ, ◌≤◌, IfSome, length}, List.All}
 pub use Rattle.section_tables.specs.Named.{IsShortEntry, IsShortPlayer}
-use Rattle.machine_settings.specs.Limits.{IsNumberWithin, IsCounterWithin, IsTimerWithin, IsEjectWithin, IsSaveWithin, IsMultiballWithin}
-use Rattle.mpf_sections.specs.Rows.{Switch, EventPlayer, Coil, CoilItem, CoilPlayer, VariableItem, VariablePlayer, GameSettings, Rule, Shot, ShotGroup, ShotProfile, BallDevice, BallSave, Multiball, BlockEvents, Counter, StepBlock, Timer, Content, SectionRows}
-use Rattle.mpf_sections.specs.Typed.{entries_in, players_in, entry_in, names_in}
+use Rattle.machine_settings.specs.Limits.{IsNumberWithin, IsCounterWithin, IsTimerWithin, IsEjectWithin, IsSaveWithin}
+use Rattle.machine_settings.specs.Limits.{IsMultiballWithin}
+use Rattle.mpf_sections.specs.Rows.{Switch, EventPlayer, Coil, CoilItem, CoilPlayer, VariableItem, VariablePlayer}
+use Rattle.mpf_sections.specs.Rows.{GameSettings, Rule, Shot, ShotGroup, ShotProfile, BallDeviceEntry, BallSaveEntry}
+use Rattle.mpf_sections.specs.Rows.{MultiballEntry, BlockEvents, CounterEntry, StepBlock, TimerEntry, Content}
+use Rattle.mpf_sections.specs.{Rows.SectionRows, Typed.{entries_in, players_in, entry_in, names_in}}
 
 -- No list in a section is longer, whatever its settings are; the coils of an entry of `coil_player` are such a list,
 -- and so are the variables of one of `variable_player`.
 abbrev pub IsShortContent : Content → Type 0
 IsShortContent content =
-    All (IsShortEntry 1024) (entries_in content) × All (IsShortPlayer 1024) (players_in content) × All (IsShortEntry 1024) (entry_in content) × (length (names_in content) ≤ 1024)
+    All (IsShortEntry 1024) (entries_in content) × All (IsShortPlayer 1024) (players_in content)
+    × All (IsShortEntry 1024) (entry_in content) × (length (names_in content) ≤ 1024)
 
 abbrev pub IsShortSection : SectionRows → Type 0
 IsShortSection s = IsShortContent s.content
@@ -18,8 +22,8 @@ IsShortSection s = IsShortContent s.content
 
 pub record IsShortSwitch (s : Switch) : Type 0 where
   pub tags : length s.tags ≤ 1024
-  pub activated : length s.activated ≤ 1024
-  pub deactivated : length s.deactivated ≤ 1024
+  pub activation_events : length s.activation_events ≤ 1024
+  pub deactivation_events : length s.deactivation_events ≤ 1024
 
 abbrev pub IsShortEventPlayer : EventPlayer → Type 0
 IsShortEventPlayer p = length p.posts ≤ 1024
@@ -91,15 +95,15 @@ abbrev pub IsShortShotProfile : ShotProfile → Type 0
 IsShortShotProfile p = length p.states ≤ 16
 
 -- a ball device has at most 16 ball switches
-pub record IsShortBallDevice (d : BallDevice) : Type 0 where
+pub record IsShortBallDevice (d : BallDeviceEntry) : Type 0 where
   pub switches : length d.switches ≤ 16
   pub ejects : IsEjectWithin d.ejects
   pub tags : length d.tags ≤ 1024
 
-abbrev pub IsShortBallSave : BallSave → Type 0
+abbrev pub IsShortBallSave : BallSaveEntry → Type 0
 IsShortBallSave b = IsSaveWithin b.settings
 
-abbrev pub IsShortMultiball : Multiball → Type 0
+abbrev pub IsShortMultiball : MultiballEntry → Type 0
 IsShortMultiball m = IsMultiballWithin m.settings
 
 -- the events that a logic block posts
@@ -107,7 +111,7 @@ pub record IsShortBlock (b : BlockEvents) : Type 0 where
   pub hit : length b.hit ≤ 1024
   pub complete : length b.complete ≤ 1024
 
-pub record IsShortCounter (c : Counter) : Type 0 where
+pub record IsShortCounter (c : CounterEntry) : Type 0 where
   pub settings : IsCounterWithin c.settings
   pub block : IsShortBlock c.block
 
@@ -115,5 +119,5 @@ pub record IsShortStepBlock (b : StepBlock) : Type 0 where
   pub steps : length b.steps ≤ 16
   pub block : IsShortBlock b.block
 
-abbrev pub IsShortTimer : Timer → Type 0
+abbrev pub IsShortTimer : TimerEntry → Type 0
 IsShortTimer t = IsTimerWithin t.settings

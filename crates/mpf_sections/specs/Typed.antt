@@ -1,18 +1,22 @@
 -- The entries of sections, by the names of their settings.
-use Rattle.std.specs.Prelude.{ℕ, zero, suc, ℤ, pos, negsuc, ◌^◌, nat_lt, nat_le, ◌==◌, ◌&&◌, not, Bool, false, if◌then◌else◌, List, [], ◌∷◌, length, map, Option, Some, None, slice_get, codes}
+use Rattle.std.specs.Prelude.{ℕ, zero, suc, ℤ, pos, negsuc, ◌^◌, nat_lt, nat_le, ◌==◌, ◌&&◌, not, Bool, false}
+use Rattle.std.specs.Prelude.{if◌then◌else◌, List, [], ◌∷◌, length, map, Option, Some, None, slice_get, codes}
 use Rattle.std.specs.{List.list_all, Str.bytes_eq}
 use Rattle.machine_settings.specs.declared.words.Contact.{Contact, TheVariants.{NormallyOpen, NormallyClosed}}
 use Rattle.mpf_sections.specs.declared.words.Debounce.{Debounce, TheVariants.{Auto, Quick, Normal}}
 use Rattle.machine_settings.specs.declared.words.Direction.{Direction, TheVariants.{Up, Down}}
 use Rattle.machine_settings.specs.declared.settings.BlockSettings.{BlockSettings}
-use Rattle.mpf_sections.specs.declared.words.ControlAction.{ControlAction}
-use Rattle.mpf_sections.specs.declared.words.ControlAction.TheVariants.{Start, Stop, Pause, Reset, Restart, Add, Subtract, Jump}
-use Rattle.setting_values.specs.Values.{Written, Handled, Plain, flag, number, time, power, word, name, event, Fields, Keyed, Value, one, names, posts, events, steps, maps, keyed}
+use Rattle.mpf_sections.specs.declared.words.ControlAction.{ControlAction, TheVariants.{Subtract, Jump}}
+use Rattle.mpf_sections.specs.declared.words.ControlAction.TheVariants.{Start, Stop, Pause, Reset, Restart, Add}
+use Rattle.setting_values.specs.Values.{WrittenName, HandledEvent, Plain, flag, number, time, power, word, name, event}
+use Rattle.setting_values.specs.Values.{Fields, KeyedValues, Value, one, names, posts, events, steps, maps, by_key}
 use Rattle.section_tables.specs.{Rows.{Entry, Player}, Shapes.Setting, Tables.{setting_key, setting_default}}
 use Rattle.setting_values.specs.{Kinds.Field, Values.handled_at, ValueOf.within, KeyRules.{found_in, field_key}}
 use Rattle.mpf_tables.specs.SectionTables as tables
-pub use Rattle.mpf_tables.specs.SectionTables.{switches_name, event_player_name, counters_name, accruals_name, sequences_name, timers_name, modes_name, mode_name}
-use Rattle.mpf_sections.specs.Rows.{Switch, EventPlayer, BlockEvents, Counter, StepBlock, Control, Timer, ModeSettings, Content, entries, players, entry, listed, SectionRows}
+pub use Rattle.mpf_tables.specs.SectionTables.{switches_name, event_player_name, counters_name, accruals_name}
+pub use Rattle.mpf_tables.specs.SectionTables.{sequences_name, timers_name, modes_name, mode_name}
+use Rattle.mpf_sections.specs.Rows.{Switch, EventPlayer, BlockEvents, CounterEntry, StepBlock, ControlEvent, TimerEntry}
+use Rattle.mpf_sections.specs.Rows.{ModeSettings, Content, entries, players, entry, name_list, SectionRows}
 
 -- ---- values
 
@@ -38,15 +42,15 @@ place_of table key = place_in (found_in setting_key key table) (length table)
 
 -- values of the kinds that their tables say; the last line of each is for rows that no table gives
 
-abbrev pub listed_names : Option Value → List Written
+abbrev pub listed_names : Option Value → List WrittenName
 listed_names (Some (names xs)) = xs
 listed_names _ = []
 
-abbrev pub listed_posts : Option Value → List Written
+abbrev pub listed_posts : Option Value → List WrittenName
 listed_posts (Some (posts xs)) = xs
 listed_posts _ = []
 
-abbrev pub listed_events : Option Value → List Handled
+abbrev pub listed_events : Option Value → List HandledEvent
 listed_events (Some (events hs)) = hs
 listed_events _ = []
 
@@ -79,7 +83,7 @@ time_of (Some (one (time ms))) = ms
 time_of _ = 0
 
 -- steps, 16 at most
-abbrev pub listed_steps : Option Value → List (List Handled)
+abbrev pub listed_steps : Option Value → List (List HandledEvent)
 listed_steps (Some (steps ss)) = if nat_le (length ss) 16 then ss else []
 listed_steps _ = []
 
@@ -87,8 +91,8 @@ abbrev pub listed_maps : Option Value → List Fields
 listed_maps (Some (maps ms)) = ms
 listed_maps _ = []
 
-abbrev pub listed_keyed : Option Value → List Keyed
-listed_keyed (Some (keyed ks)) = ks
+abbrev pub listed_keyed : Option Value → List KeyedValues
+listed_keyed (Some (by_key ks)) = ks
 listed_keyed _ = []
 
 -- the one text that a value is
@@ -99,7 +103,7 @@ text_of _ = None
 -- ---- texts
 
 -- the name, the word and the number that a text is
-abbrev pub name_in : Option Plain → Option Written
+abbrev pub name_in : Option Plain → Option WrittenName
 name_in (Some (name w)) = Some w
 name_in _ = None
 
@@ -122,13 +126,13 @@ power_in (Some (power n)) = if nat_le n 1000 then Some n else None
 power_in _ = None
 
 -- the handled event that a text is; a name is one that is handled always
-abbrev pub handled_in : Plain → Handled
+abbrev pub handled_in : Plain → HandledEvent
 handled_in (name w) = handled_at w.line (record { name = w.text; condition = None })
 handled_in (event h) = h
 handled_in _ = handled_at 0 (record { name = []; condition = None })
 
 -- the same, if a text is written as one
-abbrev pub event_in : Option Plain → Option Handled
+abbrev pub event_in : Option Plain → Option HandledEvent
 event_in (Some (event h)) = Some h
 event_in _ = None
 
@@ -148,14 +152,14 @@ switch_of e = record {
   contact = contact_of (word_of (setting_of tables.switches (codes "type") e.values));
   debounce = debounce_of (word_of (setting_of tables.switches (codes "debounce") e.values));
   tags = listed_names (setting_of tables.switches (codes "tags") e.values);
-  activated = listed_posts (setting_of tables.switches (codes "events_when_activated") e.values);
-  deactivated = listed_posts (setting_of tables.switches (codes "events_when_deactivated") e.values);
+  activation_events = listed_posts (setting_of tables.switches (codes "events_when_activated") e.values);
+  deactivation_events = listed_posts (setting_of tables.switches (codes "events_when_deactivated") e.values);
   order = e.order;
 }
 
 -- ---- `counters`, `accruals` and `sequences`
 
--- the settings that all of them have; a block is enabled at first if no event enables it
+-- the settings that all of them have; a block is enabled at first if it has no `enable_events`
 abbrev pub block_settings_of : List Setting → List Value → BlockSettings
 block_settings_of table row = record {
   enabled = length (listed_events (setting_of table (codes "enable_events") row)) == 0;
@@ -179,7 +183,7 @@ block_of table row = record {
 abbrev pub direction_of : List ℕ → Direction
 direction_of w = if bytes_eq w (codes "down") then Down else Up
 
-unfoldable pub counter_of : Entry → Counter
+unfoldable pub counter_of : Entry → CounterEntry
 counter_of e = record {
   name = e.name;
   counts = listed_events (setting_of tables.counters (codes "count_events") e.values);
@@ -218,7 +222,7 @@ action_of w =
     else (if bytes_eq w (codes "subtract") then Subtract
     else (if bytes_eq w (codes "jump") then Jump else Start))))))
 
-abbrev pub control_from : Fields → Option Handled → Option Control
+abbrev pub control_from : Fields → Option HandledEvent → Option ControlEvent
 control_from m None = None
 control_from m (Some h) = Some (record {
   event = h;
@@ -227,14 +231,14 @@ control_from m (Some h) = Some (record {
 })
 
 -- a control, or none if the map has no event
-unfoldable pub control_of : Fields → Option Control
+unfoldable pub control_of : Fields → Option ControlEvent
 control_of m = control_from m (event_in (field_of tables.control_events (codes "event") m.values))
 
-abbrev pub with_control : Option Control → List Control → List Control
+abbrev pub with_control : Option ControlEvent → List ControlEvent → List ControlEvent
 with_control None cs = cs
 with_control (Some c) cs = c ∷ cs
 
-abbrev pub controls_of : List Fields → List Control
+abbrev pub controls_of : List Fields → List ControlEvent
 controls_of [] = []
 controls_of (m ∷ ms) = with_control (control_of m) (controls_of ms)
 
@@ -249,7 +253,7 @@ abbrev pub interval_from : ℕ → ℕ
 interval_from zero = 1
 interval_from (suc ms) = suc ms
 
-unfoldable pub timer_of : Entry → Timer
+unfoldable pub timer_of : Entry → TimerEntry
 timer_of e =
     let direction = direction_of (word_of (setting_of tables.timers (codes "direction") e.values)) in
     record {
@@ -306,8 +310,8 @@ entry_in (entry e) = e ∷ []
 entry_in _ = []
 
 -- the names of a list of names
-abbrev pub names_in : Content → List Written
-names_in (listed ws) = ws
+abbrev pub names_in : Content → List WrittenName
+names_in (name_list ws) = ws
 names_in _ = []
 
 -- the entries of the section, if it has this name
@@ -326,7 +330,7 @@ unfoldable pub event_players_in : SectionRows → List EventPlayer
 event_players_in s = map event_player_of (players_of event_player_name s)
 
 -- the same for `counters`, `accruals`, `sequences` and `timers`
-unfoldable pub counters_in : SectionRows → List Counter
+unfoldable pub counters_in : SectionRows → List CounterEntry
 counters_in s = map counter_of (entries_of counters_name s)
 
 unfoldable pub accruals_in : SectionRows → List StepBlock
@@ -335,7 +339,7 @@ accruals_in s = map step_block_of (entries_of accruals_name s)
 unfoldable pub sequences_in : SectionRows → List StepBlock
 sequences_in s = map step_block_of (entries_of sequences_name s)
 
-unfoldable pub timers_in : SectionRows → List Timer
+unfoldable pub timers_in : SectionRows → List TimerEntry
 timers_in s = map timer_of (entries_of timers_name s)
 
 -- the content of the section of this name, if there is one
@@ -356,10 +360,10 @@ mode_row = row_or tables.mode
 abbrev pub mode_settings : List SectionRows → ModeSettings
 mode_settings sections = mode_settings_of (mode_row (content_named mode_name sections))
 
-abbrev pub names_of_content : Option Content → List Written
+abbrev pub names_of_content : Option Content → List WrittenName
 names_of_content None = []
 names_of_content (Some content) = names_in content
 
 -- the names that the section `modes` lists, if there is one
-abbrev pub listed_modes : List SectionRows → List Written
+abbrev pub listed_modes : List SectionRows → List WrittenName
 listed_modes sections = names_of_content (content_named modes_name sections)

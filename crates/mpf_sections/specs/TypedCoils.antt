@@ -1,25 +1,26 @@
 -- The entries of `coils`, `coil_player`, `flippers` and `autofire_coils`, by the names of their settings.
-use Rattle.std.specs.Prelude.{◌∷◌, ℕ, nat_lt, Bool, true, false, ◌||◌, if◌then◌else◌, List, [], map, Option, Some, None, slice_get, unwrap_or, codes}
-use Rattle.std.specs.Str.{bytes_eq}
+use Rattle.std.specs.Prelude.{◌∷◌, ℕ, nat_lt, Bool, true, false, ◌||◌, if◌then◌else◌, List, [], map, Option, Some, None}
+use Rattle.std.specs.{Prelude.{slice_get, unwrap_or, codes}, Str.bytes_eq}
 use Rattle.mpf_sections.specs.declared.words.CoilAction.{CoilAction, TheVariants.{Pulse, Enable, Disable}}
-use Rattle.setting_values.specs.Values.{Written, Plain, Keyed}
+use Rattle.setting_values.specs.Values.{WrittenName, Plain, KeyedValues}
 use Rattle.section_tables.specs.{Rows.{Entry, Player}, Shapes.Setting}
 use Rattle.mpf_tables.specs.SectionTables as tables
 pub use Rattle.mpf_tables.specs.SectionTables.{coils_name, coil_player_name, flippers_name, autofire_coils_name}
-use Rattle.mpf_sections.specs.Typed.{setting_of, field_of, text_of, flag_of, listed_events, listed_keyed, handled_in, name_in, word_in, pulse_in, power_in, place_of, entries_in, entries_of, players_of}
+use Rattle.mpf_sections.specs.Typed.{setting_of, field_of, text_of, flag_of, listed_events, listed_keyed, handled_in}
+use Rattle.mpf_sections.specs.Typed.{name_in, word_in, pulse_in, power_in, place_of, entries_in, entries_of, players_of}
 use Rattle.mpf_sections.specs.TypedNumbers.{time_setting}
-use Rattle.mpf_sections.specs.Rows.{Coil, CoilItem, CoilPlayer, Rule, Flipper, Autofire, SectionRows}
+use Rattle.mpf_sections.specs.Rows.{Coil, CoilItem, CoilPlayer, Rule, FlipperEntry, AutofireEntry, SectionRows}
 
 -- ---- `coils`
 
 -- whether a coil may be held: if that is allowed, or if the power with which it is held by default is above 0
 abbrev pub may_hold : Bool → Option ℕ → Bool
-may_hold allowed power = allowed || nat_lt 0 (unwrap_or power 0)
+may_hold may_enable power = may_enable || nat_lt 0 (unwrap_or power 0)
 
 -- The greatest power with which a coil may be held: the one that is written; or else full power if holding is
 -- allowed, and if it is not, the power with which it is held by default, if there is one.
 abbrev pub max_hold_power : Option ℕ → Bool → Option ℕ → ℕ
-max_hold_power (Some greatest) allowed power = greatest
+max_hold_power (Some greatest) may_enable power = greatest
 max_hold_power None true power = 1000
 max_hold_power None false power = unwrap_or power 0
 
@@ -30,16 +31,16 @@ coil_text key e = text_of (setting_of tables.coils key e.values)
 unfoldable pub coil_of : Entry → Coil
 coil_of e =
     let pulse_ms = time_setting tables.coils (codes "default_pulse_ms") e.values in
-    let allowed = flag_of (setting_of tables.coils (codes "allow_enable") e.values) in
+    let may_enable = flag_of (setting_of tables.coils (codes "allow_enable") e.values) in
     let hold_power = power_in (coil_text (codes "default_hold_power") e) in
-    let greatest = max_hold_power (power_in (coil_text (codes "max_hold_power") e)) allowed hold_power in
+    let greatest = max_hold_power (power_in (coil_text (codes "max_hold_power") e)) may_enable hold_power in
     record {
       name = e.name;
       pulse_ms = pulse_ms;
       max_pulse_ms = unwrap_or (pulse_in (coil_text (codes "max_pulse_ms") e)) pulse_ms;
       pulse_power = unwrap_or (power_in (coil_text (codes "default_pulse_power") e)) 1000;
       max_pulse_power = unwrap_or (power_in (coil_text (codes "max_pulse_power") e)) 1000;
-      may_hold = may_hold allowed hold_power;
+      may_hold = may_hold may_enable hold_power;
       hold_power = unwrap_or hold_power greatest;
       max_hold_power = greatest;
     }
@@ -52,7 +53,7 @@ coil_action_of w =
     if bytes_eq w (codes "enable") then Enable
     else (if bytes_eq w (codes "disable") then Disable else Pulse)
 
-unfoldable pub coil_item_of : Keyed → CoilItem
+unfoldable pub coil_item_of : KeyedValues → CoilItem
 coil_item_of k = record {
   coil = k.name;
   action = coil_action_of (word_in (field_of tables.coil_item (codes "action") k.values));
@@ -67,11 +68,11 @@ coil_player_of p = record { event = handled_in p.event; items = map coil_item_of
 -- ---- `flippers` and `autofire_coils`
 
 -- a name that has to be written; the entry's own in a row that no table gives
-abbrev pub needed_name : List Setting → List ℕ → Entry → Written
+abbrev pub needed_name : List Setting → List ℕ → Entry → WrittenName
 needed_name table key e = unwrap_or (name_in (text_of (setting_of table key e.values))) e.name
 
 -- the name at a place of an entry; its own in a row that has none there
-abbrev pub needed_at : ℕ → Entry → Written
+abbrev pub needed_at : ℕ → Entry → WrittenName
 needed_at place e = unwrap_or (name_in (text_of (slice_get e.values place))) e.name
 
 -- what all coil rules have, if the setting of this key names the switch
@@ -84,15 +85,19 @@ rule_of table switch e = record {
   order = e.order;
 }
 
-unfoldable pub flipper_of : Entry → Flipper
+unfoldable pub flipper_of : Entry → FlipperEntry
 flipper_of e = record {
   main_coil = needed_name tables.flippers (codes "main_coil") e;
   hold_coil = name_in (text_of (setting_of tables.flippers (codes "hold_coil") e.values));
   rule = rule_of tables.flippers (codes "activation_switch") e;
 }
 
-unfoldable pub autofire_of : Entry → Autofire
-autofire_of e = record { coil = needed_name tables.autofire_coils (codes "coil") e; rule = rule_of tables.autofire_coils (codes "switch") e }
+unfoldable pub autofire_of : Entry → AutofireEntry
+autofire_of e =
+    record {
+      coil = needed_name tables.autofire_coils (codes "coil") e;
+      rule = rule_of tables.autofire_coils (codes "switch") e;
+    }
 
 -- ---- sections
 

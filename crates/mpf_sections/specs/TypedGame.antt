@@ -1,7 +1,7 @@
 -- The entries of `machine`, `game` and `variable_player`, by the names of their settings.
 use Rattle.std.specs.{Prelude.{ℕ, ℤ, pos, negsuc, if◌then◌else◌, List, map, Option, Some, codes}, Str.bytes_eq}
 use Rattle.machine_settings.specs.declared.words.VariableAction.{VariableAction, TheVariants.{Add, Set}}
-use Rattle.setting_values.specs.{Values.{Plain, number, Keyed}, ValueOf.within}
+use Rattle.setting_values.specs.{Values.{Plain, number, KeyedValues}, ValueOf.within}
 use Rattle.section_tables.specs.Rows.{Entry, Player}
 use Rattle.mpf_tables.specs.SectionTables as tables
 pub use Rattle.mpf_tables.specs.SectionTables.{variable_player_name, machine_section_name, game_name}
@@ -20,7 +20,7 @@ abbrev pub change_in : Option Plain → ℤ
 change_in (Some (number n)) = if within (negsuc 999999999) (pos 1000000000) n then n else pos 0
 change_in _ = pos 0
 
-unfoldable pub variable_item_of : Keyed → VariableItem
+unfoldable pub variable_item_of : KeyedValues → VariableItem
 variable_item_of k = record {
   variable = k.name;
   action = variable_action_of (word_in (field_of tables.variable_item (codes "action") k.values));
@@ -46,4 +46,5 @@ game_of e = record {
 
 -- how many balls a game needs: what the section says, or its default if there is no such section
 abbrev pub min_balls_of : List SectionRows → ℕ
-min_balls_of sections = natural_setting tables.machine (codes "min_balls") (row_or tables.machine (content_named machine_section_name sections))
+min_balls_of sections = natural_setting tables.machine (codes "min_balls")
+    (row_or tables.machine (content_named machine_section_name sections))

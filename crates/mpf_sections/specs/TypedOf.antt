@@ -2,7 +2,7 @@
 use Rattle.std.specs.Prelude.{◌≡◌, ℕ, List, map, Option, option_map}
 use Rattle.setting_values.specs.declared.values.{Name.Name, Handler.Handler}
 use Rattle.setting_values.specs.declared.values.Fields as field_rows
-use Rattle.setting_values.specs.declared.values.Keyed as keyed_rows
+use Rattle.setting_values.specs.declared.values.KeyedValues as keyed_rows
 use Rattle.section_tables.specs.declared.rows.Entry as entry_rows
 use Rattle.section_tables.specs.declared.rows.Player as player_rows
 use Rattle.mpf_sections.specs.declared.section.Content as contents
@@ -10,30 +10,37 @@ use Rattle.mpf_sections.specs.declared.{section.Section.Section, typed.{NameAt.N
 use Rattle.mpf_sections.specs.declared.typed.Switch as typed_switches
 use Rattle.mpf_sections.specs.declared.typed.EventPlayer as typed_players
 use Rattle.mpf_sections.specs.declared.typed.ModeSettings as typed_settings
-use Rattle.mpf_sections.specs.declared.blocks.Counter as typed_counters
+use Rattle.mpf_sections.specs.declared.blocks.CounterEntry as typed_counters
 use Rattle.mpf_sections.specs.declared.blocks.StepBlock as typed_steps
-use Rattle.mpf_sections.specs.declared.timers.Control as typed_controls
-use Rattle.mpf_sections.specs.declared.timers.Timer as typed_timers
+use Rattle.mpf_sections.specs.declared.timers.ControlEvent as typed_controls
+use Rattle.mpf_sections.specs.declared.timers.TimerEntry as typed_timers
 use Rattle.mpf_sections.specs.declared.coils.Coil as typed_coils
 use Rattle.mpf_sections.specs.declared.coils.CoilPlayer as typed_coil_players
 use Rattle.mpf_sections.specs.declared.coils.CoilItem as typed_coil_items
 use Rattle.mpf_sections.specs.declared.game.VariablePlayer as typed_variable_players
 use Rattle.mpf_sections.specs.declared.game.VariableItem as typed_variable_items
 use Rattle.mpf_sections.specs.declared.game.GameSettings as typed_games
-use Rattle.mpf_sections.specs.declared.coil_rules.Flipper as typed_flippers
-use Rattle.mpf_sections.specs.declared.coil_rules.Autofire as typed_autofires
+use Rattle.mpf_sections.specs.declared.coil_rules.FlipperEntry as typed_flippers
+use Rattle.mpf_sections.specs.declared.coil_rules.AutofireEntry as typed_autofires
 use Rattle.mpf_sections.specs.declared.shots.Shot as typed_shots
 use Rattle.mpf_sections.specs.declared.shots.ShotGroup as typed_groups
 use Rattle.mpf_sections.specs.declared.shots.ShotProfile as typed_profiles
-use Rattle.mpf_sections.specs.declared.balls.BallDevice as typed_balls
-use Rattle.mpf_sections.specs.declared.saves.BallSave as typed_saves
-use Rattle.mpf_sections.specs.declared.saves.Multiball as typed_multiballs
-use Rattle.mpf_sections.specs.Typed.{switch_of, event_player_of, mode_settings_of, mode_settings, listed_modes, counter_of, step_block_of, control_of, timer_of, entries_in, players_in, entries_of, players_of}
+use Rattle.mpf_sections.specs.declared.balls.BallDeviceEntry as typed_balls
+use Rattle.mpf_sections.specs.declared.saves.BallSaveEntry as typed_saves
+use Rattle.mpf_sections.specs.declared.saves.MultiballEntry as typed_multiballs
+use Rattle.mpf_sections.specs.Typed.{switch_of, event_player_of, mode_settings_of, mode_settings, listed_modes}
+use Rattle.mpf_sections.specs.Typed.{counter_of, step_block_of, control_of, timer_of, entries_in, players_in}
+use Rattle.mpf_sections.specs.{Typed.{entries_of, players_of}, TypedSaves.{ball_save_of, multiball_of}}
 use Rattle.mpf_sections.specs.TypedCoils.{coil_of, coil_item_of, coil_player_of, needed_at, flipper_of, autofire_of}
 use Rattle.mpf_sections.specs.TypedGame.{variable_item_of, variable_player_of, game_of, min_balls_of}
 use Rattle.mpf_sections.specs.TypedShots.{shot_of, shot_group_of, state_of, shot_profile_of}
-use Rattle.mpf_sections.specs.{TypedBalls.ball_device_of, TypedSaves.{ball_save_of, multiball_of}}
-use Rattle.mpf_sections.specs.View.{name_view, handler_view, fields_view, keyed_view, entry_view, player_view, content_view, section_view, name_at_view, handled_at_view, switch_view, event_player_view, mode_settings_view, counter_view, step_block_view, control_view, timer_view, coil_view, coil_item_view, coil_player_view, variable_item_view, variable_player_view, game_view, flipper_view, autofire_view, shot_view, shot_group_view, shot_profile_view, ball_device_view, ball_save_view, multiball_view}
+use Rattle.mpf_sections.specs.{TypedBalls.ball_device_of, View.multiball_view}
+use Rattle.mpf_sections.specs.View.{name_view, handler_view, fields_view, keyed_view, entry_view, player_view}
+use Rattle.mpf_sections.specs.View.{content_view, section_view, name_at_view, handled_at_view, switch_view}
+use Rattle.mpf_sections.specs.View.{event_player_view, mode_settings_view, counter_view, step_block_view, control_view}
+use Rattle.mpf_sections.specs.View.{timer_view, coil_view, coil_item_view, coil_player_view, variable_item_view}
+use Rattle.mpf_sections.specs.View.{variable_player_view, game_view, flipper_view, autofire_view, shot_view}
+use Rattle.mpf_sections.specs.View.{shot_group_view, shot_profile_view, ball_device_view, ball_save_view}
 
 -- ---- switches, and what events do
 
@@ -47,23 +54,23 @@ IsSwitchOf entry switch = switch_view switch ≡ switch_of (entry_view entry)
 
 -- what this entry of `event_player` posts, and at what event
 abbrev pub IsEventPlayerOf : player_rows.Player → typed_players.EventPlayer → Type 0
-IsEventPlayerOf player posted = event_player_view posted ≡ event_player_of (player_view player)
+IsEventPlayerOf player row = event_player_view row ≡ event_player_of (player_view player)
 
 -- what this entry of `coil_player` does with coils, and at what event
 abbrev pub IsCoilPlayerOf : player_rows.Player → typed_coil_players.CoilPlayer → Type 0
-IsCoilPlayerOf player done = coil_player_view done ≡ coil_player_of (player_view player)
+IsCoilPlayerOf player answer = coil_player_view answer ≡ coil_player_of (player_view player)
 
 -- what is done with the coil of this name
-abbrev pub IsCoilItemOf : keyed_rows.Keyed → typed_coil_items.CoilItem → Type 0
-IsCoilItemOf keyed item = coil_item_view item ≡ coil_item_of (keyed_view keyed)
+abbrev pub IsCoilItemOf : keyed_rows.KeyedValues → typed_coil_items.CoilItem → Type 0
+IsCoilItemOf pair item = coil_item_view item ≡ coil_item_of (keyed_view pair)
 
 -- what this entry of `variable_player` does with variables, and at what event
 abbrev pub IsVariablePlayerOf : player_rows.Player → typed_variable_players.VariablePlayer → Type 0
-IsVariablePlayerOf player done = variable_player_view done ≡ variable_player_of (player_view player)
+IsVariablePlayerOf player answer = variable_player_view answer ≡ variable_player_of (player_view player)
 
 -- what is done with the variable of this name
-abbrev pub IsVariableItemOf : keyed_rows.Keyed → typed_variable_items.VariableItem → Type 0
-IsVariableItemOf keyed item = variable_item_view item ≡ variable_item_of (keyed_view keyed)
+abbrev pub IsVariableItemOf : keyed_rows.KeyedValues → typed_variable_items.VariableItem → Type 0
+IsVariableItemOf pair item = variable_item_view item ≡ variable_item_of (keyed_view pair)
 
 -- ---- coils
 
@@ -76,17 +83,17 @@ abbrev pub IsNeededAt : ℕ → entry_rows.Entry → NameAt → Type 0
 IsNeededAt place entry name = name_at_view name ≡ needed_at place (entry_view entry)
 
 -- the flipper of this entry of `flippers`
-abbrev pub IsFlipperOf : entry_rows.Entry → typed_flippers.Flipper → Type 0
+abbrev pub IsFlipperOf : entry_rows.Entry → typed_flippers.FlipperEntry → Type 0
 IsFlipperOf entry flipper = flipper_view flipper ≡ flipper_of (entry_view entry)
 
 -- the autofire coil of this entry of `autofire_coils`
-abbrev pub IsAutofireOf : entry_rows.Entry → typed_autofires.Autofire → Type 0
+abbrev pub IsAutofireOf : entry_rows.Entry → typed_autofires.AutofireEntry → Type 0
 IsAutofireOf entry autofire = autofire_view autofire ≡ autofire_of (entry_view entry)
 
 -- ---- logic blocks and timers
 
 -- the counter of this entry of `counters`
-abbrev pub IsCounterOf : entry_rows.Entry → typed_counters.Counter → Type 0
+abbrev pub IsCounterOf : entry_rows.Entry → typed_counters.CounterEntry → Type 0
 IsCounterOf entry counter = counter_view counter ≡ counter_of (entry_view entry)
 
 -- the block of this entry of `accruals` or `sequences`
@@ -94,11 +101,11 @@ abbrev pub IsStepBlockOf : entry_rows.Entry → typed_steps.StepBlock → Type 0
 IsStepBlockOf entry block = step_block_view block ≡ step_block_of (entry_view entry)
 
 -- the timer of this entry of `timers`
-abbrev pub IsTimerOf : entry_rows.Entry → typed_timers.Timer → Type 0
+abbrev pub IsTimerOf : entry_rows.Entry → typed_timers.TimerEntry → Type 0
 IsTimerOf entry timer = timer_view timer ≡ timer_of (entry_view entry)
 
 -- the control of a timer that this map says, if it has an event
-abbrev pub IsControlOf : field_rows.Fields → Option typed_controls.Control → Type 0
+abbrev pub IsControlOf : field_rows.Fields → Option typed_controls.ControlEvent → Type 0
 IsControlOf map control = option_map control_view control ≡ control_of (fields_view map)
 
 -- ---- shots
@@ -122,15 +129,15 @@ IsStateOf map state = option_map name_at_view state ≡ state_of (fields_view ma
 -- ---- balls
 
 -- the ball device of this entry of `ball_devices`
-abbrev pub IsBallDeviceOf : entry_rows.Entry → typed_balls.BallDevice → Type 0
+abbrev pub IsBallDeviceOf : entry_rows.Entry → typed_balls.BallDeviceEntry → Type 0
 IsBallDeviceOf entry device = ball_device_view device ≡ ball_device_of (entry_view entry)
 
 -- the ball save of this entry of `ball_saves`
-abbrev pub IsBallSaveOf : entry_rows.Entry → typed_saves.BallSave → Type 0
+abbrev pub IsBallSaveOf : entry_rows.Entry → typed_saves.BallSaveEntry → Type 0
 IsBallSaveOf entry save = ball_save_view save ≡ ball_save_of (entry_view entry)
 
 -- the multiball of this entry of `multiballs`
-abbrev pub IsMultiballOf : entry_rows.Entry → typed_multiballs.Multiball → Type 0
+abbrev pub IsMultiballOf : entry_rows.Entry → typed_multiballs.MultiballEntry → Type 0
 IsMultiballOf entry multiball = multiball_view multiball ≡ multiball_of (entry_view entry)
 
 -- ---- the game and the modes

@@ -4,9 +4,9 @@ use Rattle.section_tables.specs.Rows.{Entry}
 use Rattle.mpf_tables.specs.SectionTables as tables
 pub use Rattle.mpf_tables.specs.SectionTables.{ball_saves_name, multiballs_name}
 use Rattle.mpf_sections.specs.Typed.{setting_of, time_of, listed_events, entries_of}
-use Rattle.mpf_sections.specs.{TypedNumbers.natural_setting, Rows.{BallSave, Multiball, SectionRows}}
+use Rattle.mpf_sections.specs.{TypedNumbers.natural_setting, Rows.{BallSaveEntry, MultiballEntry, SectionRows}}
 
-unfoldable pub ball_save_of : Entry → BallSave
+unfoldable pub ball_save_of : Entry → BallSaveEntry
 ball_save_of e = record {
   name = e.name;
   settings = record {
@@ -17,7 +17,7 @@ ball_save_of e = record {
   disable_events = listed_events (setting_of tables.ball_saves (codes "disable_events") e.values);
 }
 
-unfoldable pub multiball_of : Entry → Multiball
+unfoldable pub multiball_of : Entry → MultiballEntry
 multiball_of e = record {
   name = e.name;
   settings = record { balls = natural_setting tables.multiballs (codes "ball_count") e.values };
@@ -27,9 +27,9 @@ multiball_of e = record {
 -- ---- sections
 
 -- the ball saves of a section: of `ball_saves` its entries, of any other none
-unfoldable pub ball_saves_in : SectionRows → List BallSave
+unfoldable pub ball_saves_in : SectionRows → List BallSaveEntry
 ball_saves_in s = map ball_save_of (entries_of ball_saves_name s)
 
 -- the same for `multiballs`
-unfoldable pub multiballs_in : SectionRows → List Multiball
+unfoldable pub multiballs_in : SectionRows → List MultiballEntry
 multiballs_in s = map multiball_of (entries_of multiballs_name s)

@@ -1,12 +1,12 @@
 -- The entries of `shots`, `shot_groups` and `shot_profiles`, by the names of their settings.
 use Rattle.std.specs.Prelude.{ℕ, nat_le, if◌then◌else◌, List, [], length, map, Option, unwrap_or, codes}
 use Rattle.std.specs.List.{filter_map}
-use Rattle.setting_values.specs.Values.{Written, Handled, Fields, written_at}
+use Rattle.setting_values.specs.Values.{WrittenName, HandledEvent, Fields, written_at}
 use Rattle.section_tables.specs.Rows.{Entry}
 use Rattle.mpf_tables.specs.SectionTables as tables
 pub use Rattle.mpf_tables.specs.SectionTables.{shots_name, shot_groups_name, shot_profiles_name, default_profile}
-use Rattle.mpf_sections.specs.Typed.{setting_of, field_of, text_of, flag_of, listed_names, listed_events, listed_maps, name_in, entries_of}
-use Rattle.mpf_sections.specs.Rows.{Shot, ShotGroup, ShotProfile, SectionRows}
+use Rattle.mpf_sections.specs.Typed.{setting_of, field_of, text_of, flag_of, listed_names, listed_events, listed_maps}
+use Rattle.mpf_sections.specs.{Typed.{name_in, entries_of}, Rows.{Shot, ShotGroup, ShotProfile, SectionRows}}
 
 -- a list of at most 16 items; a longer one, which no table gives, counts as none
 abbrev pub few : {A : Type 0} → List A → List A
@@ -14,7 +14,7 @@ few xs = if nat_le (length xs) 16 then xs else []
 
 -- ---- `shots`
 
-abbrev shot_handlers : List ℕ → Entry → List Handled
+abbrev shot_handlers : List ℕ → Entry → List HandledEvent
 shot_handlers key e = listed_events (setting_of tables.shots key e.values)
 
 unfoldable pub shot_of : Entry → Shot
@@ -22,7 +22,8 @@ shot_of e = record {
   name = e.name;
   switch = name_in (text_of (setting_of tables.shots (codes "switch") e.values));
   hits = shot_handlers (codes "hit_events") e;
-  profile = unwrap_or (name_in (text_of (setting_of tables.shots (codes "profile") e.values))) (written_at 0 default_profile);
+  profile = unwrap_or (name_in (text_of (setting_of tables.shots (codes "profile") e.values)))
+      (written_at 0 default_profile);
   advances = shot_handlers (codes "advance_events") e;
   resets = shot_handlers (codes "reset_events") e;
   enables = shot_handlers (codes "enable_events") e;
@@ -32,7 +33,7 @@ shot_of e = record {
 
 -- ---- `shot_groups`
 
-abbrev group_handlers : List ℕ → Entry → List Handled
+abbrev group_handlers : List ℕ → Entry → List HandledEvent
 group_handlers key e = listed_events (setting_of tables.shot_groups key e.values)
 
 unfoldable pub shot_group_of : Entry → ShotGroup
@@ -48,7 +49,7 @@ shot_group_of e = record {
 -- ---- `shot_profiles`
 
 -- the name of a state, or none if its map has no name
-unfoldable pub state_of : Fields → Option Written
+unfoldable pub state_of : Fields → Option WrittenName
 state_of m = name_in (field_of tables.profile_state (codes "name") m.values)
 
 unfoldable pub shot_profile_of : Entry → ShotProfile

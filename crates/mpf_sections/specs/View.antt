@@ -7,10 +7,10 @@ use Rattle.mpf_sections.specs.declared.typed.Switch as typed_switches
 use Rattle.mpf_sections.specs.declared.typed.EventPlayer as typed_players
 use Rattle.mpf_sections.specs.declared.typed.ModeSettings as typed_settings
 use Rattle.mpf_sections.specs.declared.blocks.BlockEvents as typed_blocks
-use Rattle.mpf_sections.specs.declared.blocks.Counter as typed_counters
+use Rattle.mpf_sections.specs.declared.blocks.CounterEntry as typed_counters
 use Rattle.mpf_sections.specs.declared.blocks.StepBlock as typed_steps
-use Rattle.mpf_sections.specs.declared.timers.Control as typed_controls
-use Rattle.mpf_sections.specs.declared.timers.Timer as typed_timers
+use Rattle.mpf_sections.specs.declared.timers.ControlEvent as typed_controls
+use Rattle.mpf_sections.specs.declared.timers.TimerEntry as typed_timers
 use Rattle.mpf_sections.specs.declared.coils.Coil as typed_coils
 use Rattle.mpf_sections.specs.declared.coils.CoilPlayer as typed_coil_players
 use Rattle.mpf_sections.specs.declared.coils.CoilItem as typed_coil_items
@@ -18,26 +18,37 @@ use Rattle.mpf_sections.specs.declared.game.VariablePlayer as typed_variable_pla
 use Rattle.mpf_sections.specs.declared.game.VariableItem as typed_variable_items
 use Rattle.mpf_sections.specs.declared.game.GameSettings as typed_games
 use Rattle.mpf_sections.specs.declared.coil_rules.Rule as typed_rules
-use Rattle.mpf_sections.specs.declared.coil_rules.Flipper as typed_flippers
-use Rattle.mpf_sections.specs.declared.coil_rules.Autofire as typed_autofires
+use Rattle.mpf_sections.specs.declared.coil_rules.FlipperEntry as typed_flippers
+use Rattle.mpf_sections.specs.declared.coil_rules.AutofireEntry as typed_autofires
 use Rattle.mpf_sections.specs.declared.shots.Shot as typed_shots
 use Rattle.mpf_sections.specs.declared.shots.ShotGroup as typed_groups
 use Rattle.mpf_sections.specs.declared.shots.ShotProfile as typed_profiles
-use Rattle.mpf_sections.specs.declared.balls.BallDevice as typed_balls
-use Rattle.mpf_sections.specs.declared.saves.BallSave as typed_saves
-use Rattle.mpf_sections.specs.declared.saves.Multiball as typed_multiballs
-use Rattle.mpf_sections.specs.Rows.{Written, Handled, Switch, EventPlayer, Coil, CoilItem, CoilPlayer, VariableItem, VariablePlayer, GameSettings, Rule, Flipper, Autofire, Shot, ShotGroup, ShotProfile, BallDevice, BallSave, Multiball, BlockEvents, Counter, StepBlock, Control, Timer, ModeSettings}
+use Rattle.mpf_sections.specs.declared.balls.BallDeviceEntry as typed_balls
+use Rattle.mpf_sections.specs.declared.saves.BallSaveEntry as typed_saves
+use Rattle.mpf_sections.specs.declared.saves.MultiballEntry as typed_multiballs
+use Rattle.mpf_sections.specs.Rows.{WrittenName, HandledEvent, Switch, EventPlayer, Coil, CoilItem, CoilPlayer}
+use Rattle.mpf_sections.specs.Rows.{VariableItem, VariablePlayer, GameSettings, Rule, FlipperEntry, AutofireEntry, Shot}
+use Rattle.mpf_sections.specs.Rows.{ShotGroup, ShotProfile, BallDeviceEntry, BallSaveEntry, MultiballEntry, BlockEvents}
+use Rattle.mpf_sections.specs.Rows.{CounterEntry, StepBlock, ControlEvent, TimerEntry, ModeSettings}
 use Rattle.mpf_sections.specs.{Typed.controls_of, TypedShots.state_of}
 use Rattle.mpf_sections.specs.{TypedCoils.coil_item_of, TypedGame.variable_item_of}
 pub use Rattle.mpf_sections.specs.SectionView.{content_view, section_view}
-pub use Rattle.setting_values.specs.View.{name_view, names_view, handler_view, handlers_view, plain_view, fields_view, keyed_view}
+pub use Rattle.setting_values.specs.View.{name_view, names_view, handler_view, handlers_view, plain_view, fields_view}
+pub use Rattle.setting_values.specs.View.{keyed_view}
 pub use Rattle.section_tables.specs.View.{entry_view, player_view}
 
-abbrev pub name_at_view : NameAt → Written
+abbrev pub name_at_view : NameAt → WrittenName
 name_at_view n = record { line = n.line; text = n.text.now }
 
-abbrev pub handled_at_view : HandledAt → Handled
-handled_at_view h = record { line = h.line; event = record { name = h.name.now; condition = option_map (λ g. guard_view g.now) h.condition } }
+abbrev pub handled_at_view : HandledAt → HandledEvent
+handled_at_view h =
+    record {
+      line = h.line;
+      event = record {
+        name = h.name.now;
+        condition = option_map (λ g. guard_view g.now) h.condition;
+      };
+    }
 
 -- a text, if there is one
 abbrev pub plain_option_view : Option (Bor plains.Plain) → Option Plain
@@ -49,8 +60,8 @@ switch_view s = record {
   contact = s.contact;
   debounce = s.debounce;
   tags = map name_view s.tags.now;
-  activated = map name_view s.activated.now;
-  deactivated = map name_view s.deactivated.now;
+  activation_events = map name_view s.activation_events.now;
+  deactivation_events = map name_view s.deactivation_events.now;
   order = s.order.now;
 }
 
@@ -77,7 +88,7 @@ block_view b = record {
   complete = map name_view b.complete.now;
 }
 
-abbrev pub counter_view : typed_counters.Counter → Counter
+abbrev pub counter_view : typed_counters.CounterEntry → CounterEntry
 counter_view c = record {
   name = name_view c.name.now;
   counts = map handler_view c.counts.now;
@@ -95,11 +106,16 @@ step_block_view b = record {
   order = b.order.now;
 }
 
-abbrev pub control_view : typed_controls.Control → Control
+abbrev pub control_view : typed_controls.ControlEvent → ControlEvent
 control_view c = record { event = handled_at_view c.event; action = c.action; value = c.value }
 
-abbrev pub timer_view : typed_timers.Timer → Timer
-timer_view t = record { name = name_view t.name.now; settings = t.settings; controls = controls_of (map fields_view t.controls.now) }
+abbrev pub timer_view : typed_timers.TimerEntry → TimerEntry
+timer_view t =
+    record {
+      name = name_view t.name.now;
+      settings = t.settings;
+      controls = controls_of (map fields_view t.controls.now);
+    }
 
 abbrev pub coil_view : typed_coils.Coil → Coil
 coil_view c = record {
@@ -129,7 +145,8 @@ abbrev pub variable_item_view : typed_variable_items.VariableItem → VariableIt
 variable_item_view i = record { variable = name_view i.variable.now; action = i.action; number = i.number }
 
 abbrev pub variable_player_view : typed_variable_players.VariablePlayer → VariablePlayer
-variable_player_view p = record { event = handled_at_view p.event; items = map variable_item_of (map keyed_view p.items.now) }
+variable_player_view p =
+    record { event = handled_at_view p.event; items = map variable_item_of (map keyed_view p.items.now) }
 
 abbrev pub game_view : typed_games.GameSettings → GameSettings
 game_view g = record { balls_per_game = g.balls_per_game; max_players = g.max_players }
@@ -143,10 +160,15 @@ rule_view r = record {
   order = r.order.now;
 }
 
-abbrev pub flipper_view : typed_flippers.Flipper → Flipper
-flipper_view f = record { main_coil = name_at_view f.main_coil; hold_coil = option_map name_at_view f.hold_coil; rule = rule_view f.rule }
+abbrev pub flipper_view : typed_flippers.FlipperEntry → FlipperEntry
+flipper_view f =
+    record {
+      main_coil = name_at_view f.main_coil;
+      hold_coil = option_map name_at_view f.hold_coil;
+      rule = rule_view f.rule;
+    }
 
-abbrev pub autofire_view : typed_autofires.Autofire → Autofire
+abbrev pub autofire_view : typed_autofires.AutofireEntry → AutofireEntry
 autofire_view a = record { coil = name_at_view a.coil; rule = rule_view a.rule }
 
 abbrev pub shot_view : typed_shots.Shot → Shot
@@ -180,7 +202,7 @@ shot_profile_view p = record {
   loops = p.loops;
 }
 
-abbrev pub ball_device_view : typed_balls.BallDevice → BallDevice
+abbrev pub ball_device_view : typed_balls.BallDeviceEntry → BallDeviceEntry
 ball_device_view d = record {
   name = name_view d.name.now;
   switches = map name_view d.switches.now;
@@ -191,7 +213,7 @@ ball_device_view d = record {
   order = d.order.now;
 }
 
-abbrev pub ball_save_view : typed_saves.BallSave → BallSave
+abbrev pub ball_save_view : typed_saves.BallSaveEntry → BallSaveEntry
 ball_save_view b = record {
   name = name_view b.name.now;
   settings = b.settings;
@@ -199,5 +221,6 @@ ball_save_view b = record {
   disable_events = map handler_view b.disable_events.now;
 }
 
-abbrev pub multiball_view : typed_multiballs.Multiball → Multiball
-multiball_view m = record { name = name_view m.name.now; settings = m.settings; start_events = map handler_view m.start_events.now }
+abbrev pub multiball_view : typed_multiballs.MultiballEntry → MultiballEntry
+multiball_view m =
+    record { name = name_view m.name.now; settings = m.settings; start_events = map handler_view m.start_events.now }

@@ -5,9 +5,9 @@ ghost use Rattle.mpf_sections.specs.TypedBalls.{attempts_of, is_tagged, is_troug
 ghost use Rattle.mpf_sections.specs.View.{ball_device_view};
 ghost use Rattle.mpf_sections.specs.TypedOf.{IsBallDeviceOf};
 
-use crate::numbers::{natural, time};
+use crate::numbers::{duration_at, natural};
 use crate::typed::NameAt;
-use crate::values::{few_names, flag, name, name_or, names, text};
+use crate::values::{few_names, flag, name_in, name_or, names_at, text};
 use machine_settings::EjectSettings;
 use mpf_tables::tables::{BALL_DEVICES, PLAYFIELD};
 use section_tables::rows::Entry;
@@ -15,7 +15,7 @@ use setting_values::values::Name;
 
 /// An entry of `ball_devices`.
 #[derive(Clone, Copy)]
-pub struct BallDevice<'a> {
+pub struct BallDeviceEntry<'a> {
     pub name: &'a Name,
     /// Its ball switches, each of a place for a ball: at most 16.
     pub switches: &'a [Name],
@@ -72,27 +72,27 @@ fn attempts(number: u32) -> Option<u16>
 
 /// An entry of `ball_devices`, by the names of its settings.
 #[tactic(auto, unfolding(crate::specs::TypedBalls::ball_device_of))]
-pub fn as_ball_device(entry: &Entry) -> BallDevice<'_>
+pub fn as_ball_device(entry: &Entry) -> BallDeviceEntry<'_>
     ensures { IsBallDeviceOf entry.now result }
 {
-    BallDevice {
+    BallDeviceEntry {
         name: &entry.name,
         switches: few_names(entry, BALL_SWITCHES),
-        eject_coil: name(text(entry, EJECT_COIL)),
+        eject_coil: name_in(text(entry, EJECT_COIL)),
         target: name_or(text(entry, EJECT_TARGETS), PLAYFIELD),
         ejects: EjectSettings {
-            entrance_delay: time(entry, BALL_DEVICES, ENTRANCE_COUNT_DELAY),
-            exit_delay: time(entry, BALL_DEVICES, EXIT_COUNT_DELAY),
-            timeout: time(entry, BALL_DEVICES, EJECT_TIMEOUTS),
+            entrance_delay: duration_at(entry, BALL_DEVICES, ENTRANCE_COUNT_DELAY),
+            exit_delay: duration_at(entry, BALL_DEVICES, EXIT_COUNT_DELAY),
+            timeout: duration_at(entry, BALL_DEVICES, EJECT_TIMEOUTS),
             max_attempts: attempts(natural(entry, BALL_DEVICES, MAX_EJECT_ATTEMPTS)),
             mechanical: flag(entry, MECHANICAL_EJECT),
         },
-        tags: names(entry, TAGS),
+        tags: names_at(entry, TAGS),
         order: entry.order(),
     }
 }
 
-impl BallDevice<'_> {
+impl BallDeviceEntry<'_> {
     fn is_tagged(&self, tag: &[u8]) -> bool
         ensures { result ≡ is_tagged tag.now (ball_device_view self.now) }
     {
@@ -113,7 +113,7 @@ impl BallDevice<'_> {
         self.is_trough() || self.is_tagged(HOME)
     }
 
-    /// Whether a ball that comes into it from the playfield has drained: it is tagged `drain`.
+    /// Whether a ball that enters it, and was not on its way there, has drained: it is tagged `drain`.
     pub fn is_drain(&self) -> bool
         ensures { result ≡ is_drain (ball_device_view self.now) }
     {

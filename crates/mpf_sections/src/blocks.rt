@@ -2,10 +2,12 @@
 
 ghost use Rattle.std.specs.Prelude.{◌≡◌, ◌≤◌};
 ghost use Rattle.mpf_sections.specs.View.{entry_view};
-ghost use Rattle.mpf_sections.specs.Inside.{block_settings_at, IsBlockAt};
+ghost use Rattle.mpf_sections.specs.EntryReading.{block_settings_at, IsBlockAt};
 ghost use Rattle.mpf_sections.specs.TypedOf.{IsCounterOf, IsStepBlockOf};
 
-use crate::values::{direction, flag, handlers, limit, milliseconds, number, posts_at, steps};
+use crate::values::{
+    direction, flag, handlers_at, integer_at, limit, milliseconds, posts_at, steps,
+};
 use machine_settings::{BlockSettings, CounterSettings};
 use section_tables::rows::Entry;
 use setting_values::values::{Handler, Name};
@@ -29,7 +31,7 @@ pub struct BlockEvents<'a> {
 
 /// An entry of `counters`.
 #[derive(Clone, Copy)]
-pub struct Counter<'a> {
+pub struct CounterEntry<'a> {
     pub name: &'a Name,
     /// The events that it counts.
     pub counts: &'a [Handler],
@@ -91,7 +93,7 @@ fn block_settings(entry: &Entry, first: usize) -> BlockSettings
     ensures { result ≡ block_settings_at first (entry_view entry.now).values }
 {
     BlockSettings {
-        enabled: handlers(entry, first + 3).is_empty(),
+        enabled: handlers_at(entry, first + 3).is_empty(),
         reset_on_complete: flag(entry, first),
         disable_on_complete: flag(entry, first + 1),
         persist: flag(entry, first + 2),
@@ -104,10 +106,10 @@ fn block_events(entry: &Entry, first: usize) -> BlockEvents<'_>
     ensures { IsBlockAt first entry.now result }
 {
     BlockEvents {
-        enables: handlers(entry, first + 3),
-        disables: handlers(entry, first + 4),
-        resets: handlers(entry, first + 5),
-        restarts: handlers(entry, first + 6),
+        enables: handlers_at(entry, first + 3),
+        disables: handlers_at(entry, first + 4),
+        resets: handlers_at(entry, first + 5),
+        restarts: handlers_at(entry, first + 6),
         hit: posts_at(entry, first + 7),
         complete: posts_at(entry, first + 8),
     }
@@ -115,16 +117,16 @@ fn block_events(entry: &Entry, first: usize) -> BlockEvents<'_>
 
 /// An entry of `counters`, by the names of its settings.
 #[tactic(auto, unfolding(crate::specs::Typed::counter_of))]
-pub fn as_counter(entry: &Entry) -> Counter<'_>
+pub fn as_counter(entry: &Entry) -> CounterEntry<'_>
     ensures { IsCounterOf entry.now result }
 {
-    Counter {
+    CounterEntry {
         name: &entry.name,
-        counts: handlers(entry, COUNT_EVENTS),
+        counts: handlers_at(entry, COUNT_EVENTS),
         settings: CounterSettings {
             block: block_settings(entry, BLOCK_OF_COUNTER),
-            start: number(entry, STARTING_COUNT),
-            interval: number(entry, COUNT_INTERVAL),
+            start: integer_at(entry, STARTING_COUNT),
+            interval: integer_at(entry, COUNT_INTERVAL),
             direction: direction(entry, DIRECTION),
             complete: limit(entry, COUNT_COMPLETE_VALUE),
             window: milliseconds(entry, MULTIPLE_HIT_WINDOW),

@@ -2,12 +2,12 @@
 
 ghost use Rattle.std.specs.Prelude.{◌≡◌, ◌≤◌};
 ghost use Rattle.mpf_sections.specs.CoilRules.{IsCoilRuleOf};
-ghost use Rattle.mpf_sections.specs.Inside.{IsRuleAt};
+ghost use Rattle.mpf_sections.specs.EntryReading.{IsRuleAt};
 ghost use Rattle.mpf_sections.specs.TypedCoils.{quick_place};
 ghost use Rattle.mpf_sections.specs.TypedOf.{IsNeededAt, IsFlipperOf, IsAutofireOf};
 
 use crate::typed::NameAt;
-use crate::values::{handlers, name, text};
+use crate::values::{handlers_at, name_in, text};
 use mpf_tables::tables::{AUTOFIRE_COILS_NAME, FLIPPERS_NAME};
 use section_tables::rows::Entry;
 use setting_values::values::{Handler, Name};
@@ -30,7 +30,7 @@ pub struct Rule<'a> {
 
 /// An entry of `flippers`.
 #[derive(Clone, Copy)]
-pub struct Flipper<'a> {
+pub struct FlipperEntry<'a> {
     /// The coil that lifts the flipper.
     pub main_coil: NameAt<'a>,
     /// The coil that holds it up, if there is another for that: by default there is none.
@@ -41,7 +41,7 @@ pub struct Flipper<'a> {
 
 /// An entry of `autofire_coils`.
 #[derive(Clone, Copy)]
-pub struct Autofire<'a> {
+pub struct AutofireEntry<'a> {
     pub coil: NameAt<'a>,
     /// Its switch fires the coil.
     pub rule: Rule<'a>,
@@ -50,8 +50,8 @@ pub struct Autofire<'a> {
 /// A flipper or an autofire coil.
 #[derive(Clone, Copy)]
 pub enum CoilRule<'a> {
-    Flipper(Flipper<'a>),
-    Autofire(Autofire<'a>),
+    Flipper(FlipperEntry<'a>),
+    Autofire(AutofireEntry<'a>),
 }
 
 // The places of the settings in the two tables. The events that enable and disable a rule come after
@@ -94,7 +94,7 @@ pub fn quick_switch(section: &[u8]) -> Option<usize>
 pub fn needed_name(entry: &Entry, at: usize) -> NameAt<'_>
     ensures { IsNeededAt at entry.now result }
 {
-    match name(text(entry, at)) {
+    match name_in(text(entry, at)) {
         Some(name) => name,
         None => NameAt {
             line: entry.name.line,
@@ -111,30 +111,30 @@ fn as_rule(entry: &Entry, switch: usize) -> Rule<'_>
     Rule {
         name: &entry.name,
         switch: needed_name(entry, switch),
-        enables: handlers(entry, switch + 1),
-        disables: handlers(entry, switch + 2),
+        enables: handlers_at(entry, switch + 1),
+        disables: handlers_at(entry, switch + 2),
         order: entry.order(),
     }
 }
 
 /// An entry of `flippers`, by the names of its settings.
 #[tactic(auto, unfolding(crate::specs::TypedCoils::flipper_of))]
-pub fn as_flipper(entry: &Entry) -> Flipper<'_>
+pub fn as_flipper(entry: &Entry) -> FlipperEntry<'_>
     ensures { IsFlipperOf entry.now result }
 {
-    Flipper {
+    FlipperEntry {
         main_coil: needed_name(entry, MAIN_COIL),
-        hold_coil: name(text(entry, HOLD_COIL)),
+        hold_coil: name_in(text(entry, HOLD_COIL)),
         rule: as_rule(entry, ACTIVATION_SWITCH),
     }
 }
 
 /// An entry of `autofire_coils`, by the names of its settings.
 #[tactic(auto, unfolding(crate::specs::TypedCoils::autofire_of))]
-pub fn as_autofire(entry: &Entry) -> Autofire<'_>
+pub fn as_autofire(entry: &Entry) -> AutofireEntry<'_>
     ensures { IsAutofireOf entry.now result }
 {
-    Autofire {
+    AutofireEntry {
         coil: needed_name(entry, COIL),
         rule: as_rule(entry, SWITCH),
     }

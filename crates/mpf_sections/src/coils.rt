@@ -4,13 +4,13 @@ ghost use Rattle.std.specs.Prelude.{◌≡◌};
 ghost use Rattle.mpf_sections.specs.TypedCoils.{may_hold, max_hold_power, coil_action_of};
 ghost use Rattle.mpf_sections.specs.TypedOf.{IsCoilPlayerOf, IsCoilItemOf, IsCoilOf};
 
-use crate::numbers::time;
+use crate::numbers::duration_at;
 use crate::typed::HandledAt;
-use crate::values::{field, flag, handled, keyed, power, pulse, text, word_field};
+use crate::values::{field, flag, handled_event, keyed_values, power_in, pulse, text, word_field};
 use crate::words::CoilAction;
 use mpf_tables::tables::COILS;
 use section_tables::rows::{Entry, Player};
-use setting_values::values::{Keyed, Name};
+use setting_values::values::{KeyedValues, Name};
 
 /// An entry of `coils`. Powers are in thousandths of full power.
 #[derive(Clone, Copy)]
@@ -52,7 +52,7 @@ pub struct CoilItem<'a> {
 pub struct CoilPlayer<'a> {
     pub event: HandledAt<'a>,
     /// Each to be read with [`as_coil_item`].
-    pub items: &'a [Keyed],
+    pub items: &'a [KeyedValues],
 }
 
 // The places of the settings in the table of `coils`.
@@ -97,17 +97,17 @@ fn action_of(word: &[u8]) -> CoilAction
 }
 
 // Whether a coil may be held: if that is allowed, or it has a power above 0 to be held with.
-fn may_hold(allowed: bool, power: Option<u16>) -> bool
-    ensures { result ≡ may_hold allowed power }
+fn may_hold(may_enable: bool, power: Option<u16>) -> bool
+    ensures { result ≡ may_hold may_enable power }
 {
-    allowed || power.unwrap_or(0) > 0
+    may_enable || power.unwrap_or(0) > 0
 }
 
 // The greatest power with which a coil is held, if this one is written, or none.
-fn max_hold_power(written: Option<u16>, allowed: bool, power: Option<u16>) -> u16
-    ensures { result ≡ max_hold_power written allowed power }
+fn max_hold_power(own_power: Option<u16>, may_enable: bool, power: Option<u16>) -> u16
+    ensures { result ≡ max_hold_power own_power may_enable power }
 {
-    match (written, allowed) {
+    match (own_power, may_enable) {
         (Some(greatest), _) => greatest,
         (None, true) => 1_000,
         (None, false) => power.unwrap_or(0),
@@ -119,17 +119,21 @@ fn max_hold_power(written: Option<u16>, allowed: bool, power: Option<u16>) -> u1
 pub fn as_coil(entry: &Entry) -> Coil<'_>
     ensures { IsCoilOf entry.now result }
 {
-    let pulse_ms = time(entry, COILS, DEFAULT_PULSE_MS);
-    let allowed = flag(entry, ALLOW_ENABLE);
-    let hold_power = power(text(entry, DEFAULT_HOLD_POWER));
-    let greatest = max_hold_power(power(text(entry, MAX_HOLD_POWER)), allowed, hold_power);
+    let pulse_ms = duration_at(entry, COILS, DEFAULT_PULSE_MS);
+    let may_enable = flag(entry, ALLOW_ENABLE);
+    let hold_power = power_in(text(entry, DEFAULT_HOLD_POWER));
+    let greatest = max_hold_power(
+        power_in(text(entry, MAX_HOLD_POWER)),
+        may_enable,
+        hold_power,
+    );
     Coil {
         name: &entry.name,
         pulse_ms,
         max_pulse_ms: pulse(text(entry, MAX_PULSE_MS)).unwrap_or(pulse_ms),
-        pulse_power: power(text(entry, DEFAULT_PULSE_POWER)).unwrap_or(1_000),
-        max_pulse_power: power(text(entry, MAX_PULSE_POWER)).unwrap_or(1_000),
-        may_hold: may_hold(allowed, hold_power),
+        pulse_power: power_in(text(entry, DEFAULT_PULSE_POWER)).unwrap_or(1_000),
+        max_pulse_power: power_in(text(entry, MAX_PULSE_POWER)).unwrap_or(1_000),
+        may_hold: may_hold(may_enable, hold_power),
         hold_power: hold_power.unwrap_or(greatest),
         max_hold_power: greatest,
     }
@@ -137,16 +141,16 @@ pub fn as_coil(entry: &Entry) -> Coil<'_>
 
 /// What belongs to a coil in an entry of `coil_player`, by the names of its fields.
 #[tactic(auto, unfolding(crate::specs::TypedCoils::coil_item_of))]
-pub fn as_coil_item(keyed: &Keyed) -> CoilItem<'_>
-    ensures { IsCoilItemOf keyed.now result }
+pub fn as_coil_item(pair: &KeyedValues) -> CoilItem<'_>
+    ensures { IsCoilItemOf pair.now result }
 {
-    let values = keyed.values.as_slice();
+    let values = pair.values.as_slice();
     CoilItem {
-        coil: &keyed.name,
+        coil: &pair.name,
         action: action_of(word_field(values, ACTION)),
         pulse_ms: pulse(field(values, PULSE_MS)),
-        pulse_power: power(field(values, PULSE_POWER)),
-        hold_power: power(field(values, HOLD_POWER)),
+        pulse_power: power_in(field(values, PULSE_POWER)),
+        hold_power: power_in(field(values, HOLD_POWER)),
     }
 }
 
@@ -156,7 +160,7 @@ pub fn as_coil_player(player: &Player) -> CoilPlayer<'_>
     ensures { IsCoilPlayerOf player.now result }
 {
     CoilPlayer {
-        event: handled(&player.event),
-        items: keyed(&player.value),
+        event: handled_event(&player.event),
+        items: keyed_values(&player.value),
     }
 }

@@ -7,11 +7,11 @@ ghost use Rattle.mpf_sections.specs.TypedOf.{IsVariablePlayerOf, IsVariableItemO
 use crate::numbers::{natural, natural_default};
 use crate::section::{Content, Section};
 use crate::typed::{HandledAt, section_named};
-use crate::values::{change, handled, keyed, word_field};
+use crate::values::{change, handled_event, keyed_values, word_field};
 use machine_settings::VariableAction;
 use mpf_tables::tables::{GAME, MACHINE, MACHINE_SECTION_NAME};
 use section_tables::rows::{Entry, Player};
-use setting_values::values::{Keyed, Name};
+use setting_values::values::{KeyedValues, Name};
 
 /// What is done with a variable when an event is handled.
 #[derive(Clone, Copy)]
@@ -28,7 +28,7 @@ pub struct VariableItem<'a> {
 pub struct VariablePlayer<'a> {
     pub event: HandledAt<'a>,
     /// Each to be read with [`as_variable_item`].
-    pub items: &'a [Keyed],
+    pub items: &'a [KeyedValues],
 }
 
 /// What the section `game` says.
@@ -67,12 +67,12 @@ fn action_of(word: &[u8]) -> VariableAction
 
 /// What belongs to a variable in an entry of `variable_player`, by the names of its fields.
 #[tactic(auto, unfolding(crate::specs::TypedGame::variable_item_of))]
-pub fn as_variable_item(keyed: &Keyed) -> VariableItem<'_>
-    ensures { IsVariableItemOf keyed.now result }
+pub fn as_variable_item(pair: &KeyedValues) -> VariableItem<'_>
+    ensures { IsVariableItemOf pair.now result }
 {
-    let values = keyed.values.as_slice();
+    let values = pair.values.as_slice();
     VariableItem {
-        variable: &keyed.name,
+        variable: &pair.name,
         action: action_of(word_field(values, ACTION)),
         number: change(values, INT),
     }
@@ -84,8 +84,8 @@ pub fn as_variable_player(player: &Player) -> VariablePlayer<'_>
     ensures { IsVariablePlayerOf player.now result }
 {
     VariablePlayer {
-        event: handled(&player.event),
-        items: keyed(&player.value),
+        event: handled_event(&player.event),
+        items: keyed_values(&player.value),
     }
 }
 

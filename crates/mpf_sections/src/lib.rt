@@ -22,18 +22,20 @@ pub mod typed;
 mod values;
 pub mod words;
 
-pub use balls::{BallDevice, as_ball_device};
-pub use blocks::{BlockEvents, Counter, StepBlock, as_counter, as_step_block};
-pub use coil_rules::{Autofire, CoilRule, Flipper, Rule, as_autofire, as_coil_rule, as_flipper};
+pub use balls::{BallDeviceEntry, as_ball_device};
+pub use blocks::{BlockEvents, CounterEntry, StepBlock, as_counter, as_step_block};
+pub use coil_rules::{
+    AutofireEntry, CoilRule, FlipperEntry, Rule, as_autofire, as_coil_rule, as_flipper,
+};
 pub use coils::{Coil, CoilItem, CoilPlayer, as_coil, as_coil_item, as_coil_player};
 pub use game::{
     GameSettings, VariableItem, VariablePlayer, as_game, as_variable_item, as_variable_player,
     min_balls,
 };
-pub use saves::{BallSave, Multiball, as_ball_save, as_multiball};
+pub use saves::{BallSaveEntry, MultiballEntry, as_ball_save, as_multiball};
 pub use section::{Content, Section};
 pub use shots::{Shot, ShotGroup, ShotProfile, as_shot, as_shot_group, as_shot_profile, as_state};
-pub use timers::{Control, Timer, as_control, as_timer};
+pub use timers::{ControlEvent, TimerEntry, as_control, as_timer};
 pub use typed::{
     EventPlayer, HandledAt, ModeSettings, NameAt, Switch, as_event_player, as_handled,
     as_mode_settings, as_switch, listed_modes, mode_settings,

@@ -4,7 +4,8 @@ ghost use Rattle.std.specs.Prelude.{◌≡◌, slice_get, None};
 ghost use Rattle.setting_values.specs.KindView.{kind_view};
 ghost use Rattle.section_tables.specs.TableView.{without_view, table_view};
 ghost use Rattle.section_tables.specs.View.{value_option_view, entry_view};
-ghost use Rattle.mpf_sections.specs.TypedNumbers.{default_number, bounded_number, number_by, number_under, number_at, natural_from, default_time, bounded_time, time_by, time_at};
+ghost use Rattle.mpf_sections.specs.TypedNumbers.{default_number, bounded_number, number_by, number_under, number_at};
+ghost use Rattle.mpf_sections.specs.TypedNumbers.{natural_from, default_time, bounded_time, time_by, time_at};
 
 use section_tables::rows::Entry;
 use section_tables::table::{Setting, Without};
@@ -112,7 +113,7 @@ fn time_by(value: Option<&Value>, kind: Kind, without: Without) -> u32
 }
 
 /// The milliseconds at a place of an entry of this table.
-pub fn time(entry: &Entry, table: &[Setting], at: usize) -> u32
+pub fn duration_at(entry: &Entry, table: &[Setting], at: usize) -> u32
     ensures { result ≡ time_at (table_view table.now) (entry_view entry.now).values at }
 {
     match table.get(at) {

@@ -4,7 +4,7 @@ ghost use Rattle.std.specs.Prelude.{◌≡◌, ◌<◌};
 ghost use Rattle.mpf_sections.specs.TypedOf.{IsBallSaveOf, IsMultiballOf};
 
 use crate::numbers::natural;
-use crate::values::{handlers, milliseconds};
+use crate::values::{handlers_at, milliseconds};
 use machine_settings::{MultiballSettings, SaveSettings};
 use mpf_tables::tables::{BALL_SAVES, MULTIBALLS};
 use section_tables::rows::Entry;
@@ -12,7 +12,7 @@ use setting_values::values::{Handler, Name};
 
 /// An entry of `ball_saves`.
 #[derive(Clone, Copy)]
-pub struct BallSave<'a> {
+pub struct BallSaveEntry<'a> {
     pub name: &'a Name,
     pub settings: SaveSettings,
     /// The events that enable it.
@@ -23,7 +23,7 @@ pub struct BallSave<'a> {
 
 /// An entry of `multiballs`.
 #[derive(Clone, Copy)]
-pub struct Multiball<'a> {
+pub struct MultiballEntry<'a> {
     pub name: &'a Name,
     pub settings: MultiballSettings,
     /// The events that start it.
@@ -53,30 +53,30 @@ fn small(number: u32) -> u8
 
 /// An entry of `ball_saves`, by the names of its settings.
 #[tactic(auto, unfolding(crate::specs::TypedSaves::ball_save_of))]
-pub fn as_ball_save(entry: &Entry) -> BallSave<'_>
+pub fn as_ball_save(entry: &Entry) -> BallSaveEntry<'_>
     ensures { IsBallSaveOf entry.now result }
 {
-    BallSave {
+    BallSaveEntry {
         name: &entry.name,
         settings: SaveSettings {
             active_time: milliseconds(entry, ACTIVE_TIME),
             balls: small(natural(entry, BALL_SAVES, BALLS_TO_SAVE)),
         },
-        enable_events: handlers(entry, ENABLE_EVENTS),
-        disable_events: handlers(entry, DISABLE_EVENTS),
+        enable_events: handlers_at(entry, ENABLE_EVENTS),
+        disable_events: handlers_at(entry, DISABLE_EVENTS),
     }
 }
 
 /// An entry of `multiballs`, by the names of its settings.
 #[tactic(auto, unfolding(crate::specs::TypedSaves::multiball_of))]
-pub fn as_multiball(entry: &Entry) -> Multiball<'_>
+pub fn as_multiball(entry: &Entry) -> MultiballEntry<'_>
     ensures { IsMultiballOf entry.now result }
 {
-    Multiball {
+    MultiballEntry {
         name: &entry.name,
         settings: MultiballSettings {
             balls: small(natural(entry, MULTIBALLS, BALL_COUNT)),
         },
-        start_events: handlers(entry, START_EVENTS),
+        start_events: handlers_at(entry, START_EVENTS),
     }
 }

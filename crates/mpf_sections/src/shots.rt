@@ -1,10 +1,10 @@
 //! The entries of `shots`, `shot_groups` and `shot_profiles`, by the names of their settings.
 
 ghost use Rattle.mpf_sections.specs.TypedOf.{IsShotOf, IsShotGroupOf, IsShotProfileOf, IsStateOf};
-ghost use Rattle.mpf_sections.specs.Inside.{AreFewMapsAt};
+ghost use Rattle.mpf_sections.specs.EntryReading.{AreFewMapsAt};
 
 use crate::typed::NameAt;
-use crate::values::{few_names, field, flag, handlers, maps, name, name_or, text};
+use crate::values::{few_names, field, flag, handlers_at, maps_at, name_in, name_or, text};
 use mpf_tables::tables::DEFAULT_PROFILE;
 use section_tables::rows::Entry;
 use setting_values::values::{Fields, Handler, Name};
@@ -105,7 +105,7 @@ const STATE_NAME: usize = 0;
 fn few_maps(entry: &Entry, at: usize) -> &[Fields]
     ensures { AreFewMapsAt entry.now at result.now }
 {
-    let maps = maps(entry, at);
+    let maps = maps_at(entry, at);
     if maps.len() <= 16 { maps } else { &[] }
 }
 
@@ -118,13 +118,13 @@ pub fn as_shot(entry: &Entry) -> Shot<'_>
 {
     Shot {
         name: &entry.name,
-        switch: name(text(entry, SWITCH)),
-        hits: handlers(entry, HITS),
+        switch: name_in(text(entry, SWITCH)),
+        hits: handlers_at(entry, HITS),
         profile: name_or(text(entry, PROFILE), DEFAULT_PROFILE),
-        advances: handlers(entry, ADVANCES),
-        resets: handlers(entry, SHOT_RESETS),
-        enables: handlers(entry, ENABLES),
-        disables: handlers(entry, DISABLES),
+        advances: handlers_at(entry, ADVANCES),
+        resets: handlers_at(entry, SHOT_RESETS),
+        enables: handlers_at(entry, ENABLES),
+        disables: handlers_at(entry, DISABLES),
         order: entry.order(),
     }
 }
@@ -137,10 +137,10 @@ pub fn as_shot_group(entry: &Entry) -> ShotGroup<'_>
     ShotGroup {
         name: &entry.name,
         shots: few_names(entry, SHOTS),
-        rotates: handlers(entry, ROTATES),
-        rotates_right: handlers(entry, ROTATES_RIGHT),
-        rotates_left: handlers(entry, ROTATES_LEFT),
-        resets: handlers(entry, GROUP_RESETS),
+        rotates: handlers_at(entry, ROTATES),
+        rotates_right: handlers_at(entry, ROTATES_RIGHT),
+        rotates_left: handlers_at(entry, ROTATES_LEFT),
+        resets: handlers_at(entry, GROUP_RESETS),
     }
 }
 
@@ -149,7 +149,7 @@ pub fn as_shot_group(entry: &Entry) -> ShotGroup<'_>
 pub fn as_state(map: &Fields) -> Option<NameAt<'_>>
     ensures { IsStateOf map.now result }
 {
-    name(field(&map.values, STATE_NAME))
+    name_in(field(&map.values, STATE_NAME))
 }
 
 /// An entry of `shot_profiles`, by the names of its settings.

@@ -6,7 +6,8 @@ ghost use Rattle.mpf_sections.specs.TypedOf.{IsTimerOf, IsControlOf};
 
 use crate::typed::HandledAt;
 use crate::values::{
-    direction, event, field, flag, limit, maps, milliseconds, number, number_field, word_field,
+    direction, event_in, field, flag, integer_at, limit, maps_at, milliseconds, number_field,
+    word_field,
 };
 use crate::words::ControlAction;
 use machine_settings::{Direction, TimerSettings};
@@ -15,7 +16,7 @@ use setting_values::values::{Fields, Name};
 
 /// An event that controls a timer.
 #[derive(Clone, Copy)]
-pub struct Control<'a> {
+pub struct ControlEvent<'a> {
     pub event: HandledAt<'a>,
     pub action: ControlAction,
     /// What `Add` adds, `Subtract` subtracts and `Jump` jumps to: 0 by default.
@@ -24,7 +25,7 @@ pub struct Control<'a> {
 
 /// An entry of `timers`.
 #[derive(Clone, Copy)]
-pub struct Timer<'a> {
+pub struct TimerEntry<'a> {
     pub name: &'a Name,
     /// If no end is written, a timer that goes down completes at 0, and one that goes up never.
     pub settings: TimerSettings,
@@ -120,12 +121,12 @@ fn interval_from(ms: u32) -> u32
 /// A map of `control_events`, by the names of its fields; none if it has no event, as no map has
 /// that is read.
 #[tactic(auto, unfolding(crate::specs::Typed::control_of))]
-pub fn as_control(map: &Fields) -> Option<Control<'_>>
+pub fn as_control(map: &Fields) -> Option<ControlEvent<'_>>
     ensures { IsControlOf map.now result }
 {
     let values = map.values.as_slice();
-    let event = event(field(values, EVENT))?;
-    Some(Control {
+    let event = event_in(field(values, EVENT))?;
+    Some(ControlEvent {
         event,
         action: action_of(word_field(values, ACTION)),
         value: number_field(values, VALUE),
@@ -134,20 +135,20 @@ pub fn as_control(map: &Fields) -> Option<Control<'_>>
 
 /// An entry of `timers`, by the names of its settings.
 #[tactic(auto, unfolding(crate::specs::Typed::timer_of))]
-pub fn as_timer(entry: &Entry) -> Timer<'_>
+pub fn as_timer(entry: &Entry) -> TimerEntry<'_>
     ensures { IsTimerOf entry.now result }
 {
     let direction = direction(entry, DIRECTION);
-    Timer {
+    TimerEntry {
         name: &entry.name,
         settings: TimerSettings {
-            start: number(entry, START_VALUE),
+            start: integer_at(entry, START_VALUE),
             end: end_from(direction, limit(entry, END_VALUE)),
             direction,
             interval: interval_from(milliseconds(entry, TICK_INTERVAL)),
             start_running: flag(entry, START_RUNNING),
             restart: flag(entry, RESTART_ON_COMPLETE),
         },
-        controls: maps(entry, CONTROL_EVENTS),
+        controls: maps_at(entry, CONTROL_EVENTS),
     }
 }

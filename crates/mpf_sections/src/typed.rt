@@ -3,11 +3,15 @@
 ghost use Rattle.std.specs.Prelude.{◌≡◌, None};
 ghost use Rattle.mpf_sections.specs.Typed.{mode_settings_of, starts_at_ball_end, mode_row, contact_of, debounce_of};
 ghost use Rattle.mpf_sections.specs.View.{mode_settings_view};
-ghost use Rattle.mpf_sections.specs.TypedOf.{IsEventOf, IsSwitchOf, IsEventPlayerOf, AreModeSettingsOf, AreModeSettingsIn, AreModesIn, AreEntriesIn, ArePlayersIn, AreEntriesOf, ArePlayersOf};
-ghost use Rattle.mpf_sections.specs.Inside.{are_ball_ending, IsContentNamed};
+ghost use Rattle.mpf_sections.specs.TypedOf.{IsEventOf, IsSwitchOf, IsEventPlayerOf, AreModeSettingsOf};
+ghost use Rattle.mpf_sections.specs.TypedOf.{AreModeSettingsIn, AreModesIn, AreEntriesIn, ArePlayersIn, AreEntriesOf};
+ghost use Rattle.mpf_sections.specs.TypedOf.{ArePlayersOf};
+ghost use Rattle.mpf_sections.specs.EntryReading.{are_ball_ending, IsContentNamed};
 
 use crate::section::{Content, Section};
-use crate::values::{flag, handled, handlers, names, natural, posts, posts_at, word};
+use crate::values::{
+    flag, handled_event, handlers_at, names_at, natural, posts, posts_at, word_at,
+};
 use crate::words::Debounce;
 use machine_settings::Contact;
 use mpf_tables::tables::{MODE_NAME, MODES_NAME};
@@ -40,9 +44,9 @@ pub struct Switch<'a> {
     /// For each tag `T` the switch posts `sw_T` when it becomes active.
     pub tags: &'a [Name],
     /// Also posted when the switch becomes active: `events_when_activated`.
-    pub activated: &'a [Name],
+    pub activation_events: &'a [Name],
     /// Also posted when it becomes inactive: `events_when_deactivated`.
-    pub deactivated: &'a [Name],
+    pub deactivation_events: &'a [Name],
     /// The settings that are written, by their places in the table, in the order in which they are
     /// written.
     pub order: &'a [usize],
@@ -95,12 +99,12 @@ const DEBOUNCE: usize = 1;
 const TAGS: usize = 2;
 
 /// The place of `events_when_activated` in the table of `switches`.
-pub const ACTIVATED: usize = 3;
+pub const ACTIVATION_EVENTS: usize = 3;
 
 /// The place of `events_when_deactivated` in the table of `switches`.
-pub const DEACTIVATED: usize = 4;
+pub const DEACTIVATION_EVENTS: usize = 4;
 
-const CLOSED: &[u8] = b"NC";
+const NORMALLY_CLOSED: &[u8] = b"NC";
 
 const QUICK: &[u8] = b"quick";
 
@@ -110,7 +114,7 @@ const NORMAL: &[u8] = b"normal";
 fn contact_of(word: &[u8]) -> Contact
     ensures { result ≡ contact_of word.now }
 {
-    if word == CLOSED {
+    if word == NORMALLY_CLOSED {
         return Contact::NormallyClosed;
     }
     Contact::NormallyOpen
@@ -136,11 +140,11 @@ pub fn as_switch(entry: &Entry) -> Switch<'_>
 {
     Switch {
         name: &entry.name,
-        contact: contact_of(word(entry, TYPE)),
-        debounce: debounce_of(word(entry, DEBOUNCE)),
-        tags: names(entry, TAGS),
-        activated: posts_at(entry, ACTIVATED),
-        deactivated: posts_at(entry, DEACTIVATED),
+        contact: contact_of(word_at(entry, TYPE)),
+        debounce: debounce_of(word_at(entry, DEBOUNCE)),
+        tags: names_at(entry, TAGS),
+        activation_events: posts_at(entry, ACTIVATION_EVENTS),
+        deactivation_events: posts_at(entry, DEACTIVATION_EVENTS),
         order: entry.order(),
     }
 }
@@ -153,7 +157,7 @@ pub fn as_event_player(player: &Player) -> EventPlayer<'_>
     ensures { IsEventPlayerOf player.now result }
 {
     EventPlayer {
-        event: handled(&player.event),
+        event: handled_event(&player.event),
         posts: posts(&player.value),
     }
 }
@@ -196,8 +200,8 @@ pub fn as_mode_settings(entry: &Entry) -> ModeSettings<'_>
     ensures { AreModeSettingsOf entry.now result }
 {
     ModeSettings {
-        starts: handlers(entry, START_EVENTS),
-        stops: handlers(entry, STOP_EVENTS),
+        starts: handlers_at(entry, START_EVENTS),
+        stops: handlers_at(entry, STOP_EVENTS),
         priority: natural(entry, PRIORITY),
         game: flag(entry, GAME_MODE),
         stops_with_ball: flag(entry, STOP_ON_BALL_END),

@@ -2,21 +2,25 @@
 
 ghost use Rattle.std.specs.Prelude.{◌≡◌, ◌&&◌, nat_le, pos, negsuc};
 ghost use Rattle.setting_values.specs.ValueOf.{within};
-ghost use Rattle.mpf_sections.specs.Typed.{word_of, flag_of, natural_of, number_of, direction_of, limit_of, time_of, word_in, number_in};
+ghost use Rattle.mpf_sections.specs.Typed.{word_of, flag_of, natural_of, number_of, direction_of, limit_of, time_of};
+ghost use Rattle.mpf_sections.specs.Typed.{word_in, number_in};
 ghost use Rattle.mpf_sections.specs.TypedGame.{change_in};
-ghost use Rattle.mpf_sections.specs.Inside.{value_at, IsTextAt, AreNamesAt, AreFewNamesAt, AreEventsAt, ArePostsOf, ArePostsAt, AreStepsAt, AreMapsAt, AreKeyedOf, field_at, IsFieldAt, IsAlways, IsHandledIn, IsEventIn, IsNameIn, IsNameOr, pulse_of_text, power_of_text};
+ghost use Rattle.mpf_sections.specs.EntryReading.{value_at, IsTextAt, AreNamesAt, AreFewNamesAt, AreEventsAt};
+ghost use Rattle.mpf_sections.specs.EntryReading.{ArePostsOf, ArePostsAt, AreStepsAt, AreMapsAt, AreKeyedOf, field_at};
+ghost use Rattle.mpf_sections.specs.EntryReading.{IsFieldAt, IsAlways, IsHandledIn, IsEventIn, IsNameIn, IsNameOr};
+ghost use Rattle.mpf_sections.specs.EntryReading.{pulse_of_text, power_of_text};
 
 use crate::typed::{HandledAt, NameAt, as_handled};
 use machine_settings::Direction;
 use section_tables::rows::Entry;
-use setting_values::values::{Fields, Handler, Keyed, Name, Plain, Value};
+use setting_values::values::{Fields, Handler, KeyedValues, Name, Plain, Value};
 
 // ---- values of settings
 
 const DOWN: &[u8] = b"down";
 
 /// The names at a place of an entry; none if there is no list of names.
-pub fn names(entry: &Entry, at: usize) -> &[Name]
+pub fn names_at(entry: &Entry, at: usize) -> &[Name]
     ensures { AreNamesAt entry.now at result.now }
 {
     match entry.value(at) {
@@ -30,12 +34,12 @@ pub fn names(entry: &Entry, at: usize) -> &[Name]
 pub fn few_names(entry: &Entry, at: usize) -> &[Name]
     ensures { AreFewNamesAt entry.now at result.now }
 {
-    let names = names(entry, at);
+    let names = names_at(entry, at);
     if names.len() <= 16 { names } else { &[] }
 }
 
 /// The handled events at a place of an entry; none if there is no list of them.
-pub fn handlers(entry: &Entry, at: usize) -> &[Handler]
+pub fn handlers_at(entry: &Entry, at: usize) -> &[Handler]
     ensures { AreEventsAt entry.now at result.now }
 {
     match entry.value(at) {
@@ -65,7 +69,7 @@ pub fn posts_at(entry: &Entry, at: usize) -> &[Name]
 }
 
 /// The word at a place of an entry; the empty one if there is none.
-pub fn word(entry: &Entry, at: usize) -> &'static [u8]
+pub fn word_at(entry: &Entry, at: usize) -> &'static [u8]
     ensures { result.now ≡ word_of (value_at entry.now at) }
 {
     match entry.value(at) {
@@ -102,7 +106,7 @@ fn is_limit(n: i64) -> bool
 }
 
 /// The whole number at a place of an entry; 0 if there is none.
-pub fn number(entry: &Entry, at: usize) -> i64
+pub fn integer_at(entry: &Entry, at: usize) -> i64
     ensures { result ≡ number_of (value_at entry.now at) }
 {
     match entry.value(at) {
@@ -125,7 +129,7 @@ pub fn limit(entry: &Entry, at: usize) -> Option<i64>
 pub fn direction(entry: &Entry, at: usize) -> Direction
     ensures { result ≡ direction_of (word_of (value_at entry.now at)) }
 {
-    if word(entry, at) == DOWN {
+    if word_at(entry, at) == DOWN {
         return Direction::Down;
     }
     Direction::Up
@@ -152,7 +156,7 @@ pub fn steps(entry: &Entry, at: usize) -> &[Vec<Handler>]
 }
 
 /// The maps at a place of an entry; none if there is no list of them.
-pub fn maps(entry: &Entry, at: usize) -> &[Fields]
+pub fn maps_at(entry: &Entry, at: usize) -> &[Fields]
     ensures { AreMapsAt entry.now at result.now }
 {
     match entry.value(at) {
@@ -162,7 +166,7 @@ pub fn maps(entry: &Entry, at: usize) -> &[Fields]
 }
 
 /// The names that a value has, with what belongs to each; none if it is no map of names.
-pub fn keyed(value: &Value) -> &[Keyed]
+pub fn keyed_values(value: &Value) -> &[KeyedValues]
     ensures { AreKeyedOf value.now result.now }
 {
     match value {
@@ -196,7 +200,7 @@ fn always(name: NameAt<'_>) -> HandledAt<'_>
 
 /// The handled event that a text is. A name is one that is handled always; what is neither has line
 /// 0 and no name.
-pub fn handled(event: &Plain) -> HandledAt<'_>
+pub fn handled_event(event: &Plain) -> HandledAt<'_>
     ensures { IsHandledIn event.now result }
 {
     match event {
@@ -211,7 +215,7 @@ pub fn handled(event: &Plain) -> HandledAt<'_>
 }
 
 /// The handled event that a text is, if it is written as one.
-pub fn event(text: Option<&Plain>) -> Option<HandledAt<'_>>
+pub fn event_in(text: Option<&Plain>) -> Option<HandledAt<'_>>
     ensures { IsEventIn text.entry result }
 {
     match text {
@@ -221,7 +225,7 @@ pub fn event(text: Option<&Plain>) -> Option<HandledAt<'_>>
 }
 
 /// The name that a text is, where it is written; none if it is no name.
-pub fn name(text: Option<&Plain>) -> Option<NameAt<'_>>
+pub fn name_in(text: Option<&Plain>) -> Option<NameAt<'_>>
     ensures { IsNameIn text.entry result }
 {
     match text {
@@ -238,7 +242,7 @@ pub fn name(text: Option<&Plain>) -> Option<NameAt<'_>>
 pub fn name_or<'a>(text: Option<&'a Plain>, otherwise: &'static [u8]) -> NameAt<'a>
     ensures { IsNameOr otherwise.now text.entry result }
 {
-    match name(text) {
+    match name_in(text) {
         Some(written) => written,
         None => NameAt {
             line: 0,
@@ -265,7 +269,7 @@ pub fn pulse(text: Option<&Plain>) -> Option<u32>
 }
 
 /// A power in thousandths, up to 1,000; none if none is written.
-pub fn power(text: Option<&Plain>) -> Option<u16>
+pub fn power_in(text: Option<&Plain>) -> Option<u16>
     ensures { result ≡ power_of_text text.entry }
 {
     match text {

@@ -1,163 +1,110 @@
--- What holds of the shape of each section: a term for each, in the order of `machine_shapes` and `mode_shapes`.
-use Rattle.std.proofs.Common.{rules, ◌≡◌, ℕ, ◌≤◌, Bool, cond, List, [], ◌∷◌, Option, Some, None, refl}
-use Rattle.std.{specs.{List.AllByRecursion, Str.bytes_eq}, proofs.lemmas.Option.{same_Some, none-some}}
-use Rattle.mpf_tables.specs.{declared.tables.TextKind.{TextKind, TheVariants.{Machine, Mode}}, TableRules.IsRight}
+-- What holds of the shape of each section. It is right, by computation; so what it has by default is named and short.
+use Rattle.std.proofs.Common.{rules, ◌≡◌, ℕ, ◌≤◌, Bool, true, ◌&&◌, cond, List, [], ◌∷◌, Option, Some, refl}
+use Rattle.std.specs.{List.{AllByRecursion, list_all}, Str.bytes_eq}
+use Rattle.std.proofs.lemmas.{Option.{same_Some, none-some}, Bool.and_parts}
+use Rattle.mpf_tables.specs.declared.tables.TextKind.{TextKind, TheVariants.{Machine, Mode}}
+use Rattle.mpf_tables.specs.SectionTables.{named_in, shape_of, default_profile, playfield, save_shapes, shot_shapes}
+use Rattle.mpf_tables.specs.SectionTables.{shared_shapes, mode_shapes}
+use Rattle.mpf_tables.specs.TableRules.{IsRight, has_fields, is_named_handled, is_plain_of, is_value_of}
+use Rattle.mpf_tables.specs.TableRules.{is_plain_default, is_value_default}
 use Rattle.mpf_values.{specs.Names.IsName, proofs.NameTexts.IsName-from_is_name}
-use Rattle.setting_values.{specs.Values.{Handled, handled_at}, proofs.ValueNames.{no_items, few_items}}
-use Rattle.section_tables.specs.Shapes.{Shape}
-use Rattle.section_tables.specs.Named.{IsNamedKinds, IsNamedTable, IsNamedShape, IsShortTable, IsShortShape}
-use Rattle.mpf_tables.specs.SectionTables.{switches, coils, rule_events, playfield, ball_devices, ball_saves, multiballs, save_shapes, block, counters, step_blocks, timers, default_profile, shots, shot_groups, shot_profiles, shot_shapes, mode, event_player, coil_player, variable_player, shared_shapes, mode_shapes, named_in, shape_of}
+use Rattle.setting_values.specs.{Values.{HandledEvent, Plain, Value}, Kinds.{Scalar, Absent, Field, Kind}}
+use Rattle.setting_values.specs.{KeyRules.plain_default, NamedValues.IsShortValue}
+use Rattle.setting_values.specs.NamedValues.{IsNamedHandled, IsNamedPlain, IsNamedValue, AreNamedFields, IsNamedKind}
+use Rattle.setting_values.proofs.ValueNames.{no_items, few_items}
+use Rattle.section_tables.specs.{Shapes.{Setting, Shape}, Tables.value_default}
+use Rattle.section_tables.specs.Named.{IsNamedTable, IsNamedShape, IsShortTable, IsShortShape}
 use Rattle.yaml_bytes.proofs.Words.{word_is}
 
 -- ---- what holds of all that have a name
 
 module _ {A : Type 0} (P : List ℕ → A → Type 0) (section : List ℕ) (x : A) where
-  at_name : (name : List ℕ) (y : A) (rest : Option A) (b : Bool) → bytes_eq section name ≡ b → cond b (Some y) rest ≡ Some x → P name y → (rest ≡ Some x → P section x) → P section x
+  at_name : (name : List ℕ) (y : A) (rest : Option A) (b : Bool) → bytes_eq section name ≡ b
+      → cond b (Some y) rest ≡ Some x → P name y → (rest ≡ Some x → P section x) → P section x
   at_name name y rest x4 e is p so = search (rules, same_Some, word_is)
 
   holds_at : (ts : List (List ℕ × A)) → named_in section ts ≡ Some x → AllByRecursion (λ t. P t.0 t.1) ts → P section x
   holds_at [] is all = absurd (none-some x is)
-  holds_at (t ∷ ts) is all = at_name t.0 t.1 (named_in section ts) (bytes_eq section t.0) refl is all.0 (λ later. holds_at ts later all.1)
+  holds_at (t ∷ ts) is all = at_name t.0 t.1 (named_in section ts) (bytes_eq section t.0) refl is all.0
+      (λ later. holds_at ts later all.1)
 
--- ---- `switches`
-
-switches_named : IsNamedTable switches
-switches_named = ((tt, tt), ((tt, tt), ((tt, tt), ((tt, tt), ((tt, tt), tt)))))
-
-switches_short : (longest : ℕ) → IsShortTable longest switches
-switches_short longest = let none = no_items longest in (none, (none, (none, (none, (none, tt)))))
-
--- ---- `coils`
-
-coils_named : IsNamedTable coils
-coils_named = ((tt, tt), ((tt, tt), ((tt, tt), ((tt, tt), ((tt, tt), ((tt, tt), ((tt, tt), tt)))))))
-
--- ---- `flippers` and `autofire_coils`
-
-abbrev default_event : List ℕ → Handled
-default_event name = handled_at 0 (record { name = name; condition = None })
-
-rule_events_named : IsNamedTable rule_events
-rule_events_named = search (rules, IsName-from_is_name)
-
-rule_events_short : (longest : ℕ) → 1 ≤ longest → IsShortTable longest rule_events
-rule_events_short longest one = let first = few_items longest one in (first, (first, tt))
-
--- ---- `counters`, `accruals` and `sequences`
-
-block_named : IsNamedTable block
-block_named = ((tt, tt), ((tt, tt), ((tt, tt), ((tt, tt), ((tt, tt), ((tt, tt), ((tt, tt), ((tt, tt), ((tt, tt), tt)))))))))
-
-block_short : (longest : ℕ) → IsShortTable longest block
-block_short longest = let none = no_items longest in (none, (none, (none, (none, (none, (none, (none, (none, (none, tt)))))))))
-
-counters_named : IsNamedTable counters
-counters_named = ((tt, tt), ((tt, tt), ((tt, tt), ((tt, tt), ((tt, tt), ((tt, tt), block_named))))))
-
-counters_short : (longest : ℕ) → IsShortTable longest counters
-counters_short longest = let none = no_items longest in (none, (none, (none, (none, (none, (none, block_short longest))))))
-
-step_blocks_named : IsNamedTable step_blocks
-step_blocks_named = ((tt, tt), block_named)
-
-step_blocks_short : (longest : ℕ) → IsShortTable longest step_blocks
-step_blocks_short longest = (no_items longest, block_short longest)
-
--- ---- `timers`
-
-timers_named : IsNamedTable timers
-timers_named = ((tt, tt), ((tt, tt), ((tt, tt), ((tt, tt), ((tt, tt), ((tt, tt), ((tt, (tt, (tt, (tt, tt)))), tt)))))))
-
--- ---- `shots`, `shot_groups` and `shot_profiles`
+-- ---- names that are there by default
 
 pub default_profile_named : IsName default_profile
 default_profile_named = IsName-from_is_name default_profile refl
 
-shots_named : IsNamedTable shots
-shots_named = ((tt, tt), ((tt, tt), ((default_profile_named, tt), ((tt, tt), ((tt, tt), ((tt, tt), ((tt, tt), tt)))))))
-
-shots_short : (longest : ℕ) → IsShortTable longest shots
-shots_short longest = let none = no_items longest in (none, (none, (none, (none, (none, (none, (none, tt)))))))
-
-shot_groups_named : IsNamedTable shot_groups
-shot_groups_named = ((tt, tt), ((tt, tt), ((tt, tt), ((tt, tt), ((tt, tt), tt)))))
-
-shot_groups_short : (longest : ℕ) → IsShortTable longest shot_groups
-shot_groups_short longest = let none = no_items longest in (none, (none, (none, (none, (none, tt)))))
-
-shot_profiles_named : IsNamedTable shot_profiles
-shot_profiles_named = ((tt, (tt, tt)), ((tt, tt), ((tt, tt), tt)))
-
-shot_profiles_short : (longest : ℕ) → IsShortTable longest shot_profiles
-shot_profiles_short longest = let none = no_items longest in (none, (none, (none, tt)))
-
--- ---- `ball_devices`
-
 pub playfield_named : IsName playfield
 playfield_named = IsName-from_is_name playfield refl
 
-ball_devices_named : IsNamedTable ball_devices
-ball_devices_named = ((tt, tt), ((tt, tt), ((playfield_named, tt), ((tt, tt), ((tt, tt), ((tt, tt), ((tt, tt), ((tt, tt), ((tt, tt), tt)))))))))
+-- ---- what is right by default is named
 
-ball_devices_short : (longest : ℕ) → IsShortTable longest ball_devices
-ball_devices_short longest = let none = no_items longest in (none, (none, (none, (none, (none, (none, (none, (none, (none, tt)))))))))
+named_handled : (h : HandledEvent) → is_named_handled h ≡ true → IsNamedHandled h
+named_handled h is = search (rules, and_parts, IsName-from_is_name)
 
--- ---- `ball_saves` and `multiballs`
+named_plain : (kind : Scalar) (x : Plain) → is_plain_of kind x ≡ true → IsNamedPlain x
+named_plain kind x is = search (rules, named_handled, IsName-from_is_name)
 
-ball_saves_named : IsNamedTable ball_saves
-ball_saves_named = ((tt, tt), ((tt, tt), ((tt, tt), ((tt, tt), tt))))
+named_value : (kind : Kind) (v : Value) → is_value_of kind v ≡ true → IsNamedValue v
+named_value kind v is = search (rules, and_parts, named_plain, named_handled, IsName-from_is_name)
 
-ball_saves_short : (longest : ℕ) → IsShortTable longest ball_saves
-ball_saves_short longest = let none = no_items longest in (none, (none, (none, (none, tt))))
+named_field : (kind : Scalar) (absent : Absent Plain) → is_plain_default kind absent ≡ true
+    → IsNamedPlain (plain_default absent)
+named_field kind absent is = search (rules, named_plain)
 
-multiballs_named : IsNamedTable multiballs
-multiballs_named = ((tt, tt), ((tt, tt), tt))
+named_fields : (table : List Field) → list_all (λ f. is_plain_default f.kind f.absent) table ≡ true
+    → AreNamedFields table
+named_fields [] is = tt
+named_fields (f ∷ fs) is =
+    let both = and_parts (is_plain_default f.kind f.absent) (list_all (λ g. is_plain_default g.kind g.absent) fs) is in
+    (named_field f.kind f.absent both.0, named_fields fs both.1)
 
-multiballs_short : (longest : ℕ) → IsShortTable longest multiballs
-multiballs_short longest = let none = no_items longest in (none, (none, tt))
+named_kind : (kind : Kind) → has_fields kind ≡ true → IsNamedKind kind
+named_kind kind is = search (rules, and_parts, named_fields)
 
--- ---- `mode`
+named_default : (kind : Kind) (absent : Absent Value) → is_value_default kind absent ≡ true
+    → IsNamedValue (value_default absent)
+named_default kind absent is = search (rules, named_value)
 
-mode_named : IsNamedTable mode
-mode_named = ((tt, tt), ((tt, tt), ((tt, tt), ((tt, tt), ((tt, tt), ((tt, tt), tt))))))
+abbrev is_setting : Setting → Bool
+is_setting s = is_value_default s.kind s.absent && has_fields s.kind
 
-mode_short : (longest : ℕ) → IsShortTable longest mode
-mode_short longest = let none = no_items longest in (none, (none, (none, (none, (none, (none, tt))))))
+named_settings : (table : List Setting) → list_all is_setting table ≡ true → IsNamedTable table
+named_settings [] is = tt
+named_settings (s ∷ ss) is =
+    let both = and_parts (is_setting s) (list_all is_setting ss) is in
+    let here = and_parts (is_value_default s.kind s.absent) (has_fields s.kind) both.0 in
+    ((named_default s.kind s.absent here.0, named_kind s.kind here.1), named_settings ss both.1)
 
--- ---- `event_player`
+named_shape : (shape : Shape) → IsRight shape → IsNamedShape shape
+named_shape shape is = search (rules, and_parts, named_settings, named_kind)
 
-player_named : IsNamedKinds event_player
-player_named = record { key = tt; value = tt }
+-- ---- no list by default is long
 
--- ---- `coil_player`
+module _ (longest : ℕ) (one : 1 ≤ longest) where
+  short_value : (kind : Kind) (v : Value) → is_value_of kind v ≡ true → IsShortValue longest v
+  short_value kind v is = search (rules, no_items, few_items)
 
-coil_player_named : IsNamedKinds coil_player
-coil_player_named = record { key = tt; value = (tt, (tt, (tt, (tt, tt)))) }
+  short_default : (kind : Kind) (absent : Absent Value) → is_value_default kind absent ≡ true
+      → IsShortValue longest (value_default absent)
+  short_default kind absent is = search (rules, no_items, short_value)
 
--- ---- `variable_player`
+  short_settings : (table : List Setting) → list_all is_setting table ≡ true → IsShortTable longest table
+  short_settings [] is = tt
+  short_settings (s ∷ ss) is =
+      let both = and_parts (is_setting s) (list_all is_setting ss) is in
+      let here = and_parts (is_value_default s.kind s.absent) (has_fields s.kind) both.0 in
+      (short_default s.kind s.absent here.0, short_settings ss both.1)
 
-variable_player_named : IsNamedKinds variable_player
-variable_player_named = record { key = tt; value = (tt, (tt, tt)) }
+  short_shape : (shape : Shape) → IsRight shape → IsShortShape longest shape
+  short_shape shape is = search (rules, and_parts, short_settings)
 
 -- ---- the shapes of sections
 
 abbrev AllShapes : (Shape → Type 0) → List (List ℕ × Shape) → Type 0
 AllShapes P = AllByRecursion (λ t. P t.1)
 
-save_named : AllShapes IsNamedShape save_shapes
-save_named = (ball_saves_named, (multiballs_named, tt))
-
-save_short : (longest : ℕ) → AllShapes (IsShortShape longest) save_shapes
-save_short longest = (ball_saves_short longest, (multiballs_short longest, tt))
-
 save_right : AllShapes IsRight save_shapes
 save_right = (refl, (refl, tt))
-
-shot_named : AllShapes IsNamedShape shot_shapes
-shot_named = (shots_named, (shot_groups_named, (shot_profiles_named, save_named)))
-
-shot_short : (longest : ℕ) → AllShapes (IsShortShape longest) shot_shapes
-shot_short longest = (shots_short longest, (shot_groups_short longest, (shot_profiles_short longest, save_short longest)))
 
 shot_right : AllShapes IsRight shot_shapes
 shot_right = (refl, (refl, (refl, save_right)))
@@ -165,12 +112,16 @@ shot_right = (refl, (refl, (refl, save_right)))
 shared_right : AllShapes IsRight shared_shapes
 shared_right = (refl, (refl, (refl, (refl, (refl, (refl, shot_right))))))
 
-pub shape_named : (text : TextKind) (section : List ℕ) (shape : Shape) → shape_of text section ≡ Some shape → IsNamedShape shape
-shape_named x1 section shape is = search (rules, holds_at, switches_named, coils_named, rule_events_named, ball_devices_named, player_named, variable_player_named, coil_player_named, counters_named, step_blocks_named, shot_named, mode_named, timers_named)
-
-pub shape_short : (longest : ℕ) → 1 ≤ longest → (text : TextKind) (section : List ℕ) (shape : Shape) → shape_of text section ≡ Some shape → IsShortShape longest shape
-shape_short longest one x3 section shape is = search (rules, holds_at, no_items, switches_short, rule_events_short, ball_devices_short, counters_short, step_blocks_short, shot_short, mode_short)
-
-pub shape_right : (text : TextKind) (section : List ℕ) (shape : Shape) → shape_of text section ≡ Some shape → IsRight shape
+pub shape_right : (text : TextKind) (section : List ℕ) (shape : Shape) → shape_of text section ≡ Some shape
+    → IsRight shape
 shape_right Machine section shape is = search (rules, holds_at, shared_right)
-shape_right Mode section shape is = holds_at (λ name s. IsRight s) section shape mode_shapes is (refl, (refl, shared_right))
+shape_right Mode section shape is = holds_at (λ name s. IsRight s) section shape mode_shapes is
+    (refl, (refl, shared_right))
+
+pub shape_named : (text : TextKind) (section : List ℕ) (shape : Shape) → shape_of text section ≡ Some shape
+    → IsNamedShape shape
+shape_named text section shape is = named_shape shape (shape_right text section shape is)
+
+pub shape_short : (longest : ℕ) → 1 ≤ longest → (text : TextKind) (section : List ℕ) (shape : Shape)
+    → shape_of text section ≡ Some shape → IsShortShape longest shape
+shape_short longest one text section shape is = short_shape longest one shape (shape_right text section shape is)

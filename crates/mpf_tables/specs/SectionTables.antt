@@ -4,7 +4,9 @@ use Rattle.std.specs.Str.{bytes_eq}
 use Rattle.setting_values.specs.Values.{nothing, flag, number, time, power, word, name, one, names, posts, events, maps}
 use Rattle.setting_values.specs.Values.{written_at, handled_at}
 use Rattle.mpf_tables.specs.declared.tables.TextKind.{TextKind, TheVariants.{Machine, Mode}}
-use Rattle.setting_values.specs.Kinds.{Scalar, a_flag, number_within, time_within, a_power, one_of, a_name, an_event, at_least, between, Absent, required, default, KeyRule, Field, single, name_list, post_list, event_list, step_list, map_list, named_maps, keyed_maps}
+use Rattle.setting_values.specs.Kinds.{Scalar, a_flag, number_within, time_within, a_power, one_of, a_name, an_event}
+use Rattle.setting_values.specs.Kinds.{at_least, between, Absent, mandatory, default, KeyRule, Field, single, name_list}
+use Rattle.setting_values.specs.Kinds.{post_list, event_list, step_list, map_list, named_maps, keyed_maps}
 use Rattle.section_tables.specs.Shapes.{Setting, PlayerKinds, Shape, by_entries, by_players, by_entry, by_names}
 
 abbrev row : {K V : Type 0} → List ℕ → K → Absent V → KeyRule K V
@@ -81,11 +83,12 @@ coils =
 
 -- a name that has to be written
 abbrev needed_name : List ℕ → Setting
-needed_name key = row key (single a_name) required
+needed_name key = row key (single a_name) mandatory
 
 -- handled events, this one by default, without a condition
 abbrev handling_else : List ℕ → List ℕ → Setting
-handling_else key first = row key (event_list (at_least 0)) (default (events (handled_at 0 (record { name = first; condition = None }) ∷ [])))
+handling_else key first = row key (event_list (at_least 0))
+    (default (events (handled_at 0 (record { name = first; condition = None }) ∷ [])))
 
 -- the events that enable and disable a coil rule: by default when a ball starts, and when it ends
 abbrev pub rule_events : List Setting
@@ -132,7 +135,7 @@ block =
 
 abbrev pub counters : List Setting
 counters =
-    row (codes "count_events") (event_list (at_least 0)) required
+    row (codes "count_events") (event_list (at_least 0)) mandatory
     ∷ from_zero (codes "starting_count")
     ∷ row (codes "count_interval") (single (number_within (pos 1) (pos 1000000))) (default (one (number (pos 1))))
     ∷ optional (codes "count_complete_value") any_number
@@ -142,13 +145,14 @@ counters =
 
 -- the settings of accruals, and of sequences: 16 steps at most
 abbrev pub step_blocks : List Setting
-step_blocks = row (codes "events") (step_list (between 0 16)) required ∷ block
+step_blocks = row (codes "events") (step_list (between 0 16)) mandatory ∷ block
 
 -- an event that controls a timer
 abbrev pub control_events : List Field
 control_events =
-    row (codes "event") an_event required
-    ∷ row (codes "action") (one_of (codes "start" ∷ codes "stop" ∷ codes "pause" ∷ codes "reset" ∷ codes "restart" ∷ codes "add" ∷ codes "subtract" ∷ codes "jump" ∷ [])) required
+    row (codes "event") an_event mandatory
+    ∷ row (codes "action") (one_of (codes "start" ∷ codes "stop" ∷ codes "pause" ∷ codes "reset" ∷ codes "restart"
+    ∷ codes "add" ∷ codes "subtract" ∷ codes "jump" ∷ [])) mandatory
     ∷ row (codes "value") any_number (default (number (pos 0)))
     ∷ []
 
@@ -185,7 +189,7 @@ shots =
 -- 1 to 16 shots
 abbrev pub shot_groups : List Setting
 shot_groups =
-    row (codes "shots") (name_list (between 1 16)) required
+    row (codes "shots") (name_list (between 1 16)) mandatory
     ∷ handling (codes "rotate_events")
     ∷ handling (codes "rotate_right_events")
     ∷ handling (codes "rotate_left_events")
@@ -194,12 +198,12 @@ shot_groups =
 
 -- a state of a profile
 abbrev pub profile_state : List Field
-profile_state = row (codes "name") a_name required ∷ []
+profile_state = row (codes "name") a_name mandatory ∷ []
 
 -- 1 to 16 states, of which each has a name of its own
 abbrev pub shot_profiles : List Setting
 shot_profiles =
-    row (codes "states") (named_maps profile_state true (between 1 16)) required
+    row (codes "states") (named_maps profile_state true (between 1 16)) mandatory
     ∷ yes (codes "advance_on_hit")
     ∷ no (codes "loop")
     ∷ []
@@ -215,7 +219,7 @@ coil_action = one_of (codes "pulse" ∷ codes "enable" ∷ codes "disable" ∷ [
 -- what belongs to a coil in an entry of `coil_player`
 abbrev pub coil_item : List Field
 coil_item =
-    row (codes "action") coil_action required
+    row (codes "action") coil_action mandatory
     ∷ row (codes "pulse_ms") a_pulse (default nothing)
     ∷ row (codes "pulse_power") a_power (default nothing)
     ∷ row (codes "hold_power") a_power (default nothing)
@@ -228,7 +232,7 @@ coil_player = record { key = an_event; value = keyed_maps coil_item 0 coil_actio
 -- what belongs to a variable in an entry of `variable_player`
 abbrev pub variable_item : List Field
 variable_item =
-    row (codes "int") any_number required
+    row (codes "int") any_number mandatory
     ∷ row (codes "action") (one_of (codes "add" ∷ codes "set" ∷ [])) (default (word (codes "add")))
     ∷ []
 
@@ -238,7 +242,8 @@ variable_player = record { key = an_event; value = keyed_maps variable_item 0 an
 
 -- a whole number in this range, this one by default
 abbrev whole : List ℕ → ℕ → ℕ → ℕ → Setting
-whole key least greatest otherwise = row key (single (number_within (pos least) (pos greatest))) (default (one (number (pos otherwise))))
+whole key least greatest otherwise = row key (single (number_within (pos least) (pos greatest)))
+    (default (one (number (pos otherwise))))
 
 -- the name of the playfield: balls are ejected to it if nothing else is said, so no device has it
 abbrev pub playfield : List ℕ
@@ -247,7 +252,7 @@ playfield = codes "playfield"
 -- at most 16 ball switches; without a limit on attempts, there are 0
 abbrev pub ball_devices : List Setting
 ball_devices =
-    row (codes "ball_switches") (name_list (between 0 16)) required
+    row (codes "ball_switches") (name_list (between 0 16)) mandatory
     ∷ optional (codes "eject_coil") a_name
     ∷ row (codes "eject_targets") (single a_name) (default (one (name (written_at 0 playfield))))
     ∷ some_time (codes "eject_timeouts") 10000
@@ -273,7 +278,8 @@ ball_saves =
 
 -- 2 to 99 balls
 abbrev pub multiballs : List Setting
-multiballs = row (codes "ball_count") (single (number_within (pos 2) (pos 99))) required ∷ handling (codes "start_events") ∷ []
+multiballs = row (codes "ball_count") (single (number_within (pos 2) (pos 99))) mandatory
+    ∷ handling (codes "start_events") ∷ []
 
 -- what holds of the whole machine
 abbrev pub machine : List Setting

@@ -5,12 +5,13 @@ ghost use Rattle.std.specs.Prelude.{◌≡◌, ℕ, List, Some};
 ghost use Rattle.mpf_tables.specs.declared.tables.TextKind.{TextKind as Text};
 ghost use Rattle.mpf_tables.specs.declared.tables.TextKind.TheVariants.{Machine, Mode};
 ghost use Rattle.section_tables.specs.Shapes.{Shape as SectionShape};
-ghost use Rattle.mpf_tables.specs.SectionTables.{save_shapes, shot_shapes, block_shapes, shared_shapes, device_shapes, named_in, shape_of};
+ghost use Rattle.mpf_tables.specs.SectionTables.{save_shapes, shot_shapes, block_shapes, shared_shapes, device_shapes};
+ghost use Rattle.mpf_tables.specs.SectionTables.{named_in, shape_of};
 ghost use Rattle.mpf_tables.specs.TableRules.{IsRight};
 ghost use Rattle.setting_values.specs.Reading.{give};
 ghost use Rattle.section_tables.specs.TableView.{shape_view};
 
-use section_tables::table::{Barred, PlayerKinds, Setting, Shape, Without};
+use section_tables::table::{BarredNames, PlayerKinds, Setting, Shape, Without};
 use setting_values::kinds::{Absent, Bounds, Field, Kind, Others, Scalar};
 
 macro_rules! setting {
@@ -69,7 +70,7 @@ const ZERO: Without = Without::One(Absent::Number(0));
 
 const NOTHING: Without = Without::One(Absent::Nothing);
 
-const REQUIRED: Without = Without::One(Absent::Required);
+const REQUIRED_VALUE: Without = Without::One(Absent::Required);
 
 const NAME: Kind = Kind::One(Scalar::Name);
 
@@ -140,24 +141,24 @@ const RULE_DISABLES: Setting = setting!(
 
 /// `flippers`.
 pub const FLIPPERS: &[Setting] = &[
-    setting!(b"main_coil", NAME, REQUIRED),
+    setting!(b"main_coil", NAME, REQUIRED_VALUE),
     setting!(b"hold_coil", NAME, NOTHING),
-    setting!(b"activation_switch", NAME, REQUIRED),
+    setting!(b"activation_switch", NAME, REQUIRED_VALUE),
     RULE_ENABLES,
     RULE_DISABLES,
 ];
 
 /// `autofire_coils`.
 pub const AUTOFIRE_COILS: &[Setting] = &[
-    setting!(b"coil", NAME, REQUIRED),
-    setting!(b"switch", NAME, REQUIRED),
+    setting!(b"coil", NAME, REQUIRED_VALUE),
+    setting!(b"switch", NAME, REQUIRED_VALUE),
     RULE_ENABLES,
     RULE_DISABLES,
 ];
 
 /// `counters`.
 pub const COUNTERS: &[Setting] = block_settings!(
-    setting!(b"count_events", EVENTS, REQUIRED),
+    setting!(b"count_events", EVENTS, REQUIRED_VALUE),
     setting!(b"starting_count", NUMBER, ZERO),
     setting!(
         b"count_interval",
@@ -173,7 +174,7 @@ pub const COUNTERS: &[Setting] = block_settings!(
 pub const STEP_BLOCKS: &[Setting] = block_settings!(setting!(
     b"events",
     Kind::Steps(Bounds::Between(0, 16)),
-    REQUIRED
+    REQUIRED_VALUE
 ));
 
 /// The maps of `control_events`.
@@ -238,7 +239,7 @@ const SOME: Bounds = Bounds::Between(1, 16);
 
 /// `shot_groups`.
 pub const SHOT_GROUPS: &[Setting] = &[
-    setting!(b"shots", Kind::Names(SOME), REQUIRED),
+    setting!(b"shots", Kind::Names(SOME), REQUIRED_VALUE),
     setting!(b"rotate_events", EVENTS, Without::NoEvents),
     setting!(b"rotate_right_events", EVENTS, Without::NoEvents),
     setting!(b"rotate_left_events", EVENTS, Without::NoEvents),
@@ -253,7 +254,7 @@ pub const SHOT_PROFILES: &[Setting] = &[
     setting!(
         b"states",
         Kind::NamedMaps(PROFILE_STATE, Others::Ignored, SOME),
-        REQUIRED
+        REQUIRED_VALUE
     ),
     setting!(b"advance_on_hit", FLAG, YES),
     setting!(b"loop", FLAG, NO),
@@ -268,7 +269,7 @@ pub const BALL_DEVICES: &[Setting] = &[
     setting!(
         b"ball_switches",
         Kind::Names(Bounds::Between(0, 16)),
-        REQUIRED
+        REQUIRED_VALUE
     ),
     setting!(b"eject_coil", NAME, NOTHING),
     setting!(
@@ -314,7 +315,11 @@ pub const BALL_SAVES: &[Setting] = &[
 
 /// `multiballs`: how many balls are to be in play.
 pub const MULTIBALLS: &[Setting] = &[
-    setting!(b"ball_count", Kind::One(Scalar::Number(2, 99)), REQUIRED),
+    setting!(
+        b"ball_count",
+        Kind::One(Scalar::Number(2, 99)),
+        REQUIRED_VALUE
+    ),
     setting!(b"start_events", EVENTS, Without::NoEvents),
 ];
 
@@ -450,16 +455,16 @@ pub const BALL_SAVES_NAME: &[u8] = b"ball_saves";
 pub const MULTIBALLS_NAME: &[u8] = b"multiballs";
 
 /// The name that no device has.
-const NOT_A_DEVICE: Barred = Barred {
+const NOT_A_DEVICE: BarredNames = BarredNames {
     names: &[PLAYFIELD],
 };
 
 /// The name that no entry of [`SHOT_PROFILES`] has.
-const NOT_DEFAULT: Barred = Barred {
+const NOT_DEFAULT: BarredNames = BarredNames {
     names: &[DEFAULT_PROFILE],
 };
 
-const ANY_NAME: Barred = Barred { names: &[] };
+const ANY_NAME: BarredNames = BarredNames { names: &[] };
 
 /// The name of the section that lists the modes.
 pub const MODES_NAME: &[u8] = b"modes";
@@ -611,5 +616,6 @@ pub fn shape_of(text: TextKind, section: &[u8]) -> Option<Shape>
 ///
 /// It does nothing: its contract is the law, over the sections of all texts.
 pub fn tables_are_right()
-    ensures { (text : Text) (section : List ℕ) (shape : SectionShape) → shape_of text section ≡ Some shape → IsRight shape }
+    ensures { (text : Text) (section : List ℕ) (shape : SectionShape) → shape_of text section ≡ Some shape
+        → IsRight shape }
 {}

@@ -1,6 +1,6 @@
 -- The bytes at the front of a text that pass a test, and what comes after them.
-use Rattle.std.proofs.Common.{rules, ◌≡◌, ℕ, Bool, true, false, List, [], ◌∷◌, ◌++◌, length, take, drop, refl, ap, ◌∙◌, arith, take-append-drop}
-use Rattle.std.{specs.List.prefix_len, proofs.lemmas.Bool.cases_Bool}
+use Rattle.std.proofs.Common.{rules, ◌≡◌, ℕ, Bool, true, false, List, [], ◌∷◌, ◌++◌, length, take, drop, refl, ap, ◌∙◌}
+use Rattle.std.{proofs.{Common.{arith, take-append-drop}, lemmas.Bool.cases_Bool}, specs.List.prefix_len}
 use Rattle.yaml_bytes.specs.Plain.{Are}
 use Rattle.mpf_values.specs.Reading.{front, behind}
 use Rattle.yaml_subset.proofs.QuotedTexts.{len_yes, len_no}
@@ -44,7 +44,8 @@ behind_is p [] (y ∷ ys) h s = behind_no p y ys s
 behind_is p (x ∷ xs) ys h s = behind_yes p x (xs ++ ys) h.0 ∙ behind_is p xs ys h.1 s
 
 -- bytes of another kind in front of a text that begins with none that passes
-pub begins_behind : (p q : ℕ → Bool) (xs ys : List ℕ) → ((b : ℕ) → p b ≡ true → q b ≡ false) → Are p xs → begins q ys ≡ false → begins q (xs ++ ys) ≡ false
+pub begins_behind : (p q : ℕ → Bool) (xs ys : List ℕ) → ((b : ℕ) → p b ≡ true → q b ≡ false) → Are p xs
+    → begins q ys ≡ false → begins q (xs ++ ys) ≡ false
 begins_behind p q [] ys other h s = s
 begins_behind p q (x ∷ xs) ys other h s = other x h.0
 

@@ -1,6 +1,7 @@
 -- Which texts are names.
-use Rattle.std.proofs.{Common.{rules, ◌≡◌, ℕ, true, false, List, Some, refl, sym}, lemmas.Option.cond_some}
-use Rattle.std.proofs.lemmas.Bool.{and_parts, and_from, eqb-false, ne_eqb, leb-true, le-leb, not-true, not_from_false, both_ways}
+use Rattle.std.proofs.Common.{rules, ◌≡◌, ℕ, true, false, List, Some, refl, sym}
+use Rattle.std.proofs.lemmas.{Option.cond_some, Bool.both_ways}
+use Rattle.std.proofs.lemmas.Bool.{and_parts, and_from, eqb-false, ne_eqb, leb-true, le-leb, not-true, not_from_false}
 use Rattle.mpf_values.specs.{Names.IsName, Reading.{is_name, name_at}}
 use Rattle.yaml_bytes.proofs.AllBytes.{Are-from_list_all, list_all-from_Are}
 

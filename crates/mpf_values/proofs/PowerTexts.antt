@@ -1,5 +1,6 @@
 -- Powers are read as they are written.
-use Rattle.std.proofs.Common.{rules, ◌≡◌, ℕ, ◌/◌, ◌<◌, ◌≤◌, ◌^◌, cond, ltb, List, [], Some, None, codes, refl, sym, ap, ◌∙◌, ◌⊎◌, inl, inr, arith}
+use Rattle.std.proofs.Common.{rules, ◌≡◌, ℕ, ◌/◌, ◌<◌, ◌≤◌, ◌^◌, cond, ltb, List, [], Some, None, codes, refl, sym, ap}
+use Rattle.std.proofs.Common.{◌∙◌, ◌⊎◌, inl, inr, arith}
 use Rattle.std.proofs.lemmas.{Bool.{le-leb, ltb-false, le-ltb}, List.append-nil, Option.same_Some}
 use Rattle.mpf_values.specs.{declared.decimals.Decimal.Decimal, Numbers.IsDecimal}
 use Rattle.mpf_values.specs.Powers.{IsFraction, IsPercentage, IsPower}
@@ -9,7 +10,8 @@ use Rattle.mpf_values.proofs.WrittenNumbers.{Front, decimal_sound, decimal_compl
 
 -- ---- what is read is a power
 
-shared : (text : List ℕ) (d : Decimal) (rest : List ℕ) (power : ℕ) → Front text d rest → share_at d rest ≡ Some power → IsFraction text power ⊎ IsPercentage text power
+shared : (text : List ℕ) (d : Decimal) (rest : List ℕ) (power : ℕ) → Front text d rest → share_at d rest ≡ Some power
+    → IsFraction text power ⊎ IsPercentage text power
 unfolding share_at
 shared text d rest power f e = search rules
 
@@ -25,7 +27,8 @@ power_sound text power e =
 
 -- ---- a power is read
 
-fraction_complete : (text : List ℕ) (power places : ℕ) → IsDecimal text power places → power ≤ 1000 → power_at text ≡ Some power
+fraction_complete : (text : List ℕ) (power places : ℕ) → IsDecimal text power places → power ≤ 1000
+    → power_at text ≡ Some power
 unfolding power_at share_at
 fraction_complete text power places h within =
     let number = decimal_complete text [] power places h (omega arith) (record { digit = refl; point = refl }) in
@@ -36,7 +39,8 @@ unfolding power_at share_at
 percentage_complete text power h within =
     let value = h.value in
     let fits : h.thousandths < 2 ^ 64 = omega arith in
-    let number = decimal_complete h.number (codes "%") h.thousandths h.places h.is_number fits (record { digit = refl; point = refl }) in
+    let number = decimal_complete h.number (codes "%") h.thousandths h.places h.is_number fits
+    (record { digit = refl; point = refl }) in
     let is : h.thousandths / 100 ≡ power = omega arith in
     rw (h.parts, number, le-leb h.places 1 h.few, is, le-ltb 1000 power within) refl
 

@@ -1,5 +1,6 @@
 -- Times are read as they are written.
-use Rattle.std.proofs.Common.{rules, ◌≡◌, ℕ, ◌*◌, ◌<◌, ◌≤◌, ◌^◌, true, false, cond, ◌==◌, Option, List, [], ◌++◌, Some, None, codes, refl, sym, ap, ◌∙◌, inl, inr, arith}
+use Rattle.std.proofs.Common.{rules, ◌≡◌, ℕ, ◌*◌, ◌<◌, ◌≤◌, ◌^◌, true, false, cond, ◌==◌, Option, List, [], ◌++◌, Some}
+use Rattle.std.proofs.Common.{None, codes, refl, sym, ap, ◌∙◌, inl, inr, arith}
 use Rattle.std.{specs.{Char.is_ascii_digit, Str.bytes_eq}, proofs.lemmas.{Option.same_Some, Slice.Eq.bytes_eq-Decides}}
 use Rattle.yaml_bytes.{specs.Bytes.is_blank, proofs.Steps.chosen}
 use Rattle.mpf_values.specs.Times.{IsUnit, bare, milliseconds, seconds, minutes, hours, days, IsTime}
@@ -36,7 +37,8 @@ unit_sound text n e =
             | inl a ↦ unit_is text (codes "m") n 60000 a.0 minutes a.1
             | inr f ↦ elim (chosen hours_test (Some 3600000) at_days (Some n) f.1) [
               | inl a ↦ unit_is text (codes "h") n 3600000 a.0 hours a.1
-              | inr g ↦ let a = guard_true days_test (Some 86400000) n g.1 in unit_is text (codes "d") n 86400000 a.0 days a.1
+              | inr g ↦ let a = guard_true days_test (Some 86400000) n g.1
+                  in unit_is text (codes "d") n 86400000 a.0 days a.1
             ]
           ]
         ]
@@ -77,10 +79,12 @@ whole_complete ms below = search rules
 time_sound : (text : List ℕ) (ms : ℕ) → time_at text ≡ Some ms → IsTime text ms
 unfolding time_at
 time_sound text ms e =
-    let a = bind_some (decimal_at text) (λ d. unit_at (behind is_blank d.1) >>= λ unit. within_64_bits (d.0.thousandths * unit) >>= λ product. whole_at product) ms e in
+    let a = bind_some (decimal_at text) (λ d. unit_at (behind is_blank d.1) >>= λ unit. within_64_bits
+    (d.0.thousandths * unit) >>= λ product. whole_at product) ms e in
     let f = decimal_sound text a.0 a.1 in
     let rest = a.0.1 in
-    let b = bind_some (unit_at (behind is_blank rest)) (λ unit. within_64_bits (a.0.0.thousandths * unit) >>= λ product. whole_at product) ms a.2 in
+    let b = bind_some (unit_at (behind is_blank rest))
+    (λ unit. within_64_bits (a.0.0.thousandths * unit) >>= λ product. whole_at product) ms a.2 in
     let c = bind_some (within_64_bits (a.0.0.thousandths * b.0)) (λ product. whole_at product) ms b.2 in
     let w = whole_sound c.0 ms c.2 in
     record {
@@ -104,8 +108,10 @@ time_complete text ms h =
     let rest = h.blanks ++ h.unit in
     let none = unit_begins h.is_unit in
     let ends : Ends rest = record {
-      digit = begins_behind is_blank is_ascii_digit h.blanks h.unit (no_blank is_ascii_digit refl refl) h.are_blank none.digit;
-      point = begins_behind is_blank (λ b. b == 46) h.blanks h.unit (no_blank (λ b. b == 46) refl refl) h.are_blank none.point;
+      digit = begins_behind is_blank is_ascii_digit h.blanks h.unit (no_blank is_ascii_digit refl refl) h.are_blank
+          none.digit;
+      point = begins_behind is_blank (λ b. b == 46) h.blanks h.unit (no_blank (λ b. b == 46) refl refl) h.are_blank
+          none.point;
     } in
     let le = unit_not_less h.thousandths h.is_unit in
     let value = h.value in
@@ -113,7 +119,14 @@ time_complete text ms h =
     let fits : h.thousandths < 2 ^ 64 = omega arith in
     let product : h.thousandths * h.each < 2 ^ 64 = omega arith in
     let number = decimal_complete h.number rest h.thousandths h.places h.is_number fits ends in
-    rw (h.parts, number, behind_is is_blank h.blanks h.unit h.are_blank none.blank, unit_complete h.is_unit, within_64_bits-is (h.thousandths * h.each) product, ← h.value) (whole_complete ms h.below)
+    rw (
+      h.parts,
+      number,
+      behind_is is_blank h.blanks h.unit h.are_blank none.blank,
+      unit_complete h.is_unit,
+      within_64_bits-is (h.thousandths * h.each) product,
+      ← h.value,
+    ) (whole_complete ms h.below)
 
 pub time_computes : (text : List ℕ) → Computes (time_at text) (IsTime text)
 time_computes text = record { sound = time_sound text; complete = time_complete text }

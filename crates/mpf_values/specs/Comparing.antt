@@ -1,7 +1,7 @@
 -- How a value compares with a number.
 use Rattle.std.specs.{Prelude.{Bool, not, ℤ, int_le, int_lt}, Ordering.int_eq}
-use Rattle.mpf_values.specs.declared.handled.Comparison.{Comparison}
-use Rattle.mpf_values.specs.declared.handled.Comparison.TheVariants.{Equal, NotEqual, Less, LessOrEqual, Greater, GreaterOrEqual}
+use Rattle.mpf_values.specs.declared.handled.Comparison.{Comparison, TheVariants.GreaterOrEqual}
+use Rattle.mpf_values.specs.declared.handled.Comparison.TheVariants.{Equal, NotEqual, Less, LessOrEqual, Greater}
 
 -- whether a value compares so with a number
 abbrev pub compares : Comparison → ℤ → ℤ → Bool

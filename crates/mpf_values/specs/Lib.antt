@@ -11,4 +11,4 @@ pub mod ListText
 pub mod Lists
 pub mod Reading
 pub mod View
-pub mod Inside
+pub mod ScalarViews

@@ -31,4 +31,5 @@ EndsBefore item (b ∷ behind) = ends_item (open_behind 0 item) b ≡ true
 abbrev pub IsListText : List ℕ → List (List ℕ) → Type 0
 IsListText text [] = Are is_separator text
 IsListText text (item ∷ items) =
-    (before : List ℕ) × (behind : List ℕ) × (text ≡ before ++ (item ++ behind)) × Are is_separator before × IsItemText item × EndsBefore item behind × IsListText behind items
+    (before : List ℕ) × (behind : List ℕ) × (text ≡ before ++ (item ++ behind)) × Are is_separator before
+    × IsItemText item × EndsBefore item behind × IsListText behind items

@@ -21,5 +21,6 @@ scalar_node item = scalar item.line item.text
 -- without the empty ones.
 abbrev pub IsList : Node → List Item → Type 0
 IsList (scalar line text) items = (texts : List (List ℕ)) × IsListText text texts × (items ≡ map (item_at line) texts)
-IsList (sequence line nodes) items = (scalars : List Item) × (list_nodes nodes ≡ map scalar_node scalars) × (items ≡ filter has_text scalars)
+IsList (sequence line nodes) items = (scalars : List Item) × (list_nodes nodes ≡ map scalar_node scalars)
+    × (items ≡ filter has_text scalars)
 IsList (mapping line pairs) items = ⊥

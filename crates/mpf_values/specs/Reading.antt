@@ -1,13 +1,14 @@
 -- Reading a value from its first byte to its last.
-use Rattle.std.specs.Prelude.{ℕ, suc, ◌+◌, ◌-◌, ◌*◌, ◌/◌, ◌%◌, ◌^◌, Bool, true, false, not, ◌&&◌, ◌||◌, ◌==◌, nat_lt, nat_le, if◌then◌else◌, List, [], ◌∷◌, length, take, drop, map, Option, Some, None, ℤ, pos, neg_ℤ, codes}
-use Rattle.std.specs.{List.{prefix_len, list_all}, Char.is_ascii_digit, Str.bytes_eq}
+use Rattle.std.specs.Prelude.{ℕ, suc, ◌+◌, ◌-◌, ◌*◌, ◌/◌, ◌%◌, ◌^◌, Bool, true, false, not, ◌&&◌, ◌||◌, ◌==◌, nat_lt}
+use Rattle.std.specs.Prelude.{nat_le, if◌then◌else◌, List, [], ◌∷◌, length, take, drop, map, Option, Some, None, ℤ, pos}
+use Rattle.std.specs.{Prelude.{neg_ℤ, codes}, List.{prefix_len, list_all}, Char.is_ascii_digit, Str.bytes_eq}
 use Rattle.yaml_bytes.specs.{Scanning.behind_blanks, Numbers.number_at}
 use Rattle.yaml_subset.specs.{Node.Node, View.{line_of, text_in, items_in}}
-use Rattle.mpf_values.specs.declared.{decimals.Decimal.Decimal, handled.Comparison.Comparison}
-use Rattle.mpf_values.specs.declared.handled.Comparison.TheVariants.{Equal, NotEqual, Less, LessOrEqual, Greater, GreaterOrEqual}
-use Rattle.mpf_values.specs.Bytes.{is_name_byte, is_operator_byte, is_word_byte}
+use Rattle.mpf_values.specs.{declared.decimals.Decimal.Decimal, Bytes.{is_name_byte, is_operator_byte, is_word_byte}}
+use Rattle.mpf_values.specs.declared.handled.Comparison.{Comparison, TheVariants.GreaterOrEqual}
+use Rattle.mpf_values.specs.declared.handled.Comparison.TheVariants.{Equal, NotEqual, Less, LessOrEqual, Greater}
 use Rattle.mpf_values.specs.{Booleans.{capital, with_capital}, ListText.{open_after, ends_item}}
-use Rattle.mpf_values.specs.{Events.{Condition, Event}, Lists.{Item, item_at, has_text}}
+use Rattle.mpf_values.specs.{Events.{EventCondition, Event}, Lists.{Item, item_at, has_text}}
 
 infixl 10 ◌>>=◌
 abbrev pub ◌>>=◌ : {A B : Type 0} → Option A → (A → Option B) → Option B
@@ -29,7 +30,8 @@ within_64_bits n = if nat_lt n (2 ^ 64) then Some n else None
 
 -- how many thousandths the last of so many decimals is worth
 abbrev pub worth_of : ℕ → Option ℕ
-worth_of places = if places == 1 then Some 100 else (if places == 2 then Some 10 else (if places == 3 then Some 1 else None))
+worth_of places = if places == 1 then Some 100 else
+    (if places == 2 then Some 10 else (if places == 3 then Some 1 else None))
 
 -- the thousandths that decimals are
 unfoldable pub fraction_at : List ℕ → Option ℕ
@@ -46,7 +48,8 @@ decimal_from whole (b ∷ bs) =
 
 -- the number at the front, and what comes after it
 unfoldable pub decimal_at : List ℕ → Option (Decimal × List ℕ)
-decimal_at text = number_at (front is_ascii_digit text) >>= λ n. within_64_bits (n * 1000) >>= λ whole. decimal_from whole (behind is_ascii_digit text)
+decimal_at text = number_at (front is_ascii_digit text) >>= λ n. within_64_bits (n * 1000) >>= λ whole. decimal_from
+    whole (behind is_ascii_digit text)
 
 -- ---- booleans
 
@@ -56,7 +59,8 @@ spells word text = bytes_eq text word || (bytes_eq text (with_capital word) || b
 unfoldable pub boolean_at : List ℕ → Option Bool
 boolean_at text =
     if spells (codes "yes") text || (spells (codes "true") text || spells (codes "on") text) then Some true
-    else (if spells (codes "no") text || (spells (codes "false") text || spells (codes "off") text) then Some false else None)
+    else (if spells (codes "no") text || (spells (codes "false") text || spells (codes "off") text) then Some false else
+    None)
 
 -- ---- integers
 
@@ -66,7 +70,8 @@ magnitude_at digits = number_at digits >>= λ n. (if nat_lt 1000000000 n then No
 
 unfoldable pub integer_at : List ℕ → Option ℤ
 integer_at [] = magnitude_at [] >>= λ n. Some (pos n)
-integer_at (b ∷ bs) = if b == 45 then (magnitude_at bs >>= λ n. Some (neg_ℤ (pos n))) else (magnitude_at (b ∷ bs) >>= λ n. Some (pos n))
+integer_at (b ∷ bs) = if b == 45 then (magnitude_at bs >>= λ n. Some (neg_ℤ (pos n))) else
+    (magnitude_at (b ∷ bs) >>= λ n. Some (pos n))
 
 -- ---- times
 
@@ -81,10 +86,12 @@ unit_at text =
 
 -- whole milliseconds, of thousandths of them
 abbrev pub whole_at : ℕ → Option ℕ
-whole_at product = if not (product % 1000 == 0) || nat_lt (2 ^ 32 - 1) (product / 1000) then None else Some (product / 1000)
+whole_at product = if not (product % 1000 == 0)
+    || nat_lt (2 ^ 32 - 1) (product / 1000) then None else Some (product / 1000)
 
 unfoldable pub time_at : List ℕ → Option ℕ
-time_at text = decimal_at text >>= λ d. unit_at (behind_blanks d.1) >>= λ unit. within_64_bits (d.0.thousandths * unit) >>= λ product. whole_at product
+time_at text = decimal_at text >>= λ d. unit_at (behind_blanks d.1) >>= λ unit. within_64_bits (d.0.thousandths * unit)
+    >>= λ product. whole_at product
 
 -- ---- powers
 
@@ -115,7 +122,8 @@ behind_word word text = if bytes_eq (take (length word) text) word then Some (dr
 unfoldable pub variable_at : List ℕ → Option (List ℕ × List ℕ)
 variable_at text =
     behind_word (codes "{") text >>= λ inside. behind_word (codes "current_player.") (behind_blanks inside)
-    >>= λ named. name_at (front is_name_byte named) >>= λ variable. Some (variable, behind_blanks (behind is_name_byte named))
+    >>= λ at_name. name_at (front is_name_byte at_name) >>= λ variable. Some
+    (variable, behind_blanks (behind is_name_byte at_name))
 
 unfoldable pub operator_at : List ℕ → Option Comparison
 operator_at text =
@@ -128,14 +136,16 @@ operator_at text =
 
 -- the comparison at the front, and what comes after it and the blanks that follow it
 unfoldable pub comparison_at : List ℕ → Option (Comparison × List ℕ)
-comparison_at text = operator_at (front is_operator_byte text) >>= λ comparison. Some (comparison, behind_blanks (behind is_operator_byte text))
+comparison_at text = operator_at (front is_operator_byte text) >>= λ comparison. Some
+    (comparison, behind_blanks (behind is_operator_byte text))
 
 -- the integer of a condition, with nothing after it but blanks and the closing brace
 unfoldable pub last_integer_at : List ℕ → Option ℤ
-last_integer_at text = integer_at (front is_word_byte text) >>= λ n. (if bytes_eq (behind_blanks (behind is_word_byte text)) (codes "}") then Some n else None)
+last_integer_at text = integer_at (front is_word_byte text) >>= λ n.
+    (if bytes_eq (behind_blanks (behind is_word_byte text)) (codes "}") then Some n else None)
 
 -- the condition in braces that a text is
-unfoldable pub condition_at : List ℕ → Option Condition
+unfoldable pub condition_at : List ℕ → Option EventCondition
 condition_at text =
     variable_at text >>= λ v. comparison_at v.1 >>= λ c. last_integer_at c.1
     >>= λ n. Some (record { variable = v.0; comparison = c.0; number = n })

@@ -2,10 +2,10 @@
 use Rattle.std.specs.Prelude.{◌≡◌, List, map, Option, Some, None, Result, Ok, Err}
 use Rattle.mpf_values.specs.declared.fault.{BadValue.BadValue, ListFault.ListFault}
 use Rattle.mpf_values.specs.declared.fault.ListFault.TheVariants as faults
-use Rattle.mpf_values.specs.declared.handled.Condition as conditions
+use Rattle.mpf_values.specs.declared.handled.EventCondition as conditions
 use Rattle.mpf_values.specs.declared.handled.Event as events
 use Rattle.mpf_values.specs.declared.items.Item as items
-use Rattle.mpf_values.specs.{Events.{Condition, Event}, Lists.Item}
+use Rattle.mpf_values.specs.{Events.{EventCondition, Event}, Lists.Item}
 
 -- An answer, seen by view, is what reading gives.
 abbrev pub Gives : {X Y : Type 0} → (X → Y) → Result X BadValue → Option Y → Type 0
@@ -22,10 +22,10 @@ GivesList view (Ok x) read = read ≡ Some (view x)
 GivesList view (Err e) read = FailsList e read
 
 -- an event without where its bytes lie in memory
-abbrev pub condition_view : conditions.Condition → Condition
+abbrev pub condition_view : conditions.EventCondition → EventCondition
 condition_view c = record { variable = c.variable.now; comparison = c.comparison; number = c.number }
 
-abbrev pub condition_option_view : Option conditions.Condition → Option Condition
+abbrev pub condition_option_view : Option conditions.EventCondition → Option EventCondition
 condition_option_view None = None
 condition_option_view (Some c) = Some (condition_view c)
 

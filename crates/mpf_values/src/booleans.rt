@@ -16,7 +16,8 @@ fn is_spelled(text: &[u8], small: &[u8], first: &[u8], all: &[u8]) -> bool
 }
 
 fn is_true(text: &[u8]) -> bool
-    ensures { result ≡ (spells (codes "yes") text.now || (spells (codes "true") text.now || spells (codes "on") text.now)) }
+    ensures { result ≡ (spells (codes "yes") text.now
+        || (spells (codes "true") text.now || spells (codes "on") text.now)) }
 {
     is_spelled(text, b"yes", b"Yes", b"YES")
         || is_spelled(text, b"true", b"True", b"TRUE")
@@ -24,7 +25,8 @@ fn is_true(text: &[u8]) -> bool
 }
 
 fn is_false(text: &[u8]) -> bool
-    ensures { result ≡ (spells (codes "no") text.now || (spells (codes "false") text.now || spells (codes "off") text.now)) }
+    ensures { result ≡ (spells (codes "no") text.now
+        || (spells (codes "false") text.now || spells (codes "off") text.now)) }
 {
     is_spelled(text, b"no", b"No", b"NO")
         || is_spelled(text, b"false", b"False", b"FALSE")

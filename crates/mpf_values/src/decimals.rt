@@ -2,10 +2,10 @@
 
 ghost use Rattle.mpf_values.specs.Reading.{fraction_at, decimal_at};
 ghost use Rattle.mpf_values.specs.View.{Gives};
-ghost use Rattle.mpf_values.specs.Inside.{decimal_view};
+ghost use Rattle.mpf_values.specs.ScalarViews.{decimal_view};
 
 use crate::bytes::split_digits;
-use crate::digits::number;
+use crate::digits::whole_number;
 use crate::fault::BadValue;
 
 /// A number in thousandths, and how many decimals it was written with.
@@ -26,7 +26,7 @@ fn fraction(decimals: &[u8]) -> Result<u64, BadValue>
         3 => 1,
         _ => return Err(BadValue),
     };
-    number(decimals)?.checked_mul(worth).ok_or(BadValue)
+    whole_number(decimals)?.checked_mul(worth).ok_or(BadValue)
 }
 
 /// The number at the front of a text, and what comes after it. A number is digits, or digits, a
@@ -36,7 +36,7 @@ pub fn split_decimal(text: &[u8]) -> Result<(Decimal, &[u8]), BadValue>
     ensures { Gives decimal_view result (decimal_at text.now) }
 {
     let (digits, rest) = split_digits(text);
-    let whole = number(digits)?.checked_mul(1000).ok_or(BadValue)?;
+    let whole = whole_number(digits)?.checked_mul(1000).ok_or(BadValue)?;
     let [b'.', after @ ..] = rest else {
         let number = Decimal {
             thousandths: whole,

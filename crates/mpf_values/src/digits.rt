@@ -6,7 +6,7 @@ ghost use Rattle.mpf_values.specs.View.{Gives};
 use crate::fault::BadValue;
 
 /// The number that a text of digits writes, if it is below 2^64.
-pub fn number(text: &[u8]) -> Result<u64, BadValue>
+pub fn whole_number(text: &[u8]) -> Result<u64, BadValue>
     ensures { Gives (λ n. n) result (number_at text.now) }
 {
     yaml_bytes::number(text).ok_or(BadValue)

@@ -2,14 +2,15 @@
 
 ghost use Rattle.std.specs.Prelude.{◌≡◌, IfOk, IfErr};
 ghost use Rattle.mpf_values.specs.Events.{Event as Handled, IsEvent};
-ghost use Rattle.mpf_values.specs.Reading.{behind_word, variable_at, operator_at, comparison_at, last_integer_at, condition_at, event_at};
+ghost use Rattle.mpf_values.specs.Reading.{behind_word, variable_at, operator_at, comparison_at, last_integer_at};
+ghost use Rattle.mpf_values.specs.Reading.{condition_at, event_at};
 ghost use Rattle.mpf_values.specs.View.{Gives, condition_view, event_view};
 ghost use Rattle.yaml_bytes.specs.View.{rest_view};
-ghost use Rattle.mpf_values.specs.Inside.{slices_view, compared_view};
+ghost use Rattle.mpf_values.specs.ScalarViews.{slices_view, compared_view};
 
 use crate::bytes::{split_name, split_operator, split_value};
 use crate::fault::BadValue;
-use crate::handled::{Comparison, Condition, Event};
+use crate::handled::{Comparison, Event, EventCondition};
 use crate::integers::signed;
 use crate::names::name;
 use yaml_bytes::behind_blanks;
@@ -58,7 +59,7 @@ fn operator(text: &[u8]) -> Result<Comparison, BadValue>
 
 // The comparison at the front, and what comes after it and the blanks that follow it.
 #[tactic(auto, unfolding(crate::specs::Reading::comparison_at))]
-fn compared(text: &[u8]) -> Result<(Comparison, &[u8]), BadValue>
+fn comparison_in(text: &[u8]) -> Result<(Comparison, &[u8]), BadValue>
     ensures { Gives compared_view result (comparison_at text.now) }
 {
     let (front, rest) = split_operator(text);
@@ -80,13 +81,13 @@ fn last_integer(text: &[u8]) -> Result<i64, BadValue>
 
 // The condition in braces that a text is.
 #[tactic(auto, unfolding(crate::specs::Reading::condition_at))]
-fn condition_of(text: &[u8]) -> Result<Condition<'_>, BadValue>
+fn condition_of(text: &[u8]) -> Result<EventCondition<'_>, BadValue>
     ensures { Gives condition_view result (condition_at text.now) }
 {
     let (variable, rest) = variable(text)?;
-    let (comparison, rest) = compared(rest)?;
+    let (comparison, rest) = comparison_in(rest)?;
     let number = last_integer(rest)?;
-    Ok(Condition {
+    Ok(EventCondition {
         variable,
         comparison,
         number,
@@ -95,7 +96,7 @@ fn condition_of(text: &[u8]) -> Result<Condition<'_>, BadValue>
 
 // The event that a text says is handled.
 #[tactic(auto, unfolding(crate::specs::Reading::event_at))]
-fn handled(text: &[u8]) -> Result<Event<'_>, BadValue>
+fn handled_event(text: &[u8]) -> Result<Event<'_>, BadValue>
     ensures { Gives event_view result (event_at text.now) }
 {
     let (front, rest) = split_name(text);
@@ -133,5 +134,5 @@ pub fn event(text: &[u8]) -> Result<Event<'_>, BadValue>
     // The result is what reading the text gives.
     ensures exact { Gives event_view result (event_at text.now) }
 {
-    handled(text)
+    handled_event(text)
 }

@@ -38,7 +38,7 @@ impl Comparison {
 
 /// A comparison of a variable of the current player with a number.
 #[derive(Clone, Copy)]
-pub struct Condition<'a> {
+pub struct EventCondition<'a> {
     /// The name of the variable.
     pub variable: &'a [u8],
     /// How it is to compare.
@@ -51,5 +51,5 @@ pub struct Condition<'a> {
 #[derive(Clone, Copy)]
 pub struct Event<'a> {
     pub name: &'a [u8],
-    pub condition: Option<Condition<'a>>,
+    pub condition: Option<EventCondition<'a>>,
 }

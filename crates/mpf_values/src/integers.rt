@@ -5,7 +5,7 @@ ghost use Rattle.mpf_values.specs.Integers.{IsInteger};
 ghost use Rattle.mpf_values.specs.Reading.{magnitude_at, integer_at};
 ghost use Rattle.mpf_values.specs.View.{Gives};
 
-use crate::digits::number;
+use crate::digits::whole_number;
 use crate::fault::BadValue;
 
 /// The greatest integer that a setting may have; the least is its negative.
@@ -16,7 +16,7 @@ const MAX_INTEGER: u64 = 1_000_000_000;
 fn magnitude(digits: &[u8]) -> Result<u32, BadValue>
     ensures { Gives (λ n. n) result (magnitude_at digits.now) }
 {
-    let n = number(digits)?;
+    let n = whole_number(digits)?;
     if n > MAX_INTEGER {
         return Err(BadValue);
     }

@@ -6,7 +6,7 @@ ghost use Rattle.mpf_values.specs.ListText.{open_after};
 ghost use Rattle.mpf_values.specs.Lists.{item_at};
 ghost use Rattle.mpf_values.specs.Reading.{behind, items_of, item_len};
 ghost use Rattle.mpf_values.specs.View.{items_view};
-ghost use Rattle.mpf_values.specs.Inside.{next_items};
+ghost use Rattle.mpf_values.specs.ScalarViews.{next_items};
 
 use crate::bytes::{behind_separators, is_separator};
 use std::alloc::{AllocError, Global};

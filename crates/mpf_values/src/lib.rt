@@ -22,7 +22,7 @@ mod times;
 pub use booleans::boolean;
 pub use events::event;
 pub use fault::{BadValue, ListFault};
-pub use handled::{Comparison, Condition, Event};
+pub use handled::{Comparison, Event, EventCondition};
 pub use integers::integer;
 pub use items::Item;
 pub use lists::list;

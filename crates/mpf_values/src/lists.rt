@@ -54,10 +54,12 @@ pub fn list<'a>(alloc: Global, tree: &'a Tree) -> Result<Vec<Item<'a>>, ListFaul
     ensures found { IfOk result (λ items. IsList (node_view tree.now) (items_view items.items)) }
 
     // The list has no others.
-    ensures only { IfOk result (λ items. (others : List Listed) → IsList (node_view tree.now) others → others ≡ items_view items.items) }
+    ensures only { IfOk result (λ items. (others : List Listed) → IsList (node_view tree.now) others
+        → others ≡ items_view items.items) }
 
     // What is refused, unless memory ran out, is no list.
-    ensures refused { IfErr result (λ e. e ≢ ListFault.NoMemory → (items : List Listed) → IsList (node_view tree.now) items → ⊥) }
+    ensures refused { IfErr result (λ e. e ≢ ListFault.NoMemory → (items : List Listed)
+        → IsList (node_view tree.now) items → ⊥) }
 
     // The result is what reading the list gives, unless memory ran out.
     ensures exact { GivesList (λ items. items_view items.items) result (list_at (node_view tree.now)) }

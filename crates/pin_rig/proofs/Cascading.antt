@@ -1,5 +1,6 @@
 -- The commands of a cascade are sent as its lines come.
-use Rattle.std.proofs.Common.{◌≡◌, ℕ, zero, suc, ◌+◌, true, false, Option, None, Some, is_none, List, [], ◌∷◌, ◌++◌, length, take, drop, slice_get, refl, ap, sym, ◌∙◌, subst, arith}
+use Rattle.std.proofs.Common.{◌≡◌, ℕ, zero, suc, ◌+◌, true, false, Option, None, Some, is_none, List, [], ◌∷◌, ◌++◌}
+use Rattle.std.proofs.Common.{length, take, drop, slice_get, refl, ap, sym, ◌∙◌, subst, arith}
 use Rattle.std.proofs.lemmas.List.{take-append-drop}
 use Rattle.plan_tables.specs.PlanView.{PlanView}
 use Rattle.written_machine.specs.{declared.line.Line.Line, Machine.Machine, PlanOrder.plan_steps}
@@ -30,18 +31,21 @@ first-more (x ∷ ls) more (suc k) l is = ap (λ xs. x ∷ xs) (first-more ls mo
 there-rest : (ls : List Line) (n k : ℕ) → slice_get ls (n + k) ≡ slice_get (drop n ls) k
 there-rest ls zero k = let e : 0 + k ≡ k = omega arith in ap (slice_get ls) e
 there-rest [] (suc n) k = let e : suc n + k ≡ suc (n + k) = omega arith in ap (slice_get []) e
-there-rest (x ∷ ls) (suc n) k = let e : suc n + k ≡ suc (n + k) = omega arith in ap (slice_get (x ∷ ls)) e ∙ there-rest ls n k
+there-rest (x ∷ ls) (suc n) k = let e : suc n + k ≡ suc (n + k) = omega arith in ap (slice_get (x ∷ ls)) e
+    ∙ there-rest ls n k
 
 first-rest : (ls : List Line) (n k : ℕ) → take (n + k) ls ≡ take n ls ++ take k (drop n ls)
 unfolding none
 first-rest ls zero k = let e : 0 + k ≡ k = omega arith in ap (λ m. take m ls) e
 first-rest [] (suc n) k = let e : suc n + k ≡ suc (n + k) = omega arith in ap (λ m. take m []) e ∙ sym (nothing k)
-first-rest (x ∷ ls) (suc n) k = let e : suc n + k ≡ suc (n + k) = omega arith in ap (λ m. take m (x ∷ ls)) e ∙ ap (λ xs. x ∷ xs) (first-rest ls n k)
+first-rest (x ∷ ls) (suc n) k = let e : suc n + k ≡ suc (n + k) = omega arith in ap (λ m. take m (x ∷ ls)) e
+    ∙ ap (λ xs. x ∷ xs) (first-rest ls n k)
 
 -- ---- what was sent
 
 -- lines that come later change nothing
-pub stopped-more : (ls more : List Line) (place : ℕ) (a b : DriverView) → HasStopped ls place a b → HasStopped (ls ++ more) place a b
+pub stopped-more : (ls more : List Line) (place : ℕ) (a b : DriverView) → HasStopped ls place a b
+    → HasStopped (ls ++ more) place a b
 stopped-more ls more place a b is = record {
   line = is.line;
   there = there-more ls more place is.line is.there;
@@ -53,14 +57,17 @@ stopped-more ls more place a b is = record {
 -- the first lines, and then the rest of them
 module _ (lines : List Line) (from : ℕ) (start mid new : DriverView) (first : HasSent (take from lines) start mid) where
   pub all-sent : HasSent (drop from lines) mid new → HasSent lines start new
-  all-sent rest = subst (λ xs. HasSent xs start new) (take-append-drop from lines) (sent-append (take from lines) (drop from lines) start mid new first rest)
+  all-sent rest = subst (λ xs. HasSent xs start new) (take-append-drop from lines)
+      (sent-append (take from lines) (drop from lines) start mid new first rest)
 
-  pub rest-stopped : (place : ℕ) → HasStopped (drop from lines) place mid new → HasStopped lines (from + place) start new
+  pub rest-stopped : (place : ℕ) → HasStopped (drop from lines) place mid new
+      → HasStopped lines (from + place) start new
   rest-stopped place is = record {
     line = is.line;
     there = there-rest lines from place ∙ is.there;
     mid = is.mid;
-    earlier = subst (λ xs. HasSent xs start is.mid) (sym (first-rest lines from place)) (sent-append (take from lines) (take place (drop from lines)) start mid is.mid first is.earlier);
+    earlier = subst (λ xs. HasSent xs start is.mid) (sym (first-rest lines from place))
+        (sent-append (take from lines) (take place (drop from lines)) start mid is.mid first is.earlier);
     fault = is.fault;
   }
 
@@ -76,7 +83,8 @@ module _ (lines : List Line) (place : Option ℕ) (a b : DriverView) where
       by None is h = h
       by (Some k) is h = cc
 
-  pub served-more : (more : List Line) → is_none place ≡ false → IsServed lines place a b → IsServed (lines ++ more) place a b
+  pub served-more : (more : List Line) → is_none place ≡ false → IsServed lines place a b
+      → IsServed (lines ++ more) place a b
   served-more more some served = by place some served
     where
       by : (p : Option ℕ) → is_none p ≡ false → IsServed lines p a b → IsServed (lines ++ more) p a b
@@ -96,7 +104,8 @@ module _ (start now : CoreView) (count : ℕ) (is : now ≡ follow (plan_steps s
   module _ (new : CoreView) (more : ℕ) (new_is : new ≡ follow (plan_steps now.plan more) now) where
     pub steps-join : new ≡ follow (plan_steps start.plan (count + more)) start
     steps-join =
-        new_is ∙ ap (λ (plan : PlanView). follow (plan_steps plan more) now) plan-is ∙ ap (follow (plan_steps start.plan more)) is
+        new_is ∙ ap (λ (plan : PlanView). follow (plan_steps plan more) now) plan-is
+        ∙ ap (follow (plan_steps start.plan more)) is
         ∙ ap (λ (s : Machine). follow (λ m. s) start) (sym (plan_steps-add start.plan count more start.machine))
 
     pub lines-more : (rest : List Line) × (new.machine.lines ≡ now.machine.lines ++ rest)

@@ -7,8 +7,8 @@ use Rattle.pin_rig.specs.Rig.{RigView, stimulus_at, RigStep, RigHalt}
 
 -- what is returned for a stimulus, or for why there is none
 abbrev pub GivesStimulus : Result HeldStimulus StepFault → Result Stimulus StepFault → Type 0
-GivesStimulus (Ok stimulus) given = given ≡ Ok (stimulus_view stimulus)
-GivesStimulus (Err fault) given = given ≡ Err fault
+GivesStimulus (Ok stimulus) answer = answer ≡ Ok (stimulus_view stimulus)
+GivesStimulus (Err fault) answer = answer ≡ Err fault
 
 -- the rig does not refuse the input, which is this stimulus
 abbrev pub Admits : RigView → Input → Stimulus → Type 0

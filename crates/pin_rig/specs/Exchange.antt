@@ -27,7 +27,7 @@ refusal_name WrongState = codes "WrongState"
 
 -- the rig is not halted, and has a row of this number
 pub record HasPlace (rig : RigView) (number : RowId) : Type 0 where
-  pub running : rig.faulted ≡ None
+  pub running : rig.faulted_coil ≡ None
   pub there : number.0 < length rig.checked.plan.rows
 
 -- A device of this row, in this state, may take the place of the device of the row of this number: it is the device of
@@ -39,10 +39,11 @@ pub record MayTakePlace (rig : RigView) (number : RowId) (row : DeviceRow) (stat
 
 -- It may not, for this reason, and for none of those before it.
 abbrev pub IsRefused : RigView → RowId → DeviceRow → DeviceState → Refusal → Type 0
-IsRefused rig number row state Halted = rig.faulted ≢ None
-IsRefused rig number row state NoSuchRow = (rig.faulted ≡ None) × (length rig.checked.plan.rows ≤ number.0)
+IsRefused rig number row state Halted = rig.faulted_coil ≢ None
+IsRefused rig number row state NoSuchRow = (rig.faulted_coil ≡ None) × (length rig.checked.plan.rows ≤ number.0)
 IsRefused rig number row state WrongRow = HasPlace rig number × (row ≢ row_at rig.checked.plan number)
-IsRefused rig number row state WrongState = HasPlace rig number × (row ≡ row_at rig.checked.plan number) × (state ≢ device_at rig.machine number)
+IsRefused rig number row state WrongState =
+    HasPlace rig number × (row ≡ row_at rig.checked.plan number) × (state ≢ device_at rig.machine number)
 
 -- ---- the device that comes out
 
@@ -56,7 +57,8 @@ EjectsNothing _ = Unit {0}
 -- ejects no ball.
 pub record IsTakenOut (rig : RigView) (number : RowId) (row : DeviceRow) (state : DeviceState) : Type 0 where
   pub row_is : row ≡ row_at rig.checked.plan number
-  pub state_is : state ≡ stopped_state rig.machine.moment (world_of rig.machine) (row_at rig.checked.plan number) (device_at rig.machine number)
+  pub state_is : state ≡ stopped_state rig.machine.moment (world_of rig.machine) (row_at rig.checked.plan number)
+      (device_at rig.machine number)
   pub not_due : due_of state ≡ None
   pub ejects : EjectsNothing state
 
@@ -70,7 +72,9 @@ pub data RigCall : Type 0 where
 -- Each call is a step, or an exchange, after which the rig is as before. The trace is the lines of all steps.
 abbrev pub AreCalls : List RigCall → RigView → List Line → RigView → Type 0
 AreCalls [] old trace new = (trace ≡ []) × (new ≡ old)
-AreCalls (step input ∷ more) old trace new = (mid : RigView) × (rest : List Line) × RigStep input old mid × AreCalls more mid rest new × (trace ≡ mid.machine.lines ++ rest)
+AreCalls (step input ∷ more) old trace new =
+    (mid : RigView) × (rest : List Line) × RigStep input old mid × AreCalls more mid rest new
+    × (trace ≡ mid.machine.lines ++ rest)
 AreCalls (exchange ∷ more) old trace new = (mid : RigView) × (mid ≡ old) × AreCalls more mid trace new
 
 -- the inputs of the steps
@@ -81,4 +85,5 @@ inputs_of (exchange ∷ more) = inputs_of more
 
 -- The steps among any calls of a rig are steps by themselves, with the same lines, and lead to the same rig.
 abbrev pub ExchangesLeaveTheSteps : Type 0
-ExchangesLeaveTheSteps = (calls : List RigCall) (old : RigView) (trace : List Line) (new : RigView) → AreCalls calls old trace new → AreSteps (inputs_of calls) old trace new
+ExchangesLeaveTheSteps = (calls : List RigCall) (old : RigView) (trace : List Line) (new : RigView)
+    → AreCalls calls old trace new → AreSteps (inputs_of calls) old trace new

@@ -6,4 +6,4 @@ pub mod Exchange
 pub mod ShutDown
 -- only contracts of private functions cite these, but for Lending: `step` says by it which lines it lends
 pub mod Lending
-pub mod Inside
+pub mod RigState

@@ -1,7 +1,7 @@
 -- Why a step gives no lines.
 use Rattle.std.specs.Prelude.{ℕ, ◌^◌, Bool, nat_lt, nat_le, if◌then◌else◌, List, Result, Ok, Err, codes}
-use Rattle.pin_rig.specs.declared.input.StepFault.{StepFault}
-use Rattle.pin_rig.specs.declared.input.StepFault.TheVariants.{Halted, NoSuchSwitch, NoAlarm, Backwards, TooLate, AlarmPending, BoardFault}
+use Rattle.pin_rig.specs.declared.input.StepFault.{StepFault, TheVariants.{AlarmPending, BoardFault}}
+use Rattle.pin_rig.specs.declared.input.StepFault.TheVariants.{Halted, NoSuchSwitch, NoAlarm, Backwards, TooLate}
 
 -- the number with which it is printed
 abbrev pub step_fault_number : StepFault → ℕ
@@ -28,5 +28,5 @@ abbrev pub is_too_late : ℕ → Bool
 is_too_late at = nat_le (2 ^ 40) at
 
 -- a moment is admitted, unless it is before that of the latest stimulus, or too late
-abbrev pub admitted : ℕ → ℕ → Result Unit StepFault
-admitted latest at = if nat_lt at latest then Err Backwards else if is_too_late at then Err TooLate else Ok tt
+abbrev pub admission : ℕ → ℕ → Result Unit StepFault
+admission latest at = if nat_lt at latest then Err Backwards else if is_too_late at then Err TooLate else Ok tt

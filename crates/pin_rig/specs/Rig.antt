@@ -1,14 +1,15 @@
 -- A rig, and what a step of it does.
-use Rattle.std.specs.Prelude.{◌≡◌, ◌≢◌, ◌⊎◌, ℕ, ◌<◌, ◌≤◌, ◌-◌, ◌^◌, nat_lt, if◌then◌else◌, Option, Some, None, Result, Ok, Err, List, [], ◌∷◌, ◌++◌, length}
-use Rattle.std.specs.Result.{result_and}
+use Rattle.std.specs.Prelude.{◌≡◌, ◌≢◌, ◌⊎◌, ℕ, ◌<◌, ◌≤◌, ◌-◌, ◌^◌, nat_lt, if◌then◌else◌, Option, Some, None, Result}
+use Rattle.std.specs.{Prelude.{Ok, Err, List, [], ◌∷◌, ◌++◌, length}, Result.result_and}
 use Rattle.plan_tables.specs.declared.entries.CoilId.{CoilId}
 use Rattle.coil_guard.specs.{declared.{command.Command.Command, state.CoilState.CoilState}, SentCommands.coil_of}
-use Rattle.written_machine.specs.{declared.line.Line.Line, NextAlarm.{next_alarm, is_due_by}}
+use Rattle.written_machine.specs.{declared.line.Line.Line, CheckedView.CheckedView}
+use Rattle.written_machine.specs.{NextAlarm.{next_alarm, is_due_by}, Machine.Machine, Run.IsReached}
 use Rattle.written_machine.specs.declared.line.Happening.TheVariants as lines
-use Rattle.written_machine.specs.{CheckedView.CheckedView, Machine.Machine, EventStep.EventSteps, PlanOrder.settled}
-use Rattle.written_machine.specs.Run.{Source, source_due, Stimulus, SwitchChange, Alarm, Wait, IsAllowed, begin, IsReached}
+use Rattle.written_machine.specs.{EventStep.EventSteps, PlanOrder.settle_all}
+use Rattle.written_machine.specs.Run.{Source, source_due, Stimulus, SwitchChange, Alarm, Wait, IsAllowed, begin}
 use Rattle.coil_driver.specs.Board.{BoardView, HasTakenAll, HasNotTaken, commands_of, after_lines}
-use Rattle.pin_rig.specs.{declared.input.{Input.Input, StepFault.StepFault}, Refused.{is_too_late, admitted}}
+use Rattle.pin_rig.specs.{declared.input.{Input.Input, StepFault.StepFault}, Refused.{is_too_late, admission}}
 use Rattle.pin_rig.specs.declared.input.Input.TheVariants as inputs
 use Rattle.pin_rig.specs.declared.input.StepFault.TheVariants as faults
 
@@ -22,13 +23,14 @@ pub record RigView : Type 0 where
   -- what a guard knows that was asked for just the commands that the board has taken
   pub sent : List CoilState
   -- the coil whose command the board has not taken; from then on the rig is halted
-  pub faulted : Option CoilId
+  pub faulted_coil : Option CoilId
 
 -- ---- which stimulus an input is, or why it is refused: the first reason in this order
 
 -- A stimulus comes at a moment that is admitted. An alarm that is due at or before it has to come first.
 abbrev pub timely : Machine → ℕ → Stimulus → Result Stimulus StepFault
-timely s at stimulus = result_and (admitted s.moment at) (if is_due_by at s then Err faults.AlarmPending else Ok stimulus)
+timely s at stimulus = result_and (admission s.moment at)
+    (if is_due_by at s then Err faults.AlarmPending else Ok stimulus)
 
 -- the next alarm comes at its moment
 abbrev pub alarm_at : Option (ℕ × Source) → Result Stimulus StepFault
@@ -38,24 +40,26 @@ alarm_at (Some a) = if is_too_late a.0 then Err faults.TooLate else Ok (Alarm a.
 -- what the input is to the machine
 abbrev pub stimulus_in : CheckedView → Machine → Input → Result Stimulus StepFault
 stimulus_in checked s (inputs.Change at switch level) =
-    if nat_lt switch.0 (length checked.plan.switches) then timely s at (SwitchChange at switch level) else Err faults.NoSuchSwitch
+    if nat_lt switch.0 (length checked.plan.switches) then timely s at (SwitchChange at switch level) else Err
+    faults.NoSuchSwitch
 stimulus_in checked s inputs.Alarm = alarm_at (next_alarm s)
 stimulus_in checked s (inputs.Wait at) = timely s at (Wait at)
 
 -- a halted rig refuses every input
 abbrev pub unless_halted : Option CoilId → Result Stimulus StepFault → Result Stimulus StepFault
-unless_halted None given = given
-unless_halted (Some coil) given = Err faults.Halted
+unless_halted None answer = answer
+unless_halted (Some coil) answer = Err faults.Halted
 
 abbrev pub stimulus_at : RigView → Input → Result Stimulus StepFault
-stimulus_at rig input = unless_halted rig.faulted (stimulus_in rig.checked rig.machine input)
+stimulus_at rig input = unless_halted rig.faulted_coil (stimulus_in rig.checked rig.machine input)
 
 -- ---- the alarm that is due next
 
 -- No alarm is due at all; or one is due at this moment, and none before it.
 abbrev pub IsNextMoment : Machine → Option ℕ → Type 0
 IsNextMoment s None = (source : Source) (due : ℕ) → source_due s source ≡ Some due → ⊥
-IsNextMoment s (Some at) = ((source : Source) × (source_due s source ≡ Some at)) × ((source : Source) (due : ℕ) → source_due s source ≡ Some due → at ≤ due)
+IsNextMoment s (Some at) = ((source : Source) × (source_due s source ≡ Some at))
+    × ((source : Source) (due : ℕ) → source_due s source ≡ Some due → at ≤ due)
 
 -- ---- steps
 
@@ -69,9 +73,9 @@ HasFaultedOn commands old new = (old.fault_count < new.fault_count) ⊎ ((old.fa
 pub record RigCascade (input : Input) (old new : RigView) : Type 0 where
   pub stimulus : Stimulus
   pub stimulus_is : stimulus_at old input ≡ Ok stimulus
-  pub allowed : IsAllowed old.checked.plan old.machine stimulus
+  pub may_come : IsAllowed old.checked.plan old.machine stimulus
   pub checked_is : new.checked ≡ old.checked
-  pub machine_is : new.machine ≡ settled old.checked.plan old.checked.bound stimulus old.machine
+  pub machine_is : new.machine ≡ settle_all old.checked.plan old.checked.bound stimulus old.machine
   pub count : ℕ
   pub steps : EventSteps old.checked.plan count (begin old.checked.plan stimulus old.machine) new.machine
   pub settles : new.machine.waiting ≡ []
@@ -81,9 +85,9 @@ pub record RigCascade (input : Input) (old new : RigView) : Type 0 where
 pub record RigStep (input : Input) (old new : RigView) : Type 0 where
   pub cascade : RigCascade input old new
   pub lines_are : new.lines ≡ new.machine.lines
-  pub taken : HasTakenAll (commands_of new.lines) old.board new.board
+  pub board_takes : HasTakenAll (commands_of new.lines) old.board new.board
   pub no_fault : HasFaultedOn (commands_of new.machine.lines) old.board new.board → ⊥
-  pub running : new.faulted ≡ None
+  pub running : new.faulted_coil ≡ None
 
 -- The board has not taken a command of the cascade. The lines before its line are shown, the board has taken just their
 -- commands, and the rig is halted.
@@ -95,10 +99,10 @@ pub record RigHalt (input : Input) (old new : RigView) : Type 0 where
   pub lines_are : new.machine.lines ≡ new.lines ++ line ∷ later
   pub line_is : line.happening ≡ lines.Coil command
   pub board : BoardView
-  pub taken : HasTakenAll (commands_of new.lines) old.board board
+  pub board_takes : HasTakenAll (commands_of new.lines) old.board board
   pub not_taken : HasNotTaken board new.board
   pub fault : HasFaultedOn (commands_of new.machine.lines) old.board new.board
-  pub halted : new.faulted ≡ Some (coil_of command)
+  pub halt : new.faulted_coil ≡ Some (coil_of command)
 
 -- Why a step gives no lines: the board has not taken a command; or the input is refused, and nothing has changed.
 abbrev pub HasFailed : Input → RigView → RigView → StepFault → Type 0
@@ -107,8 +111,8 @@ HasFailed input old new fault = (stimulus_at old input ≡ Err fault) × (new �
 
 -- If the board has not taken a command, the input was a stimulus; else it is refused for this reason.
 abbrev pub IsWhy : Result Stimulus StepFault → StepFault → Type 0
-IsWhy given faults.BoardFault = (stimulus : Stimulus) × (given ≡ Ok stimulus)
-IsWhy given fault = given ≡ Err fault
+IsWhy answer faults.BoardFault = (stimulus : Stimulus) × (answer ≡ Ok stimulus)
+IsWhy answer fault = answer ≡ Err fault
 
 -- a run of the plan leads to the machine's state, between two stimuli
 abbrev pub IsOfRun : RigView → Type 0
@@ -120,4 +124,4 @@ pub record IsRunning (rig : RigView) : Type 0 where
   pub sent_is : rig.sent ≡ rig.machine.coils
 
 abbrev pub RunsUnlessHalted : RigView → Type 0
-RunsUnlessHalted rig = rig.faulted ≡ None → IsRunning rig
+RunsUnlessHalted rig = rig.faulted_coil ≡ None → IsRunning rig

@@ -8,7 +8,7 @@ use Rattle.pin_rig.specs.Rig.{RigView}
 -- A coil is to be turned off if it is on at the moment of the latest stimulus, by the commands that the board has
 -- taken, or if the board has not taken its last command.
 abbrev pub is_to_put_off : RigView → CoilId → Bool
-is_to_put_off rig coil = is_on_at rig.machine.moment (coil_at rig.sent coil) || is_faulted rig.faulted coil
+is_to_put_off rig coil = is_on_at rig.machine.moment (coil_at rig.sent coil) || is_faulted rig.faulted_coil coil
 
 -- these coils, in the order of their numbers
 abbrev pub coils_to_put_off : RigView → List CoilId

@@ -13,17 +13,19 @@ use Rattle.pin_rig.specs.Rig.{RigView, stimulus_at, RigStep, RigHalt}
 -- each input is a step, and the trace is the lines of all, step by step
 abbrev pub AreSteps : List Input → RigView → List Line → RigView → Type 0
 AreSteps [] old trace new = (trace ≡ []) × (new ≡ old)
-AreSteps (input ∷ more) old trace new = (mid : RigView) × (rest : List Line) × RigStep input old mid × AreSteps more mid rest new × (trace ≡ mid.machine.lines ++ rest)
+AreSteps (input ∷ more) old trace new = (mid : RigView) × (rest : List Line) × RigStep input old mid
+    × AreSteps more mid rest new × (trace ≡ mid.machine.lines ++ rest)
 
 -- These inputs are steps, and at one more the board has not taken a command. Of its lines some are in the trace alone,
 -- and not shown.
-pub record AreStepsToHalt (inputs : List Input) (last : Input) (old : RigView) (trace shown : List Line) (new : RigView) : Type 0 where
+pub record AreStepsToHalt (inputs : List Input) (last : Input) (old : RigView) (trace display : List Line)
+    (new : RigView) : Type 0 where
   pub mid : RigView
   pub earlier : List Line
   pub steps : AreSteps inputs old earlier mid
   pub halt : RigHalt last mid new
   pub trace_is : trace ≡ earlier ++ new.machine.lines
-  pub shown_is : shown ≡ earlier ++ new.lines
+  pub shown_is : display ≡ earlier ++ new.lines
 
 -- a new rig, with this board
 abbrev pub at_rest : CheckedView → BoardView → RigView
@@ -33,7 +35,7 @@ at_rest c board = record {
   lines = [];
   board = board;
   sent = all_off (limits_of c.plan);
-  faulted = None;
+  faulted_coil = None;
 }
 
 -- the stimulus that an input is: which alarm comes, the run itself says
@@ -60,43 +62,54 @@ pub record IsRunOf (inputs : List Input) (old : RigView) (trace : List Line) (ne
 -- Steps of a new rig are a run of its plan, and a board has taken just the commands of its trace.
 abbrev pub StepsAreRun : Type 0
 StepsAreRun =
-    (c : CheckedView) (board : BoardView) (inputs : List Input) (trace : List Line) (new : RigView) → AreSteps inputs (at_rest c board) trace new
-    → IsRunOf inputs (at_rest c board) trace new × TellsMore (commands_of trace) board.told new.board.told
+    (c : CheckedView) (board : BoardView) (inputs : List Input) (trace : List Line) (new : RigView)
+    → AreSteps inputs (at_rest c board) trace new
+    → IsRunOf inputs (at_rest c board) trace new
+    × TellsMore (commands_of trace) board.command_list new.board.command_list
 
 -- So are steps with a last one at which the board has not taken a command. A board that tells its list has added just
 -- the commands of the lines before, which are shown.
 abbrev pub HaltedStepsAreRun : Type 0
 HaltedStepsAreRun =
-    (c : CheckedView) (board : BoardView) (inputs : List Input) (last : Input) (trace shown : List Line) (new : RigView) → AreStepsToHalt inputs last (at_rest c board) trace shown new
-    → IsRunOf (inputs ++ last ∷ []) (at_rest c board) trace new × TellsMore (commands_of shown) board.told new.board.told
-    × ((later : List Line) × (trace ≡ shown ++ later))
+    (c : CheckedView) (board : BoardView) (inputs : List Input) (last : Input) (trace display : List Line)
+    (new : RigView)
+    → AreStepsToHalt inputs last (at_rest c board) trace display new
+    → IsRunOf (inputs ++ last ∷ []) (at_rest c board) trace new
+    × TellsMore (commands_of display) board.command_list new.board.command_list
+    × ((later : List Line) × (trace ≡ display ++ later))
 
 -- What the guard of what was sent knows follows from the commands of the lines that were shown.
 pub record SentIsShown : Type 0 where
-  pub steps : (c : CheckedView) (board : BoardView) (inputs : List Input) (trace : List Line) (new : RigView) → IsAccepted c → AreSteps inputs (at_rest c board) trace new
+  pub steps : (c : CheckedView) (board : BoardView) (inputs : List Input) (trace : List Line) (new : RigView)
+      → IsAccepted c → AreSteps inputs (at_rest c board) trace new
       → Follows (limits_of c.plan) (sendings trace) new.sent new.machine.moment
-  pub halt : (c : CheckedView) (board : BoardView) (inputs : List Input) (last : Input) (trace shown : List Line) (new : RigView) → IsAccepted c
-      → AreStepsToHalt inputs last (at_rest c board) trace shown new → Follows (limits_of c.plan) (sendings shown) new.sent new.machine.moment
+  pub halt : (c : CheckedView) (board : BoardView) (inputs : List Input) (last : Input) (trace display : List Line)
+      (new : RigView) → IsAccepted c
+      → AreStepsToHalt inputs last (at_rest c board) trace display new
+      → Follows (limits_of c.plan) (sendings display) new.sent new.machine.moment
 
 -- Whether a coil is to be turned off at the end: it is on at the moment of the latest stimulus, by the commands of the
 -- lines that were shown, or the board has not taken its last command.
 abbrev pub is_left_on : List Line → RigView → CoilId → Bool
-is_left_on shown rig coil = is_on (sendings shown) coil rig.machine.moment || is_faulted rig.faulted coil
+is_left_on display rig coil = is_on (sendings display) coil rig.machine.moment || is_faulted rig.faulted_coil coil
 
 -- `shut_down` turns off the coils that these lines leave on, and the one whose command the board has not taken.
 abbrev pub PutsOffWhatIsOn : RigView → List Line → Type 0
-PutsOffWhatIsOn rig shown = coils_to_put_off rig ≡ filter (is_left_on shown rig) (coil_numbers rig.checked.plan)
+PutsOffWhatIsOn rig display = coils_to_put_off rig ≡ filter (is_left_on display rig) (coil_numbers rig.checked.plan)
 
 -- So it is after any steps of a new rig (`steps`), and after steps with a last one at which the board has not taken a
 -- command (`halt`).
 pub record OffIsByCommands : Type 0 where
-  pub steps : (c : CheckedView) (board : BoardView) (inputs : List Input) (trace : List Line) (new : RigView) → IsAccepted c → AreSteps inputs (at_rest c board) trace new
+  pub steps : (c : CheckedView) (board : BoardView) (inputs : List Input) (trace : List Line) (new : RigView)
+      → IsAccepted c → AreSteps inputs (at_rest c board) trace new
       → PutsOffWhatIsOn new trace
-  pub halt : (c : CheckedView) (board : BoardView) (inputs : List Input) (last : Input) (trace shown : List Line) (new : RigView) → IsAccepted c
-      → AreStepsToHalt inputs last (at_rest c board) trace shown new → PutsOffWhatIsOn new shown
+  pub halt : (c : CheckedView) (board : BoardView) (inputs : List Input) (last : Input) (trace display : List Line)
+      (new : RigView) → IsAccepted c
+      → AreStepsToHalt inputs last (at_rest c board) trace display new → PutsOffWhatIsOn new display
 
 -- An input is taken exactly if the rig is not halted and it is a stimulus that may come.
 abbrev pub TakesWhatMayCome : Type 0
 TakesWhatMayCome =
     (rig : RigView) (input : Input) (stimulus : Stimulus)
-    → (stimulus_at rig input ≡ Ok stimulus) ↔ ((rig.faulted ≡ None) × IsOfInput input stimulus × IsAllowed rig.checked.plan rig.machine stimulus)
+    → (stimulus_at rig input ≡ Ok stimulus)
+    ↔ ((rig.faulted_coil ≡ None) × IsOfInput input stimulus × IsAllowed rig.checked.plan rig.machine stimulus)

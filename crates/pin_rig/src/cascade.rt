@@ -23,18 +23,19 @@ pub(crate) fn run_cascade<D: Device, B: Board>(
     requires handlers { HasHandlers core.old }
     requires calls { CanCall core.old }
     requires room { StaysWithin core.old }
-    requires sendable { (n : ℕ) → All (IsSendable (length driver.old.sent)) (plan_steps core.old.plan n core.old.machine).lines }
+    requires sendable { (n : ℕ) → All (IsSendable (length driver.old.guard))
+        (plan_steps core.old.plan n core.old.machine).lines }
     ensures settled { HasSettled core.old core.new }
     ensures served { IsServed core.new.machine.lines result driver.old driver.new }
-    ensures coils { length driver.new.sent ≡ length driver.old.sent }
+    ensures coils { length driver.new.guard ≡ length driver.old.guard }
 {
     let mut place = driver.serve(core.lines());
     while place.is_none() {
-        let served = core.lines().len();
+        let line_count = core.lines().len();
         if !advance(core) {
             return None;
         }
-        place = serve_rest(driver, core.lines(), served);
+        place = serve_rest(driver, core.lines(), line_count);
     }
     settle(core);
     place
@@ -45,9 +46,10 @@ pub(crate) fn run_cascade<D: Device, B: Board>(
 #[inline(always)]
 fn serve_rest<B: Board>(driver: &mut Driver<B>, lines: &[Line], from: usize) -> Option<usize>
     requires from { from ≤ length lines.now }
-    requires sendable { All (IsSendable (length driver.old.sent)) lines.now }
-    ensures served { (start : DriverView) → HasSent (take from lines.now) start driver.old → IsServed lines.now result start driver.new }
-    ensures coils { length driver.new.sent ≡ length driver.old.sent }
+    requires sendable { All (IsSendable (length driver.old.guard)) lines.now }
+    ensures served { (start : DriverView) → HasSent (take from lines.now) start driver.old
+        → IsServed lines.now result start driver.new }
+    ensures coils { length driver.new.guard ≡ length driver.old.guard }
 {
     let rest = &lines[from..];
     match driver.serve(rest) {

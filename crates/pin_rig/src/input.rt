@@ -1,7 +1,7 @@
 //! What a rig is given, and why it is refused.
 
 ghost use Rattle.std.specs.Prelude.{◌≡◌};
-ghost use Rattle.pin_rig.specs.Refused.{step_fault_number, step_fault_name, admitted};
+ghost use Rattle.pin_rig.specs.Refused.{step_fault_number, step_fault_name, admission};
 
 // There is no rig for the reasons for which its machine has no core.
 pub use machine_core::CoreFault as RigFault;
@@ -88,7 +88,7 @@ impl StepFault {
 /// - `Backwards`: `at` is before `latest`.
 /// - `TooLate`: `at` is 2^40 ms or later.
 pub fn check_moment(latest: u64, at: u64) -> Result<(), StepFault>
-    ensures { result ≡ admitted latest at }
+    ensures { result ≡ admission latest at }
 {
     if at < latest {
         return Err(StepFault::Backwards);

@@ -29,26 +29,26 @@ pub struct Rig<'c, D: Device, B: Board> {
     core: Core<'c, D>,
     driver: Driver<B>,
     /// How many lines of the latest stimulus are shown.
-    shown: usize,
+    shown_lines: usize,
 }
 
 impl<'c, D: Device, B: Board> Model for Rig<'c, D, B> {
     ghost use Rattle.std.specs.Prelude.{take};
     ghost use Rattle.pin_rig.specs.Rig.{RigView};
-    ghost use Rattle.pin_rig.specs.Inside.{IsHeld};
+    ghost use Rattle.pin_rig.specs.RigState.{IsHeld};
 
     ghost Value = { RigView };
 
     ghost view = { λ r. record {
       checked = r.checked.now;
       machine = r.core.machine;
-      lines = take r.shown r.core.machine.lines;
+      lines = take r.shown_lines r.core.machine.lines;
       board = r.driver.board;
-      sent = r.driver.sent;
-      faulted = r.driver.faulted;
+      sent = r.driver.guard;
+      faulted_coil = r.driver.faulted_coil;
     } };
 
-    ghost invariant = { λ r. IsHeld r.checked.now r.core r.driver r.shown };
+    ghost invariant = { λ r. IsHeld r.checked.now r.core r.driver r.shown_lines };
 }
 
 impl<'c, D: Device, B: Board> Drop for Rig<'c, D, B> {
@@ -58,11 +58,13 @@ impl<'c, D: Device, B: Board> Drop for Rig<'c, D, B> {
 }
 
 impl<'c, D: Device, B: Board> Rig<'c, D, B> {
-    ghost use Rattle.std.specs.Prelude.{◌≡◌, ℕ, false, map, slice_get, Err, IfErr, IfOk, IsOk, IsTrue, MatchResult, option_map, []};
+    ghost use Rattle.std.specs.Prelude.{◌≡◌, ℕ, false, map, slice_get, Err, IfErr, IfOk, IsOk, IsTrue, MatchResult};
+    ghost use Rattle.std.specs.Prelude.{option_map, []};
     ghost use Rattle.std.specs.Borrow.{sem};
     ghost use Rattle.written_machine.specs.Run.{IsReached};
     ghost use Rattle.written_machine.specs.NextAlarm.{next_alarm};
-    ghost use Rattle.pin_rig.specs.Rig.{timely, alarm_at, stimulus_at, RigStep, HasFailed, IsWhy, RunsUnlessHalted, IsOfRun, IsNextMoment};
+    ghost use Rattle.pin_rig.specs.Rig.{timely, alarm_at, stimulus_at, RigStep, HasFailed, IsWhy, RunsUnlessHalted};
+    ghost use Rattle.pin_rig.specs.Rig.{IsOfRun, IsNextMoment};
     ghost use Rattle.pin_rig.specs.Admission.{GivesStimulus, IsAdmitted, alarm_by, IsTaken, IsTakenToHalt};
     ghost use Rattle.coil_driver.specs.Board.{board_view};
     ghost use Rattle.coil_driver.specs.ShutDown.{ArePutOff};
@@ -93,19 +95,22 @@ impl<'c, D: Device, B: Board> Rig<'c, D, B> {
         devices: Vec<D>,
         board: B,
     ) -> Result<Rig<'c, D, B>, RigFault>
-        ensures rest { IfOk result (λ rig. rig ≡ at_rest checked.now (board_view B.told B.fault_count B.answers board)) }
+        ensures rest { IfOk result (λ rig. rig
+            ≡ at_rest checked.now (board_view B.command_list B.fault_count B.answers board)) }
         ensures reached { IfOk result (λ rig. IsReached checked.now.plan [] rig.machine) }
-        ensures fit { IfOk result (λ rig. IsFit checked.now.plan (map D.row_of devices.items) (map D.state_of devices.items)) }
-        ensures wrong { (row : ℕ) → result ≡ Err (RigFault.WrongDevice (record { 0 = row })) → IsFirstWrong checked.now.plan (map D.row_of devices.items) (map D.state_of devices.items) row }
+        ensures fit { IfOk result (λ rig. IsFit checked.now.plan (map D.row_of devices.items)
+            (map D.state_of devices.items)) }
+        ensures wrong { (row : ℕ) → result ≡ Err (RigFault.WrongDevice (record { 0 = row }))
+            → IsFirstWrong checked.now.plan (map D.row_of devices.items) (map D.state_of devices.items) row }
     {
         let plan = checked.plan();
-        let sent = Coils::new(alloc, plan)?;
+        let guard = Coils::new(alloc, plan)?;
         match Core::new(alloc, plan, checked.bound() as usize, devices) {
             Ok(core) => Ok(Rig {
                 checked,
                 core,
-                driver: Driver::new(board, sent),
-                shown: 0,
+                driver: Driver::new(board, guard),
+                shown_lines: 0,
             }),
             Err(fault) => Err(fault),
         }
@@ -134,7 +139,8 @@ impl<'c, D: Device, B: Board> Rig<'c, D, B> {
     ///   of the cascade: `now`, `next_due` and `state` are of that end.
     pub fn step(&mut self, input: Input) -> Result<&[Line], StepFault>
         ensures* after { sem 𝓛 (HasStepped D.row B.row D.Device B.Board input self.entry result) }
-        ensures judged { MatchResult result (λ _. IsOk (stimulus_at self.old input)) (λ fault. IsWhy (stimulus_at self.old input) fault) }
+        ensures judged { MatchResult result (λ _. IsOk (stimulus_at self.old input))
+            (λ fault. IsWhy (stimulus_at self.old input) fault) }
     {
         self.act(input)?;
         Ok(self.trace())
@@ -188,11 +194,11 @@ impl<'c, D: Device, B: Board> Rig<'c, D, B> {
         begin(&mut self.core, stimulus);
         match run_cascade(&mut self.core, &mut self.driver) {
             None => {
-                self.shown = self.core.lines().len();
+                self.shown_lines = self.core.lines().len();
                 true
             }
             Some(place) => {
-                self.shown = place;
+                self.shown_lines = place;
                 false
             }
         }
@@ -234,7 +240,7 @@ impl<'c, D: Device, B: Board> Rig<'c, D, B> {
         ensures running { RunsUnlessHalted self.now }
         ensures reached { IsOfRun self.now }
     {
-        &self.core.lines()[..self.shown]
+        &self.core.lines()[..self.shown_lines]
     }
 
     /// Puts a device in the place of the device of a row, while the machine runs. The new one has to
@@ -255,7 +261,8 @@ impl<'c, D: Device, B: Board> Rig<'c, D, B> {
         ensures same { self.new ≡ self.old }
         ensures may { IfOk result (λ taken. MayTakePlace self.old row (D.row_of device) (D.state_of device)) }
         ensures taken { IfOk result (λ taken. IsTakenOut self.old row (D.row_of taken) (D.state_of taken)) }
-        ensures refused { IfErr result (λ refused. IsRefused self.old row (D.row_of device) (D.state_of device) refused.0) }
+        ensures refused { IfErr result (λ refused. IsRefused self.old row (D.row_of device) (D.state_of device)
+            refused.0) }
         ensures kept { IfErr result (λ refused. refused.1 ≡ device) }
     {
         match self.judge_device(row, &device) {
@@ -266,7 +273,8 @@ impl<'c, D: Device, B: Board> Rig<'c, D, B> {
 
     /// Whether a device may take the place of the one of a row, or why not.
     fn judge_device(&self, row: RowId, device: &D) -> Result<(), Refusal>
-        ensures { MatchResult result (λ _. MayTakePlace self.now row (D.row_of device.now) (D.state_of device.now)) (λ refusal. IsRefused self.now row (D.row_of device.now) (D.state_of device.now) refusal) }
+        ensures { MatchResult result (λ _. MayTakePlace self.now row (D.row_of device.now) (D.state_of device.now))
+            (λ refusal. IsRefused self.now row (D.row_of device.now) (D.state_of device.now) refusal) }
     {
         let is_halted = self.driver.is_halted();
         let plan = self.checked.plan();
@@ -291,7 +299,8 @@ impl<'c, D: Device, B: Board> Rig<'c, D, B> {
     /// Then the devices stop, and they are dropped at the end. The report has the coils whose disable
     /// the board has taken, and the number of the others.
     pub fn shut_down(self) -> (B, ShutReport)
-        ensures off { ArePutOff (coils_to_put_off self.entry) self.entry.board result.1.off.items result.1.faults (board_view B.told B.fault_count B.answers result.0) }
+        ensures off { ArePutOff (coils_to_put_off self.entry) self.entry.board result.1.off.items result.1.faults
+            (board_view B.command_list B.fault_count B.answers result.0) }
     {
         let (_, board, report) = self.end();
         (board, report)
@@ -299,14 +308,16 @@ impl<'c, D: Device, B: Board> Rig<'c, D, B> {
 
     /// What `shut_down` and a drop do. Gives the devices, which have stopped, the board and the report.
     fn end(self) -> (Vec<D>, B, ShutReport)
-        ensures stopped { AreStopped self.entry.checked.plan self.entry.machine (map D.row_of result.0.items) (map D.state_of result.0.items) }
-        ensures off { ArePutOff (coils_to_put_off self.entry) self.entry.board result.2.off.items result.2.faults (board_view B.told B.fault_count B.answers result.1) }
+        ensures stopped { AreStopped self.entry.checked.plan self.entry.machine (map D.row_of result.0.items)
+            (map D.state_of result.0.items) }
+        ensures off { ArePutOff (coils_to_put_off self.entry) self.entry.board result.2.off.items result.2.faults
+            (board_view B.command_list B.fault_count B.answers result.1) }
     {
         let Rig {
             checked,
             core,
             mut driver,
-            shown: _,
+            shown_lines: _,
         } = self;
         let now = core.moment();
         // The coils first: what a device does when it stops must not keep them on.
@@ -317,7 +328,8 @@ impl<'c, D: Device, B: Board> Rig<'c, D, B> {
 
     /// One input, if it is not refused.
     fn act(&mut self, input: Input) -> Result<(), StepFault>
-        ensures { MatchResult result (λ _. RigStep input self.old self.new) (λ fault. HasFailed input self.old self.new fault) }
+        ensures { MatchResult result (λ _. RigStep input self.old self.new)
+            (λ fault. HasFailed input self.old self.new fault) }
     {
         let stimulus = self.admit(input)?;
         if self.take(stimulus) {

@@ -24,7 +24,7 @@ const HINT: &str =
     "hint: DIR is a folder with config/config.yaml in it. Without DIR, standard input is read.";
 
 fn main(rt: HostRuntime) -> ExitCode {
-    match asked(&rt) {
+    match read_ask(&rt) {
         Ok(ask) => {
             let answer = answer(&rt, &ask);
             if let Err(failure) = &answer {
@@ -43,7 +43,7 @@ fn main(rt: HostRuntime) -> ExitCode {
 }
 
 /// What the words after the program's name ask for.
-fn asked<R: Env + AllocGlobal>(rt: &R) -> Result<Ask, AskFault> {
+fn read_ask<R: Env + AllocGlobal>(rt: &R) -> Result<Ask, AskFault> {
     command(rt.alloc(), program_words(rt)?)
 }
 
@@ -99,12 +99,12 @@ fn verify<R: Files + AllocGlobal, W: Write>(
     bundle: &[u8],
     writer: &mut W,
 ) -> Result<Verdict, Failure> {
-    let named = String::from_str(rt.alloc(), path)?;
+    let path_text = String::from_str(rt.alloc(), path)?;
     let Ok(mut certificate) = fs::open(rt, path) else {
-        return Err(Failure::at(ShellFault::Read, named));
+        return Err(Failure::at(ShellFault::Read, path_text));
     };
     let answer = verify_bundle(rt.alloc(), bundle, &mut certificate, writer);
-    answer.map_err(|fault| Failure::at(fault, named))
+    answer.map_err(|fault| Failure::at(fault, path_text))
 }
 
 /// Loads the bundle, and plays the log only if it is accepted.
@@ -114,14 +114,14 @@ fn play<R: Files + AllocGlobal, W: Write>(
     bundle: &[u8],
     writer: &mut W,
 ) -> Result<Verdict, Failure> {
-    let named = String::from_str(rt.alloc(), path)?;
+    let path_text = String::from_str(rt.alloc(), path)?;
     let Some(checked) = load_bundle(rt.alloc(), bundle, writer)? else {
         return Ok(Verdict::Refused);
     };
     let Ok(mut log) = fs::open(rt, path) else {
-        return Err(Failure::at(ShellFault::Read, named));
+        return Err(Failure::at(ShellFault::Read, path_text));
     };
-    play_log(rt.alloc(), &checked, &mut log, writer).map_err(|fault| Failure::at(fault, named))
+    play_log(rt.alloc(), &checked, &mut log, writer).map_err(|fault| Failure::at(fault, path_text))
 }
 
 /// Plays the log on a machine whose devices are made here, one for each row of the plan. Its board is

@@ -16,7 +16,7 @@ use std::rt::{Env, Files};
 const ANSWER_ROOM: usize = 65_536;
 
 fn main(rt: HostRuntime) -> ExitCode {
-    match asked(&rt) {
+    match read_ask(&rt) {
         Ok(ask) => {
             let answer = answer(&rt, &ask);
             if let Err(failure) = &answer {
@@ -32,7 +32,7 @@ fn main(rt: HostRuntime) -> ExitCode {
 }
 
 /// What the words after the program's name ask for.
-fn asked<R: Env + AllocGlobal>(rt: &R) -> Result<LiveAsk, AskFault> {
+fn read_ask<R: Env + AllocGlobal>(rt: &R) -> Result<LiveAsk, AskFault> {
     live_command(rt.alloc(), program_words(rt)?)
 }
 

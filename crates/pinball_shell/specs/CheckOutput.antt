@@ -27,12 +27,12 @@ unfoldable pub refusal_text : RefusalView → List ℕ
 refusal_text r = refusal_lines r ++ codes "no" ++ 10 ∷ []
 
 abbrev pub answer_text : (CheckedView → List ℕ) → Answer → List ℕ
-answer_text accepted (Ok c) = accepted c
-answer_text accepted (Err r) = refusal_text r
+answer_text text_of (Ok c) = text_of c
+answer_text text_of (Err r) = refusal_text r
 
--- The notes come before the answer. `accepted` says what is printed of what was accepted.
+-- The notes come before the answer. `text_of` says what is printed of what was accepted.
 unfoldable pub reply_text : (CheckedView → List ℕ) → Reply → List ℕ
-reply_text accepted r = notes_text r.notes ++ answer_text accepted r.answer
+reply_text text_of r = notes_text r.notes ++ answer_text text_of r.answer
 
 -- all that is printed when a bundle is checked
 abbrev pub check_output : List ℕ → List ℕ

@@ -7,7 +7,8 @@ use Rattle.pinball_shell.specs.CheckOutput.{notes_text, acceptance_text, verific
 
 -- if a bundle is accepted, the reply is the same with the certificate of what was accepted
 abbrev pub AcceptedIsAcceptedAgain : Type 0
-AcceptedIsAcceptedAgain = (bundle : List ℕ) (c : CheckedView) → (reply_to bundle).answer ≡ Ok c → reply_with (certificate_text c) bundle ≡ reply_to bundle
+AcceptedIsAcceptedAgain = (bundle : List ℕ) (c : CheckedView) → (reply_to bundle).answer ≡ Ok c
+    → reply_with (certificate_text c) bundle ≡ reply_to bundle
 
 -- so `check` prints the notes, `yes` and that certificate, and with it `verify` prints the notes, `yes` and the bound
 abbrev pub AcceptedIsPrintedAgain : Type 0
@@ -18,4 +19,5 @@ AcceptedIsPrintedAgain =
 
 -- and that certificate is not longer than those that are read
 abbrev pub AcceptedIsShort : ℕ → Type 0
-AcceptedIsShort limit = (bundle : List ℕ) (c : CheckedView) → (reply_to bundle).answer ≡ Ok c → length (certificate_text c) ≤ limit
+AcceptedIsShort limit = (bundle : List ℕ) (c : CheckedView) → (reply_to bundle).answer ≡ Ok c
+    → length (certificate_text c) ≤ limit

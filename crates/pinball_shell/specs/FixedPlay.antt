@@ -15,15 +15,21 @@ TellsAll board = IsSome board.answers.later
 -- log. And all coils are turned off that are to be turned off.
 abbrev pub TakenIsPlayedOut : Type 0
 TakenIsPlayedOut =
-    (c : CheckedView) (log : List ℕ) (board last : BoardView) (before after : Option (List ℕ)) (verdict : Verdict) → board.answers ≡ takes_all
+    (c : CheckedView) (log : List ℕ) (board last : BoardView) (before after : Option (List ℕ)) (verdict : Verdict)
+    → board.answers ≡ takes_all
     → (play : IsPlayOn c log board last before after verdict)
-    → IsPlayedOut c.plan c.bound log (at_rest c board) play.printed play.rig × (verdict ≡ log_verdict (printed_for_log c.plan c.bound log))
+    → IsPlayedOut c.plan c.bound log (at_rest c board) play.output play.rig
+    × (verdict ≡ log_verdict (printed_for_log c.plan c.bound log))
     × (play.off ≡ coils_to_put_off play.rig)
 
 -- On two boards that tell the same answers to all commands to come, a log is played the same: the same is printed, the
 -- same coils are turned off, the verdict is the same, and so is the text that is written.
 abbrev pub AnswersFixThePlay : Type 0
 AnswersFixThePlay =
-    (c : CheckedView) (log : List ℕ) (board twin last twin_last : BoardView) (before after start end : Option (List ℕ)) (verdict found : Verdict)
-    → TellsAll board → board.answers ≡ twin.answers → (play : IsPlayOn c log board last before after verdict) (again : IsPlayOn c log twin twin_last start end found)
-    → (play.printed ≡ again.printed) × (play.off ≡ again.off) × (verdict ≡ found) × ((text : List ℕ) × Appends before after text × Appends start end text)
+    (c : CheckedView) (log : List ℕ) (board twin last twin_last : BoardView) (before after start end : Option (List ℕ))
+    (verdict end_verdict : Verdict)
+    → TellsAll board → board.answers ≡ twin.answers
+    → (play : IsPlayOn c log board last before after verdict)
+    (again : IsPlayOn c log twin twin_last start end end_verdict)
+    → (play.output ≡ again.output) × (play.off ≡ again.off) × (verdict ≡ end_verdict)
+    × ((text : List ℕ) × Appends before after text × Appends start end text)

@@ -6,5 +6,5 @@ abbrev pub line_end : List ℕ → List ℕ
 line_end text = if (length text == 0) || (slice_index text (length text - 1) == 10) then [] else 10 ∷ []
 
 -- the bundle, the line `@ NAME`, and the text with its last line ended
-abbrev pub joined : List ℕ → List ℕ → List ℕ → List ℕ
-joined bundle name text = ((((bundle ++ codes "@ ") ++ name) ++ 10 ∷ []) ++ text) ++ line_end text
+abbrev pub join_text : List ℕ → List ℕ → List ℕ → List ℕ
+join_text bundle name text = ((((bundle ++ codes "@ ") ++ name) ++ 10 ∷ []) ++ text) ++ line_end text

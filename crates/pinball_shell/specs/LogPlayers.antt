@@ -4,7 +4,7 @@ use Rattle.plan_tables.specs.PlanView.{PlanView}
 use Rattle.written_machine.specs.CheckedView.{CheckedView}
 use Rattle.coil_driver.specs.Board.{BoardView}
 use Rattle.pin_rig.specs.{declared.input.StepFault.TheVariants.BoardFault, Rig.RigView, Steps.at_rest}
-use Rattle.pinball_shell.specs.{declared.refusal.Refusal.{Refusal, TheVariants.Step}, Played.IsRigOf}
+use Rattle.pinball_shell.specs.{declared.refusal.LogRefusal.{LogRefusal, TheVariants.Step}, Played.IsRigOf}
 
 pub record PlayerView : Type 0 where
   -- what is printed is of this plan
@@ -27,5 +27,5 @@ abbrev pub with_page : List ℕ → PlayerView → PlayerView
 with_page page player = record { plan = player.plan; rig = player.rig; page = page; has_stopped = player.has_stopped }
 
 -- why a line is refused if the board has not taken a command of it
-abbrev pub board_refusal : Refusal
+abbrev pub board_refusal : LogRefusal
 board_refusal = Step BoardFault

@@ -29,17 +29,17 @@ checked_by None rows = checked_at rows
 checked_by (Some certificate) rows = checked_with_at rows certificate
 
 -- rows have their notes, whether they are accepted or not; if there are no rows, there are no notes
-abbrev pub replied : Option (List ℕ) → Result Rows RowsFault → Reply
-replied certificate (Ok rows) = record { notes = rows.notes; answer = answer_of (checked_by certificate rows) }
-replied certificate (Err f) = record { notes = []; answer = Err (unread f) }
+abbrev pub reply_of : Option (List ℕ) → Result Rows RowsFault → Reply
+reply_of certificate (Ok rows) = record { notes = rows.notes; answer = answer_of (checked_by certificate rows) }
+reply_of certificate (Err f) = record { notes = []; answer = Err (unread f) }
 
 -- the bundle's rows are read and then checked
 abbrev pub reply_to : List ℕ → Reply
-reply_to bundle = replied None (rows_at bundle)
+reply_to bundle = reply_of None (rows_at bundle)
 
 -- the bundle's rows are read and then checked with the weights of a certificate
 abbrev pub reply_with : List ℕ → List ℕ → Reply
-reply_with certificate bundle = replied (Some certificate) (rows_at bundle)
+reply_with certificate bundle = reply_of (Some certificate) (rows_at bundle)
 
 abbrev pub verdict_on : Answer → Verdict
 verdict_on (Ok c) = Yes

@@ -6,9 +6,9 @@ use Rattle.written_machine.specs.CheckedView.{CheckedView}
 use Rattle.config_checker.specs.View as checked_views
 use Rattle.pinball_shell.specs.declared.reply.{BundleRefusal.BundleRefusal, Reply.Reply as HeldReply}
 use Rattle.pinball_shell.specs.declared.reply.BundleRefusal.TheVariants as refusals
-use Rattle.pinball_shell.specs.declared.fault.Verdict.{Verdict}
-use Rattle.pinball_shell.specs.Reply.{RefusalView, unread, unfit, Answer, Reply, answer_of, checked_by, replied, reply_with, verdict_of}
-use Rattle.pinball_shell.specs.CheckOutput.{notes_text, refusal_lines, refusal_text, acceptance_text, verification_text, reply_text}
+use Rattle.pinball_shell.specs.{declared.fault.Verdict.Verdict, Reply.{reply_with, verdict_of}, CheckOutput.reply_text}
+use Rattle.pinball_shell.specs.Reply.{RefusalView, unread, unfit, Answer, Reply, answer_of, checked_by, reply_of}
+use Rattle.pinball_shell.specs.CheckOutput.{notes_text, refusal_lines, refusal_text, acceptance_text, verification_text}
 
 abbrev pub refusal_view : BundleRefusal → RefusalView
 refusal_view (refusals.Unread f) = unread (rows_views.rows_fault_view f)
@@ -25,7 +25,7 @@ reply_view r = record { notes = map rows_views.note_view r.notes.items; answer =
 
 -- it is the reply to the bundle, with the weights of a certificate if there is one
 abbrev pub IsReplyBy : Option (Bor (List ℕ)) → (bundle : List ℕ) → HeldReply → Type 0
-IsReplyBy certificate bundle reply = replied (option_map (λ c. c.now) certificate) (rows_at bundle) ≡ reply_view reply
+IsReplyBy certificate bundle reply = reply_of (option_map (λ c. c.now) certificate) (rows_at bundle) ≡ reply_view reply
 
 -- it is the reply to the bundle with this certificate
 abbrev pub IsReplyWith : (certificate bundle : List ℕ) → HeldReply → Type 0
@@ -33,7 +33,8 @@ IsReplyWith certificate bundle reply = reply_with certificate bundle ≡ reply_v
 
 -- it is what the checker answers of the rows, with the weights of a certificate if there is one
 abbrev pub IsAnswerBy : Option (Bor (List ℕ)) → Config → Result CheckedView BundleRefusal → Type 0
-IsAnswerBy certificate config answer = answer_of (checked_by (option_map (λ c. c.now) certificate) (rows_views.rows_view config)) ≡ answer_view answer
+IsAnswerBy certificate config answer = answer_of
+    (checked_by (option_map (λ c. c.now) certificate) (rows_views.rows_view config)) ≡ answer_view answer
 
 -- the verdict of a reply
 abbrev pub verdict_of_reply : HeldReply → Verdict

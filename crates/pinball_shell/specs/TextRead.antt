@@ -15,8 +15,9 @@ IfBoth first second holds = IfSome second (λ other. IfSome first (λ one. holds
 
 -- what was written grows by what this prints for the text
 abbrev pub AppendsFor : (text before after : Option (List ℕ)) → (List ℕ → List ℕ) → Type 0
-AppendsFor text before after printed = IfSome text (λ bytes. Appends before after (printed bytes))
+AppendsFor text before after output = IfSome text (λ bytes. Appends before after (output bytes))
 
 -- what was written grows by what this prints for the two texts
 abbrev pub AppendsForBoth : (first second before after : Option (List ℕ)) → (List ℕ → List ℕ → List ℕ) → Type 0
-AppendsForBoth first second before after printed = IfBoth first second (λ one other. Appends before after (printed one other))
+AppendsForBoth first second before after output =
+    IfBoth first second (λ one other. Appends before after (output one other))

@@ -3,8 +3,10 @@
 ghost use Rattle.std.specs.Prelude.{◌≡◌, ◌≢◌, ◌^◌, IfOk, OnOk, IfErr, IfSome, IsSome, IsErrOf, ◌⊎◌};
 ghost use Rattle.std.specs.Io.KnownBytes.{Appends, IsAtEnd, Keeps};
 ghost use Rattle.pinball_shell.specs.Reply.{reply_to, reply_with, verdict_of, accepted_of};
-ghost use Rattle.pinball_shell.specs.ReplyView.{IsReplyBy, IsReplyWith, IsAnswerBy, text_of_checked, text_of_verified, text_of_notes, text_of_refusal, lines_of_refusal};
-ghost use Rattle.pinball_shell.specs.CheckOutput.{acceptance_text, verification_text, check_output, verify_output, load_output};
+ghost use Rattle.pinball_shell.specs.ReplyView.{IsReplyBy, IsReplyWith, IsAnswerBy, text_of_checked, text_of_verified};
+ghost use Rattle.pinball_shell.specs.ReplyView.{text_of_notes, text_of_refusal, lines_of_refusal};
+ghost use Rattle.pinball_shell.specs.CheckOutput.{acceptance_text, verification_text, check_output, verify_output};
+ghost use Rattle.pinball_shell.specs.CheckOutput.{load_output};
 ghost use Rattle.pinball_shell.specs.TextRead.{HasAtMost, HasMoreThan, IfBoth, AppendsFor, AppendsForBoth};
 
 use crate::fault::{ShellFault, Verdict};
@@ -42,10 +44,12 @@ pub fn check_text<R: Read, W: Write>(
     writer: &mut W,
 ) -> Result<Verdict, ShellFault>
     ensures verdict { IfOk result (λ v. IfSome (R.remaining reader.old) (λ bundle. v ≡ verdict_of (reply_to bundle))) }
-    ensures written { OnOk result (AppendsFor (R.remaining reader.old) (W.contents writer.old) (W.contents writer.new) check_output) }
+    ensures written { OnOk result (AppendsFor (R.remaining reader.old) (W.contents writer.old) (W.contents writer.new)
+        check_output) }
     ensures silent { IfErr result (λ e. e ≢ ShellFault.Write → Keeps (W.contents writer.old) (W.contents writer.new)) }
     ensures within { OnOk result (HasAtMost (2 ^ 23) (R.remaining reader.old)) }
     ensures too_long { IsErrOf result ShellFault.TooLong → HasMoreThan (2 ^ 23) (R.remaining reader.old) }
+    ensures no_devices { IfErr result (λ e. e ≢ ShellFault.WrongDevice) }
 {
     let bundle = read_all(alloc, reader, BUNDLE_LIMIT)?;
     check_bundle(alloc, &bundle, writer)
@@ -84,12 +88,18 @@ pub fn verify_text<R: Read, Q: Read, W: Write>(
     certificate: &mut Q,
     writer: &mut W,
 ) -> Result<Verdict, ShellFault>
-    ensures verdict { IfOk result (λ v. IfBoth (Q.remaining certificate.old) (R.remaining bundle.old) (λ stated text. v ≡ verdict_of (reply_with stated text))) }
-    ensures written { OnOk result (AppendsForBoth (Q.remaining certificate.old) (R.remaining bundle.old) (W.contents writer.old) (W.contents writer.new) verify_output) }
+    ensures verdict { IfOk result (λ v. IfBoth (Q.remaining certificate.old) (R.remaining bundle.old)
+        (λ certificate_text text. v ≡ verdict_of (reply_with certificate_text text))) }
+    ensures written { OnOk result (AppendsForBoth (Q.remaining certificate.old) (R.remaining bundle.old)
+        (W.contents writer.old) (W.contents writer.new) verify_output) }
     ensures silent { IfErr result (λ e. e ≢ ShellFault.Write → Keeps (W.contents writer.old) (W.contents writer.new)) }
-    ensures within { OnOk result (HasAtMost (2 ^ 23) (R.remaining bundle.old) × HasAtMost (2 ^ 20) (Q.remaining certificate.old)) }
-    ensures too_long { IsErrOf result ShellFault.TooLong → HasMoreThan (2 ^ 23) (R.remaining bundle.old) ⊎ HasMoreThan (2 ^ 20) (Q.remaining certificate.old) }
-    ensures bundle_first { (IsAtEnd (R.remaining bundle.new) × HasAtMost (2 ^ 23) (R.remaining bundle.old)) ⊎ (certificate.new ≡ certificate.old) }
+    ensures within { OnOk result (HasAtMost (2 ^ 23) (R.remaining bundle.old)
+        × HasAtMost (2 ^ 20) (Q.remaining certificate.old)) }
+    ensures too_long { IsErrOf result ShellFault.TooLong
+        → HasMoreThan (2 ^ 23) (R.remaining bundle.old) ⊎ HasMoreThan (2 ^ 20) (Q.remaining certificate.old) }
+    ensures bundle_first { (IsAtEnd (R.remaining bundle.new) × HasAtMost (2 ^ 23) (R.remaining bundle.old))
+        ⊎ (certificate.new ≡ certificate.old) }
+    ensures no_devices { IfErr result (λ e. e ≢ ShellFault.WrongDevice) }
 {
     let text = read_all(alloc, bundle, BUNDLE_LIMIT)?;
     verify_bundle(alloc, &text, certificate, writer)
@@ -103,12 +113,15 @@ pub fn verify_bundle<Q: Read, W: Write>(
     certificate: &mut Q,
     writer: &mut W,
 ) -> Result<Verdict, ShellFault>
-    ensures verdict { IfOk result (λ v. IfSome (Q.remaining certificate.old) (λ stated. v ≡ verdict_of (reply_with stated bundle.now))) }
-    ensures written { OnOk result (AppendsFor (Q.remaining certificate.old) (W.contents writer.old) (W.contents writer.new)
-        (λ stated. verify_output stated bundle.now)) }
+    ensures verdict { IfOk result (λ v. IfSome (Q.remaining certificate.old)
+        (λ certificate_text. v ≡ verdict_of (reply_with certificate_text bundle.now))) }
+    ensures written { OnOk result (AppendsFor (Q.remaining certificate.old) (W.contents writer.old)
+        (W.contents writer.new)
+        (λ certificate_text. verify_output certificate_text bundle.now)) }
     ensures silent { IfErr result (λ e. e ≢ ShellFault.Write → Keeps (W.contents writer.old) (W.contents writer.new)) }
     ensures within { OnOk result (HasAtMost (2 ^ 20) (Q.remaining certificate.old)) }
     ensures too_long { IsErrOf result ShellFault.TooLong → HasMoreThan (2 ^ 20) (Q.remaining certificate.old) }
+    ensures no_devices { IfErr result (λ e. e ≢ ShellFault.WrongDevice) }
 {
     let reply = reply_with_certificate(alloc, bundle, certificate)?;
     match write_verified(&reply, writer) {
@@ -125,12 +138,15 @@ pub fn load_text<R: Read, W: Write>(
     reader: &mut R,
     writer: &mut W,
 ) -> Result<Option<Checked>, ShellFault>
-    ensures loaded { IfOk result (λ loaded. IfSome (R.remaining reader.old) (λ bundle. loaded ≡ accepted_of (reply_to bundle))) }
-    ensures written { OnOk result (AppendsFor (R.remaining reader.old) (W.contents writer.old) (W.contents writer.new) load_output) }
+    ensures loaded { IfOk result (λ loaded. IfSome (R.remaining reader.old)
+        (λ bundle. loaded ≡ accepted_of (reply_to bundle))) }
+    ensures written { OnOk result (AppendsFor (R.remaining reader.old) (W.contents writer.old) (W.contents writer.new)
+        load_output) }
     ensures quiet { IfOk result (λ loaded. IsSome loaded → Keeps (W.contents writer.old) (W.contents writer.new)) }
     ensures silent { IfErr result (λ e. e ≢ ShellFault.Write → Keeps (W.contents writer.old) (W.contents writer.new)) }
     ensures within { OnOk result (HasAtMost (2 ^ 23) (R.remaining reader.old)) }
     ensures too_long { IsErrOf result ShellFault.TooLong → HasMoreThan (2 ^ 23) (R.remaining reader.old) }
+    ensures no_devices { IfErr result (λ e. e ≢ ShellFault.WrongDevice) }
 {
     let bundle = read_all(alloc, reader, BUNDLE_LIMIT)?;
     load_bundle(alloc, &bundle, writer)
@@ -163,13 +179,15 @@ fn reply_with_certificate<Q: Read>(
     bundle: &[u8],
     certificate: &mut Q,
 ) -> Result<Reply, ShellFault>
-    ensures exact { IfOk result (λ reply. IfSome (Q.remaining certificate.old) (λ stated. IsReplyWith stated bundle.now reply)) }
+    ensures exact { IfOk result (λ reply. IfSome (Q.remaining certificate.old)
+        (λ certificate_text. IsReplyWith certificate_text bundle.now reply)) }
     ensures within { OnOk result (HasAtMost (2 ^ 20) (Q.remaining certificate.old)) }
     ensures too_long { IsErrOf result ShellFault.TooLong → HasMoreThan (2 ^ 20) (Q.remaining certificate.old) }
     ensures reads_only { IfErr result (λ e. e ≢ ShellFault.Write) }
+    ensures no_devices { IfErr result (λ e. e ≢ ShellFault.WrongDevice) }
 {
-    let stated = read_all(alloc, certificate, CERTIFICATE_LIMIT)?;
-    reply_to_text(alloc, bundle, Some(stated.as_slice()))
+    let certificate_text = read_all(alloc, certificate, CERTIFICATE_LIMIT)?;
+    reply_to_text(alloc, bundle, Some(certificate_text.as_slice()))
 }
 
 /// The reply to a bundle, with the weights of a certificate if there is one. Fails only by

@@ -80,7 +80,8 @@ impl Failure {
     ///
     /// The writer's. Then any part of this may have been written.
     pub fn write<W: Write>(&self, writer: &mut W) -> io::Result<()>
-        ensures { OnOk result (Appends (W.contents writer.old) (W.contents writer.new) (failure_text self.now.fault (option_map string_bytes self.now.file))) }
+        ensures { OnOk result (Appends (W.contents writer.old) (W.contents writer.new)
+            (failure_text self.now.fault (option_map string_bytes self.now.file))) }
     {
         let name = self.fault.name();
         match &self.file {

@@ -1,19 +1,21 @@
 //! What the lines of a log say.
 
-ghost use Rattle.std.specs.Prelude.{◌≡◌, ◌<◌, ◌≤◌, nat_lt, true, not, [], ◌∷◌, IfSome, MatchOption, length, take, position};
+ghost use Rattle.std.specs.Prelude.{◌≡◌, ◌<◌, ◌≤◌, nat_lt, true, not, [], ◌∷◌, IfSome, MatchOption, length, take};
+ghost use Rattle.std.specs.Prelude.{position};
 ghost use Rattle.std.specs.List.{list_all, position_or_len};
 ghost use Rattle.std.specs.Char.{is_ascii_digit};
 ghost use Rattle.std.specs.Str.Lines.{lines};
 ghost use Rattle.yaml_bytes.specs.Bytes.{is_blank as blank};
 ghost use Rattle.yaml_bytes.specs.Numbers.{value_of_digits};
-ghost use Rattle.pinball_shell.specs.LogText.{words, moment_in, level_in, wait as wait_at, change as change_at, said_in, said};
+ghost use Rattle.pinball_shell.specs.LogText.{words, moment_in, level_in, wait as wait_at, change as change_at};
+ghost use Rattle.pinball_shell.specs.LogText.{said_in, meaning};
 ghost use Rattle.pinball_shell.specs.LogView.{Says, IsFront};
 
 use yaml_bytes::{is_blank, number, split_line};
 
 /// What a line of a log asks for.
 #[derive(Clone, Copy)]
-pub enum Said<'a> {
+pub enum LogLine<'a> {
     /// The line is empty, or a comment.
     Nothing,
     /// Wait until this moment, in milliseconds.
@@ -39,8 +41,8 @@ pub fn first_line(text: &[u8]) -> (&[u8], &[u8])
 }
 
 /// What a line says.
-pub fn read_line(line: &[u8]) -> Said<'_>
-    ensures { Says result (said line.now) }
+pub fn read_line(line: &[u8]) -> LogLine<'_>
+    ensures { Says result (meaning line.now) }
 {
     match read_usual(line) {
         Some(said) => said,
@@ -52,8 +54,8 @@ pub fn read_line(line: &[u8]) -> Said<'_>
 /// and a level. `None` for a line of any other form. Nearly all lines are usual, and `read_any` takes
 /// more than twice as long: here the digits are read in the pass that finds their end, and the level
 /// at the end of the line.
-fn read_usual(line: &[u8]) -> Option<Said<'_>>
-    ensures { IfSome result (λ s. Says s (said line.now)) }
+fn read_usual(line: &[u8]) -> Option<LogLine<'_>>
+    ensures { IfSome result (λ s. Says s (meaning line.now)) }
 {
     let [front @ .., blank, digit] = line else {
         return None;
@@ -61,7 +63,7 @@ fn read_usual(line: &[u8]) -> Option<Said<'_>>
     let level = read_digit(*digit)?;
     let (at, name) = read_front(front)?;
     if is_blank(*blank) && !name.is_empty() && is_plain(name) {
-        Some(Said::Change(at, name, level))
+        Some(LogLine::Change(at, name, level))
     } else {
         None
     }
@@ -116,34 +118,34 @@ fn is_plain(text: &[u8]) -> bool
 }
 
 /// What a line of any form says.
-fn read_any(line: &[u8]) -> Said<'_>
-    ensures { Says result (said line.now) }
+fn read_any(line: &[u8]) -> LogLine<'_>
+    ensures { Says result (meaning line.now) }
 {
     if line.is_empty() || line[0] == b'#' {
-        Said::Nothing
+        LogLine::Nothing
     } else if is_blank(line[0]) || is_blank(line[line.len() - 1]) {
-        Said::Unreadable
+        LogLine::Unreadable
     } else {
         read_words(line)
     }
 }
 
 /// What the words of a line say: `MOMENT`, or `MOMENT SWITCH LEVEL`.
-fn read_words(line: &[u8]) -> Said<'_>
+fn read_words(line: &[u8]) -> LogLine<'_>
     ensures { Says result (said_in (words line.now)) }
 {
     let Some((moment, rest)) = first_word(line) else {
-        return Said::Unreadable;
+        return LogLine::Unreadable;
     };
     let Some((name, rest)) = first_word(rest) else {
         return wait(moment);
     };
     let Some((level, rest)) = first_word(rest) else {
-        return Said::Unreadable;
+        return LogLine::Unreadable;
     };
     match first_word(rest) {
         None => change(moment, name, level),
-        Some(_) => Said::Unreadable,
+        Some(_) => LogLine::Unreadable,
     }
 }
 
@@ -181,21 +183,21 @@ fn first_blank(text: &[u8]) -> Option<usize>
     text.iter().position(|b| is_blank(*b))
 }
 
-fn wait(moment: &[u8]) -> Said<'_>
+fn wait(moment: &[u8]) -> LogLine<'_>
     ensures { Says result (wait_at (moment_in moment.now)) }
 {
     match read_moment(moment) {
-        None => Said::Unreadable,
-        Some(at) => Said::Wait(at),
+        None => LogLine::Unreadable,
+        Some(at) => LogLine::Wait(at),
     }
 }
 
-fn change<'a>(moment: &[u8], name: &'a [u8], level: &[u8]) -> Said<'a>
+fn change<'a>(moment: &[u8], name: &'a [u8], level: &[u8]) -> LogLine<'a>
     ensures { Says result (change_at (moment_in moment.now) name.now (level_in level.now)) }
 {
     match (read_moment(moment), read_level(level)) {
-        (Some(at), Some(level)) => Said::Change(at, name, level),
-        _ => Said::Unreadable,
+        (Some(at), Some(level)) => LogLine::Change(at, name, level),
+        _ => LogLine::Unreadable,
     }
 }
 

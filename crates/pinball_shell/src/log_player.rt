@@ -4,7 +4,7 @@ ghost use Rattle.std.specs.Prelude.{◌≡◌};
 
 use crate::fault::{ShellFault, Verdict};
 use crate::play::{Stop, play_line};
-use crate::refusal::{Refusal, put_refused};
+use crate::refusal::{LogRefusal, put_refused};
 use coil_guard::Board;
 use config_checker::Checked;
 use device_objects::Device;
@@ -66,17 +66,19 @@ impl<'c, D: Device, B: Board> LogPlayer<'c, D, B> {
         devices: Vec<D>,
         board: B,
     ) -> Result<LogPlayer<'c, D, B>, ShellFault>
-        ensures ready { IfOk result (λ player. player ≡ ready checked.now (board_view B.told B.fault_count B.answers board)) }
+        ensures ready { IfOk result (λ player. player
+            ≡ ready checked.now (board_view B.command_list B.fault_count B.answers board)) }
         ensures accepted { IsAccepted checked.now }
         ensures failed { IfErr result (λ e. (e ≡ ShellFault.NoMemory) ⊎ (e ≡ ShellFault.WrongDevice)) }
         ensures fit { OnOk result (IsFit checked.now.plan (map D.row_of devices.items) (map D.state_of devices.items)) }
-        ensures wrong { IsErrOf result ShellFault.WrongDevice → ¬ (IsFit checked.now.plan (map D.row_of devices.items) (map D.state_of devices.items)) }
+        ensures wrong { IsErrOf result ShellFault.WrongDevice
+            → ¬ (IsFit checked.now.plan (map D.row_of devices.items) (map D.state_of devices.items)) }
     {
-        let printed = PrintedPlan::new(alloc, checked.plan())?;
+        let names = PrintedPlan::new(alloc, checked.plan())?;
         let page = Page::new(alloc)?;
         let rig = Rig::new(alloc, checked, devices, board)?;
         Ok(LogPlayer {
-            plan: printed,
+            plan: names,
             rig,
             page,
             has_stopped: false,
@@ -106,7 +108,10 @@ impl<'c, D: Device, B: Board> LogPlayer<'c, D, B> {
         line: &[u8],
         writer: &mut W,
     ) -> Result<Verdict, Stop>
-        ensures played { self.old.has_stopped ≡ false → PlaysLine self.old.plan number line.now self.old.rig self.new.rig (append_known (W.contents writer.old) self.old.page) (append_known (W.contents writer.new) self.new.page) result }
+        ensures played { self.old.has_stopped ≡ false
+            → PlaysLine self.old.plan number line.now self.old.rig self.new.rig
+            (append_known (W.contents writer.old) self.old.page) (append_known (W.contents writer.new) self.new.page)
+            result }
         ensures plan { self.new.plan ≡ self.old.plan }
         ensures going { OnOk result (self.new.has_stopped ≡ false) }
         ensures over { self.old.has_stopped ≡ true → (result ≡ Err Stop.Board) × (self.new ≡ self.old) }
@@ -114,7 +119,7 @@ impl<'c, D: Device, B: Board> LogPlayer<'c, D, B> {
         if self.has_stopped {
             return Err(Stop::Board);
         }
-        let played = play_line(
+        let answer = play_line(
             &self.plan,
             &mut self.rig,
             number,
@@ -122,8 +127,8 @@ impl<'c, D: Device, B: Board> LogPlayer<'c, D, B> {
             &mut self.page,
             writer,
         );
-        self.has_stopped = played.is_err();
-        played
+        self.has_stopped = answer.is_err();
+        answer
     }
 
     /// Puts on the page that the line of this number is refused, since the board has not taken a
@@ -133,14 +138,15 @@ impl<'c, D: Device, B: Board> LogPlayer<'c, D, B> {
         number: usize,
         writer: &mut W,
     ) -> Result<Verdict, ShellFault>
-        ensures written { OnOk result (Puts (W.contents writer.old) self.old.page (W.contents writer.new) self.new.page (refused_text number board_refusal)) }
+        ensures written { OnOk result (Puts (W.contents writer.old) self.old.page (W.contents writer.new) self.new.page
+            (refused_text number board_refusal)) }
         ensures verdict { IfOk result (λ v. v ≡ Verdict.Refused) }
         ensures failed { IfErr result (λ e. e ≡ ShellFault.Write) }
         ensures kept { self.new ≡ with_page self.new.page self.old }
     {
         put_refused(
             number,
-            Refusal::Step(StepFault::BoardFault),
+            LogRefusal::Step(StepFault::BoardFault),
             &mut self.page,
             writer,
         )?;
@@ -158,7 +164,8 @@ impl<'c, D: Device, B: Board> LogPlayer<'c, D, B> {
     /// Shuts the rig down, and writes which coils were turned off. Gives the board back. Fails only by
     /// the writer. What is on the page is lost.
     pub fn shut_down<W: Write>(self, writer: &mut W) -> Result<B, ShellFault>
-        ensures done { IfOk result (λ b. IsShutDown self.entry.plan self.entry.rig (board_view B.told B.fault_count B.answers b) (W.contents writer.old) (W.contents writer.new)) }
+        ensures done { IfOk result (λ b. IsShutDown self.entry.plan self.entry.rig
+            (board_view B.command_list B.fault_count B.answers b) (W.contents writer.old) (W.contents writer.new)) }
         ensures failed { IfErr result (λ e. e ≡ ShellFault.Write) }
     {
         let LogPlayer { plan, rig, .. } = self;

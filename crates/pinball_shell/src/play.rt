@@ -1,24 +1,26 @@
 //! A log is read and played.
 
-ghost use Rattle.std.specs.Prelude.{◌≡◌, ◌≢◌, ◌^◌, ◌<◌, ◌≤◌, ◌⊎◌, false, None, IfOk, IfErr, OnOk, IfSome, IsErrOf, length, map};
+ghost use Rattle.std.specs.Prelude.{◌≡◌, ◌≢◌, ◌^◌, ◌<◌, ◌≤◌, ◌⊎◌, false, None, IfOk, IfErr, OnOk, IfSome, IsErrOf};
+ghost use Rattle.std.specs.Prelude.{length, map};
 ghost use Rattle.std.specs.Io.KnownBytes.{IsAtEnd, Keeps, append_known};
 ghost use Rattle.written_machine.specs.Machine.{initial};
 ghost use Rattle.coil_driver.specs.Board.{board_view};
 ghost use Rattle.machine_core.specs.Fit.{IsFit};
 ghost use Rattle.machine_core.specs.Stimuli.{stimulus_view};
-ghost use Rattle.pin_rig.specs.Refused.{admitted};
+ghost use Rattle.pin_rig.specs.Refused.{admission};
 ghost use Rattle.pin_rig.specs.Admission.{IsAdmitted};
 ghost use Rattle.pinball_shell.specs.LogView.{given_by_said};
 ghost use Rattle.pinball_shell.specs.RunOfLog.{if_admitted};
 ghost use Rattle.pinball_shell.specs.RunGiven.{PrintsPlayOf};
 ghost use Rattle.pinball_shell.specs.Ends.{IsTextPlayedOn};
 ghost use Rattle.pinball_shell.specs.TextRead.{HasAtMost, HasMoreThan};
-ghost use Rattle.pinball_shell.specs.Played.{worse_of, GivesTimed, IsRigOf, PlaysStimulus, PlaysAlarms, PlaysLine, IsLogPlayed, GivesBack};
+ghost use Rattle.pinball_shell.specs.Played.{worse_of, GivesTimed, IsRigOf, PlaysStimulus, PlaysAlarms, PlaysLine};
+ghost use Rattle.pinball_shell.specs.Played.{IsLogPlayed, GivesBack};
 
 use crate::fault::{ShellFault, Verdict};
-use crate::log_line::{Said, first_line, read_line};
+use crate::log_line::{LogLine, first_line, read_line};
 use crate::log_player::LogPlayer;
-use crate::refusal::{Refusal, put_refused};
+use crate::refusal::{LogRefusal, put_refused};
 use crate::text::read_all;
 use coil_guard::Board;
 use config_checker::Checked;
@@ -90,14 +92,17 @@ pub fn play_text<D: Device, B: Board, R: Read, W: Write>(
     reader: &mut R,
     writer: &mut W,
 ) -> Result<Verdict, ShellFault>
-    ensures played { IfOk result (IsTextPlayedOn checked.now (R.remaining reader.old) (board_view B.told B.fault_count B.answers board) (W.contents writer.old) (W.contents writer.new)) }
+    ensures played { IfOk result (IsTextPlayedOn checked.now (R.remaining reader.old)
+        (board_view B.command_list B.fault_count B.answers board) (W.contents writer.old) (W.contents writer.new)) }
     ensures run { OnOk result (IfSome (R.remaining reader.old) (PrintsPlayOf checked.now)) }
     ensures silent { IfErr result (λ e. e ≢ ShellFault.Write → Keeps (W.contents writer.old) (W.contents writer.new)) }
     ensures within { OnOk result (HasAtMost (2 ^ 24) (R.remaining reader.old)) }
     ensures too_long { IsErrOf result ShellFault.TooLong → HasMoreThan (2 ^ 24) (R.remaining reader.old) }
     ensures fit { OnOk result (IsFit checked.now.plan (map D.row_of devices.items) (map D.state_of devices.items)) }
-    ensures wrong { IsErrOf result ShellFault.WrongDevice → ¬ (IsFit checked.now.plan (map D.row_of devices.items) (map D.state_of devices.items)) }
-    ensures log_first { IsErrOf result ShellFault.WrongDevice → IsAtEnd (R.remaining reader.new) × HasAtMost (2 ^ 24) (R.remaining reader.old) }
+    ensures wrong { IsErrOf result ShellFault.WrongDevice
+        → ¬ (IsFit checked.now.plan (map D.row_of devices.items) (map D.state_of devices.items)) }
+    ensures log_first { IsErrOf result ShellFault.WrongDevice
+        → IsAtEnd (R.remaining reader.new) × HasAtMost (2 ^ 24) (R.remaining reader.old) }
 {
     let log = read_all(alloc, reader, LOG_LIMIT)?;
     let (verdict, _board) = play_log(alloc, checked, devices, board, &log, writer)?;
@@ -115,12 +120,15 @@ fn play_log<D: Device, B: Board, W: Write>(
     writer: &mut W,
 ) -> Result<(Verdict, B), ShellFault>
     requires { length log.now ≤ 2 ^ 24 }
-    ensures played { IfOk result (GivesBack (board_view B.told B.fault_count B.answers) checked.now log.now board (W.contents writer.old) (W.contents writer.new)) }
+    ensures played { IfOk result (GivesBack (board_view B.command_list B.fault_count B.answers) checked.now log.now
+        board (W.contents writer.old) (W.contents writer.new)) }
     ensures run { PrintsPlayOf checked.now log.now }
     ensures silent { IfErr result (λ e. e ≢ ShellFault.Write → Keeps (W.contents writer.old) (W.contents writer.new)) }
-    ensures failed { IfErr result (λ e. (e ≡ ShellFault.NoMemory) ⊎ (e ≡ ShellFault.WrongDevice) ⊎ (e ≡ ShellFault.Write)) }
+    ensures failed { IfErr result (λ e. (e ≡ ShellFault.NoMemory) ⊎ (e ≡ ShellFault.WrongDevice)
+        ⊎ (e ≡ ShellFault.Write)) }
     ensures fit { OnOk result (IsFit checked.now.plan (map D.row_of devices.items) (map D.state_of devices.items)) }
-    ensures wrong { IsErrOf result ShellFault.WrongDevice → ¬ (IsFit checked.now.plan (map D.row_of devices.items) (map D.state_of devices.items)) }
+    ensures wrong { IsErrOf result ShellFault.WrongDevice
+        → ¬ (IsFit checked.now.plan (map D.row_of devices.items) (map D.state_of devices.items)) }
 {
     let mut player = LogPlayer::new(alloc, checked, devices, board)?;
     let verdict = play_lines(&mut player, log, writer)?;
@@ -138,9 +146,11 @@ fn play_lines<D: Device, B: Board, W: Write>(
 ) -> Result<Verdict, ShellFault>
     requires log { length log.now ≤ 2 ^ 24 }
     requires rest { player.old.rig.machine ≡ initial player.old.plan }
-    requires running { player.old.rig.faulted ≡ None }
+    requires running { player.old.rig.faulted_coil ≡ None }
     requires going { player.old.has_stopped ≡ false }
-    ensures played { IfOk result (λ v. IsLogPlayed player.old.plan player.old.rig.checked.bound log.now player.old.rig player.new.rig (append_known (W.contents writer.old) player.old.page) (append_known (W.contents writer.new) player.new.page) v) }
+    ensures played { IfOk result (λ v. IsLogPlayed player.old.plan player.old.rig.checked.bound log.now player.old.rig
+        player.new.rig (append_known (W.contents writer.old) player.old.page)
+        (append_known (W.contents writer.new) player.new.page) v) }
     ensures plan { player.new.plan ≡ player.old.plan }
     ensures failed { IfErr result (λ e. e ≡ ShellFault.Write) }
 {
@@ -180,7 +190,8 @@ pub(crate) fn play_line<D: Device, B: Board, W: Write>(
     writer: &mut W,
 ) -> Result<Verdict, Stop>
     requires { IsRigOf plan.now rig.old }
-    ensures { PlaysLine plan.now number line.now rig.old rig.new (append_known (W.contents writer.old) page.old) (append_known (W.contents writer.new) page.new) result }
+    ensures { PlaysLine plan.now number line.now rig.old rig.new (append_known (W.contents writer.old) page.old)
+        (append_known (W.contents writer.new) page.new) result }
 {
     match given_by(plan, rig.now(), read_line(line)) {
         Ok(None) => Ok(Verdict::Yes),
@@ -201,24 +212,24 @@ pub(crate) fn play_line<D: Device, B: Board, W: Write>(
 fn given_by(
     plan: &PrintedPlan<'_>,
     now: u64,
-    line: Said<'_>,
-) -> Result<Option<(u64, Stimulus)>, Refusal>
+    line: LogLine<'_>,
+) -> Result<Option<(u64, Stimulus)>, LogRefusal>
     ensures { GivesTimed result (given_by_said plan.now now line.entry) }
 {
     match line {
-        Said::Nothing => Ok(None),
-        Said::Unreadable => Err(Refusal::BadLine),
-        Said::Wait(at) => given_at(now, at, Stimulus::Wait(at)),
-        Said::Change(at, name, level) => match plan.tables().find_switch(name) {
-            None => Err(Refusal::Step(StepFault::NoSuchSwitch)),
+        LogLine::Nothing => Ok(None),
+        LogLine::Unreadable => Err(LogRefusal::BadLine),
+        LogLine::Wait(at) => given_at(now, at, Stimulus::Wait(at)),
+        LogLine::Change(at, name, level) => match plan.tables().find_switch(name) {
+            None => Err(LogRefusal::Step(StepFault::NoSuchSwitch)),
             Some(switch) => given_at(now, at, Stimulus::SwitchChange(at, switch, level)),
         },
     }
 }
 
 /// A stimulus and its moment, if the moment is admitted.
-fn given_at(now: u64, at: u64, stimulus: Stimulus) -> Result<Option<(u64, Stimulus)>, Refusal>
-    ensures { result ≡ if_admitted (admitted now at) (at, stimulus) }
+fn given_at(now: u64, at: u64, stimulus: Stimulus) -> Result<Option<(u64, Stimulus)>, LogRefusal>
+    ensures { result ≡ if_admitted (admission now at) (at, stimulus) }
 {
     check_moment(now, at)?;
     Ok(Some((at, stimulus)))
@@ -235,7 +246,8 @@ fn play_alarms<D: Device, B: Board, W: Write>(
     requires until { until < 2 ^ 40 }
     requires forward { rig.old.machine.moment ≤ until }
     requires rig { IsRigOf plan.now rig.old }
-    ensures { PlaysAlarms plan.now until rig.old rig.new (append_known (W.contents writer.old) page.old) (append_known (W.contents writer.new) page.new) result }
+    ensures { PlaysAlarms plan.now until rig.old rig.new (append_known (W.contents writer.old) page.old)
+        (append_known (W.contents writer.new) page.new) result }
 {
     while let Some(alarm) = rig.alarm_by(until) {
         play_stimulus(plan, rig, alarm, page, writer)?;
@@ -254,7 +266,8 @@ fn play_stimulus<D: Device, B: Board, W: Write>(
 ) -> Result<(), Stop>
     requires taken { IsAdmitted rig.old (stimulus_view stimulus) }
     requires plan { rig.old.checked.plan ≡ plan.now }
-    ensures { PlaysStimulus plan.now (stimulus_view stimulus) rig.old rig.new (append_known (W.contents writer.old) page.old) (append_known (W.contents writer.new) page.new) result }
+    ensures { PlaysStimulus plan.now (stimulus_view stimulus) rig.old rig.new
+        (append_known (W.contents writer.old) page.old) (append_known (W.contents writer.new) page.new) result }
 {
     let is_served = rig.take(stimulus);
     put_trace(plan, rig.trace(), page, writer)?;

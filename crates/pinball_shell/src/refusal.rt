@@ -4,7 +4,7 @@ ghost use Rattle.std.specs.Prelude.{◌≡◌, OnOk};
 ghost use Rattle.std.specs.Io.KnownBytes.{Appends};
 ghost use Rattle.trace_lines.specs.Pages.{Puts};
 ghost use Rattle.pinball_shell.specs.TraceText.{refusal_number, refusal_name, refused_text};
-ghost use Rattle.pinball_shell.specs.declared.refusal.Refusal.TheVariants as refusals;
+ghost use Rattle.pinball_shell.specs.declared.refusal.LogRefusal.TheVariants as refusals;
 
 use pin_rig::StepFault;
 use std::io::{self, Write};
@@ -12,21 +12,21 @@ use trace_lines::{Page, WriteFailed};
 
 /// Why a line of a log is not played.
 #[derive(Clone, Copy)]
-pub enum Refusal {
+pub enum LogRefusal {
     /// It asks for a stimulus that may not come.
     Step(StepFault),
     /// It is no line of a log.
     BadLine,
 }
 
-impl Refusal {
+impl LogRefusal {
     /// The number with which it is printed.
     pub fn number(self) -> u32
         ensures { result ≡ refusal_number self }
     {
         match self {
-            Refusal::Step(fault) => fault.number(),
-            Refusal::BadLine => 8,
+            LogRefusal::Step(fault) => fault.number(),
+            LogRefusal::BadLine => 8,
         }
     }
 
@@ -35,35 +35,36 @@ impl Refusal {
         ensures { result.now ≡ refusal_name self }
     {
         match self {
-            Refusal::Step(fault) => fault.name(),
-            Refusal::BadLine => "BadLine",
+            LogRefusal::Step(fault) => fault.name(),
+            LogRefusal::BadLine => "BadLine",
         }
     }
 }
 
-impl From<StepFault> for Refusal {
+impl From<StepFault> for LogRefusal {
     ghost from_gives = { λ fault refusal. refusal ≡ refusals.Step fault };
 
-    fn from(fault: StepFault) -> Refusal {
-        Refusal::Step(fault)
+    fn from(fault: StepFault) -> LogRefusal {
+        LogRefusal::Step(fault)
     }
 }
 
 /// Writes what is on the page, and then that the line of this number is refused.
 pub fn put_refused<W: Write>(
     line: usize,
-    refusal: Refusal,
+    refusal: LogRefusal,
     page: &mut Page,
     writer: &mut W,
 ) -> Result<(), WriteFailed>
-    ensures { OnOk result (Puts (W.contents writer.old) page.old (W.contents writer.new) page.new (refused_text line refusal)) }
+    ensures { OnOk result (Puts (W.contents writer.old) page.old (W.contents writer.new) page.new
+        (refused_text line refusal)) }
 {
     page.write_out(writer)?;
     write_refused(line, refusal, writer).map_err(|_| WriteFailed)
 }
 
 /// Writes that the line of this number is refused.
-fn write_refused<W: Write>(line: usize, refusal: Refusal, writer: &mut W) -> io::Result<()>
+fn write_refused<W: Write>(line: usize, refusal: LogRefusal, writer: &mut W) -> io::Result<()>
     ensures { OnOk result (Appends (W.contents writer.old) (W.contents writer.new) (refused_text line refusal)) }
 {
     writeln!(

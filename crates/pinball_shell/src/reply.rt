@@ -4,8 +4,8 @@ ghost use Rattle.std.specs.Prelude.{◌≡◌};
 ghost use Rattle.pinball_shell.specs.ReplyView.{verdict_of_reply};
 
 use crate::fault::Verdict;
-use config_checker::{Checked, Fault};
-use mpf_config::{Fault as RowsFault, Note};
+use config_checker::{CheckFault, Checked};
+use mpf_config::{BundleFault as RowsFault, Note};
 
 /// Why a bundle is refused.
 #[derive(Drop)]
@@ -13,7 +13,7 @@ pub enum BundleRefusal {
     /// It has no rows: the fault that was met first.
     Unread(RowsFault),
     /// Its rows are refused: the faults that the report lists.
-    Unfit(Vec<Fault>),
+    Unfit(Vec<CheckFault>),
 }
 
 /// The reply to a bundle.

@@ -1,8 +1,9 @@
 //! A text is read whole before it is checked, and texts are joined into a bundle.
 
-ghost use Rattle.std.specs.Prelude.{◌≡◌, ◌≢◌, ◌^◌, ◌<◌, ◌≤◌, IfOk, OnOk, IfErr, IfSome, IsErrOf, IsTrue, false, vec_len, length, ◌⊎◌};
+ghost use Rattle.std.specs.Prelude.{◌≡◌, ◌≢◌, ◌^◌, ◌<◌, ◌≤◌, IfOk, OnOk, IfErr, IfSome, IsErrOf, IsTrue, false};
+ghost use Rattle.std.specs.Prelude.{vec_len, length, ◌⊎◌};
 ghost use Rattle.std.specs.Io.KnownBytes.{IsAtEnd};
-ghost use Rattle.pinball_shell.specs.Joined.{joined, line_end};
+ghost use Rattle.pinball_shell.specs.Joined.{join_text, line_end};
 ghost use Rattle.pinball_shell.specs.TextRead.{HasMoreThan};
 
 use crate::check::BUNDLE_LIMIT;
@@ -57,9 +58,9 @@ pub fn read_all<R: Read>(alloc: Global, reader: &mut R, limit: usize) -> Result<
 /// - `TooLong`: that would have more than 8 MiB.
 /// - `NoMemory`: there is no room for it.
 pub fn join(alloc: Global, bundle: &[u8], name: &[u8], text: &[u8]) -> Result<Vec<u8>, ShellFault>
-    ensures joined { IfOk result (λ all. all.items ≡ joined bundle.now name.now text.now) }
+    ensures joined { IfOk result (λ all. all.items ≡ join_text bundle.now name.now text.now) }
     ensures within { IfOk result (λ all. vec_len all ≤ 2 ^ 23) }
-    ensures too_long { IsErrOf result ShellFault.TooLong → 2 ^ 23 < length (joined bundle.now name.now text.now) }
+    ensures too_long { IsErrOf result ShellFault.TooLong → 2 ^ 23 < length (join_text bundle.now name.now text.now) }
     ensures only { IfErr result (λ e. (e ≡ ShellFault.TooLong) ⊎ (e ≡ ShellFault.NoMemory)) }
 {
     if is_too_long(bundle, name, text) {
@@ -78,9 +79,10 @@ pub fn join(alloc: Global, bundle: &[u8], name: &[u8], text: &[u8]) -> Result<Ve
 /// - `TooLong`: it would have more than 8 MiB. It is as it was.
 /// - `NoMemory`: there is no room for it. How much has been added is not said.
 pub fn append_text(bundle: &mut Vec<u8>, name: &[u8], text: &[u8]) -> Result<(), ShellFault>
-    ensures joined { OnOk result (bundle.new.items ≡ joined bundle.old.items name.now text.now) }
+    ensures joined { OnOk result (bundle.new.items ≡ join_text bundle.old.items name.now text.now) }
     ensures within { OnOk result (vec_len bundle.new ≤ 2 ^ 23) }
-    ensures too_long { IsErrOf result ShellFault.TooLong → 2 ^ 23 < length (joined bundle.old.items name.now text.now) }
+    ensures too_long { IsErrOf result ShellFault.TooLong
+        → 2 ^ 23 < length (join_text bundle.old.items name.now text.now) }
     ensures same { IsErrOf result ShellFault.TooLong → bundle.new ≡ bundle.old }
     ensures only { IfErr result (λ e. (e ≡ ShellFault.TooLong) ⊎ (e ≡ ShellFault.NoMemory)) }
 {
@@ -93,8 +95,8 @@ pub fn append_text(bundle: &mut Vec<u8>, name: &[u8], text: &[u8]) -> Result<(),
 
 /// Whether a bundle with one text more would be too long.
 fn is_too_long(bundle: &[u8], name: &[u8], text: &[u8]) -> bool
-    ensures over { IsTrue result → 2 ^ 23 < length (joined bundle.now name.now text.now) }
-    ensures within { result ≡ false → length (joined bundle.now name.now text.now) ≤ 2 ^ 23 }
+    ensures over { IsTrue result → 2 ^ 23 < length (join_text bundle.now name.now text.now) }
+    ensures within { result ≡ false → length (join_text bundle.now name.now text.now) ≤ 2 ^ 23 }
 {
     let end = line_end(text);
     let parts = bundle.len() as u128 + name.len() as u128 + text.len() as u128;
@@ -103,7 +105,7 @@ fn is_too_long(bundle: &[u8], name: &[u8], text: &[u8]) -> bool
 
 /// Adds a text to a bundle. Fails only by memory.
 fn add_text(all: &mut Vec<u8>, name: &[u8], text: &[u8]) -> Result<(), AllocError>
-    ensures { OnOk result (all.new.items ≡ joined all.old.items name.now text.now) }
+    ensures { OnOk result (all.new.items ≡ join_text all.old.items name.now text.now) }
 {
     let end = line_end(text);
     all.extend_from_slice(b"@ ")?;

@@ -1,14 +1,16 @@
--- What ball devices are like, and all other devices: each effect list of a ball device does what it is for, it listens to
+-- What ball devices are like, and all other devices: each effect list of a ball device does what it is for, it listens
+-- to
 -- its ball switches, and no event acts on it; no other device has to do with the balls of one.
-use Rattle.std.proofs.Common.{rules, ◌≡◌, ℕ, Bool, true, false, if◌then◌else◌, List, [], ◌∷◌, ◌++◌, map, get_or, refl, codes}
+use Rattle.std.proofs.Common.{rules, ◌≡◌, ℕ, Bool, true, false, if◌then◌else◌, List, [], ◌∷◌, ◌++◌, map, get_or, refl}
+use Rattle.std.proofs.{Common.codes, lemmas.List.{length-map, Elements.{All-nil, All-cons, All-append}}}
 use Rattle.std.specs.{Prelude.{Option, None, Some, IfSome, slice_index_or}, Str.bytes_eq, List.All}
-use Rattle.std.proofs.lemmas.List.{length-map, Elements.{All-nil, All-cons, All-append}}
 use Rattle.mpf_sections.specs.Rows as sections
-use Rattle.mpf_sections.specs.Rows.{Written, Entry, Player, Shot, BallDevice, ModeSettings, Content, entries, players, SectionRows}
+use Rattle.mpf_sections.specs.Rows.{WrittenName, Entry, Player, Shot, BallDeviceEntry, ModeSettings, Content, entries}
+use Rattle.mpf_sections.specs.{Rows.{players, SectionRows}, TypedBalls.ball_device_of}
 use Rattle.mpf_sections.specs.Typed.{switches_name, event_player_name, switch_of, event_player_of, mode_settings}
 use Rattle.mpf_sections.specs.TypedCoils.{coils_name, coil_player_name, coil_of, coil_player_of}
 use Rattle.mpf_sections.specs.TypedGame.{variable_player_name, game_name, variable_player_of, game_of}
-use Rattle.mpf_sections.specs.{TypedShots.{shot_of, shot_group_of}, TypedBalls.ball_device_of}
+use Rattle.mpf_sections.specs.TypedShots.{shot_of, shot_group_of}
 use Rattle.mpf_config.specs.Rows.{Rows}
 use Rattle.machine_definitions.specs.Shots.{Profile, has_profile, profile_of_name}
 use Rattle.plan_tables.specs.declared.{devices.Settings.Settings, entries.ModeId.ModeId}
@@ -23,11 +25,14 @@ use Rattle.plan_parts.specs.CoilEntries.{item_effect, defaults_called, own_pulse
 use Rattle.plan_parts.specs.DeviceEntries.{texts, Device, events, always, device_of}
 use Rattle.plan_parts.specs.BallEntries.{drains, ball_event, is_known, ball_device_from, attempt_effects}
 use Rattle.plan_parts.specs.ShotEntries.{shot_acts, lone_device, group_device}
-use Rattle.plan_parts.specs.Parts.{Whose, Part, handler, device, mode, mention, unknown, run, start, stop, act_on, control, stops_at_ball_end, stops_at_game_end, where_some, where_true, unknown_unless, mode_parts, machine_device, switch_part, coil_part, game_part, machine_entry_parts, entry_parts, alone_parts, player_parts, seated, row_parts, text_parts, parts_of}
+use Rattle.plan_parts.specs.Parts.{Whose, Part, handler, device, mode, mention, unknown, run, start, stop, act_on}
+use Rattle.plan_parts.specs.Parts.{control, stops_at_ball_end, stops_at_game_end, where_some, where_true}
+use Rattle.plan_parts.specs.Parts.{unknown_unless, mode_parts, machine_device, switch_part, coil_part, game_part}
+use Rattle.plan_parts.specs.Parts.{machine_entry_parts, entry_parts, alone_parts, player_parts, with_seat, row_parts}
+use Rattle.plan_parts.specs.{Parts.{text_parts, parts_of}, PartBalls.{IsBallFree, IsRightDevice, IsRight}}
 use Rattle.plan_parts.proofs.{NamedFacts.attempts, RuleFacts.{IsRule, machine_rule}}
 use Rattle.plan_parts.proofs.{WalkFacts.{IsSuch, text_each, EachRow}, PartFacts.{parts_each, IsTextOf, EachText}}
 use Rattle.plan_parts.proofs.DeviceFacts.{IsPlain, IsShared, plain_lone, plain_group, device_shared}
-use Rattle.plan_parts.specs.PartBalls.{IsBallFree, IsRightDevice, IsRight}
 
 -- ---- one device
 
@@ -38,29 +43,30 @@ right_plain d plain = by d.settings plain.settings
     by (kinds.BallDevice b) is = absurd is
     by _ is = plain.lists
 
-right_ball_device : (machine : List SectionRows) (d : BallDevice) (to : Destination)
+right_ball_device : (machine : List SectionRows) (d : BallDeviceEntry) (to : Destination)
     → IsRightDevice (ball_device_from machine d to).settings (ball_device_from machine d to)
 right_ball_device machine d to = record {
   lists = record {
     event = ball_event d.name.text (codes "_ball_enter");
     drain = drains machine d;
-    entered = refl;
-    attempted = attempts machine d.name.text IsBallFree tt tt d.eject_coil (any d.eject_coil);
-    left = refl;
-    lost = refl;
-    succeeded = free (ball_event d.name.text (codes "_ball_eject_success"));
-    arrived = refl;
-    failed = free (ball_event d.name.text (codes "_ball_eject_failed"));
+    entry = refl;
+    attempt = attempts machine d.name.text IsBallFree tt tt d.eject_coil (any d.eject_coil);
+    exit = refl;
+    loss = refl;
+    success = free (ball_event d.name.text (codes "_ball_eject_success"));
+    arrival = refl;
+    failure = free (ball_event d.name.text (codes "_ball_eject_failed"));
   };
   count = refl;
-  listens = length-map d.switches (λ (w : Written). w.text);
-  handled = refl;
+  listens = length-map d.switches (λ (w : WrittenName). w.text);
+  event_acts = refl;
 }
   where
     free : (n : List ℕ) → All IsBallFree (posts n ∷ [])
     free n = All-cons IsBallFree (posts n) [] tt (All-nil IsBallFree)
 
-    any : (o : Option Written) → IfSome o (λ w. IsBallFree (works w.text (own_pulse (defaults_called machine w.text))))
+    any : (o : Option WrittenName) → IfSome o
+        (λ w. IsBallFree (works w.text (own_pulse (defaults_called machine w.text))))
     any x1 = search rules
 
 -- ---- parts
@@ -82,7 +88,7 @@ in_unknown : (known : Bool) → Are (unknown_unless known)
 in_unknown true = All-nil IsRight
 in_unknown false = one unknown tt
 
-in_mention : (o : Option Written) → Are (where_some (λ w. mention Switches w.text) o)
+in_mention : (o : Option WrittenName) → Are (where_some (λ w. mention Switches w.text) o)
 in_mention None = All-nil IsRight
 in_mention (Some w) = one (mention Switches w.text) tt
 
@@ -118,24 +124,29 @@ module _ (rows : Rows) (whose : Whose) where
   abbrev machine : List SectionRows
   machine = rows.machine
 
-  in_seated : (p : Profile) (s : Shot) (seat : Option Seat) → Are (seated machine whose p s seat)
+  in_seated : (p : Profile) (s : Shot) (seat : Option Seat) → Are (with_seat machine whose p s seat)
   in_seated p s None = one (device whose (lone_device p s)) (right_plain (lone_device p s) (plain_lone p s))
-  in_seated p s (Some seat) = each (λ h. handler whose h.0 (act_on (record { 0 = seat.row }) h.1)) (λ h. tt) (shot_acts seat.shot s)
+  in_seated p s (Some seat) = each (λ h. handler whose h.0 (act_on (record { 0 = seat.row }) h.1)) (λ h. tt)
+      (shot_acts seat.shot s)
 
   in_machine_entry : (section : List ℕ) (e : Entry) → Are (machine_entry_parts machine whose section e)
   unfolding machine_entry_parts
   in_machine_entry section e =
       when (bytes_eq section coils_name) (coil_part machine whose (coil_of e) ∷ [])
-      (if bytes_eq section switches_name then switch_part machine whose (switch_of e) ∷ [] else where_some (device whose) (machine_device machine whose section e))
+      (if bytes_eq section switches_name then switch_part machine whose (switch_of e)
+      ∷ [] else where_some (device whose) (machine_device machine whose section e))
       (one (coil_part machine whose (coil_of e)) tt)
-      (when (bytes_eq section switches_name) (switch_part machine whose (switch_of e) ∷ []) (where_some (device whose) (machine_device machine whose section e))
+      (when (bytes_eq section switches_name) (switch_part machine whose (switch_of e) ∷ [])
+      (where_some (device whose) (machine_device machine whose section e))
       (one (switch_part machine whose (switch_of e)) tt)
-      (in_rule whose (machine_device machine whose section e) (machine_rule (Unit {0}) ⊥ e (λ x. absurd x) machine whose section)))
+      (in_rule whose (machine_device machine whose section e)
+      (machine_rule (Unit {0}) ⊥ e (λ x. absurd x) machine whose section)))
 
   in_entry : (place : Place) (section : List ℕ) (e : Entry) → Are (row_parts machine whose (entry place section e))
   unfolding row_parts entry_parts
   in_entry Machine section e = in_machine_entry section e
-  in_entry Control section e = in_shared whose (device_of section e) (device_shared (Unit {0}) ⊥ e (λ x. absurd x) section)
+  in_entry Control section e = in_shared whose (device_of section e)
+      (device_shared (Unit {0}) ⊥ e (λ x. absurd x) section)
   in_entry Mode section e = in_shared whose (device_of section e) (device_shared (Unit {0}) ⊥ e (λ x. absurd x) section)
 
   in_alone : (place : Place) (section : List ℕ) (e : Entry) → Are (row_parts machine whose (alone place section e))
@@ -150,15 +161,22 @@ module _ (rows : Rows) (whose : Whose) where
 
   in_player : (place : Place) (section : List ℕ) (p : Player) → Are (row_parts machine whose (player place section p))
   unfolding row_parts player_parts
-  in_player place section p = by (bytes_eq section event_player_name) (bytes_eq section coil_player_name) (bytes_eq section variable_player_name)
+  in_player place section p = by (bytes_eq section event_player_name) (bytes_eq section coil_player_name)
+      (bytes_eq section variable_player_name)
     where
       by : (e c v : Bool)
-          → Are (if e then handler whose (event_player_of p).event.event (run (map posts (texts (event_player_of p).posts))) ∷ []
-          else (if c then handler whose (coil_player_of p).event.event (run (map (item_effect machine) (coil_player_of p).items)) ∷ []
-          else (if v then handler whose (variable_player_of p).event.event (run (map item_change (variable_player_of p).items)) ∷ [] else [])))
-      by true c v = one (handler whose (event_player_of p).event.event (run (map posts (texts (event_player_of p).posts)))) tt
-      by false true v = one (handler whose (coil_player_of p).event.event (run (map (item_effect machine) (coil_player_of p).items))) tt
-      by false false true = one (handler whose (variable_player_of p).event.event (run (map item_change (variable_player_of p).items))) tt
+          → Are (if e then handler whose (event_player_of p).event.event
+          (run (map posts (texts (event_player_of p).posts))) ∷ []
+          else (if c then handler whose (coil_player_of p).event.event
+          (run (map (item_effect machine) (coil_player_of p).items)) ∷ []
+          else (if v then handler whose (variable_player_of p).event.event
+          (run (map item_change (variable_player_of p).items)) ∷ [] else [])))
+      by true c v = one (handler whose (event_player_of p).event.event
+          (run (map posts (texts (event_player_of p).posts)))) tt
+      by false true v = one (handler whose (coil_player_of p).event.event
+          (run (map (item_effect machine) (coil_player_of p).items))) tt
+      by false false true = one (handler whose (variable_player_of p).event.event
+          (run (map item_change (variable_player_of p).items))) tt
       by false false false = All-nil IsRight
 
   in_shot : (place : Place) (seat : List ℕ → Option Seat) (s : Shot)
@@ -168,8 +186,9 @@ module _ (rows : Rows) (whose : Whose) where
       let known = unknown_unless (has_profile rows s.profile.text) in
       let named = where_some (λ w. mention Switches w.text) s.switch in
       let p = profile_of_name rows s.profile.text in
-      All-append IsRight (known ++ named) (seated machine whose p s (seat s.name.text))
-      (All-append IsRight known named (in_unknown (has_profile rows s.profile.text)) (in_mention s.switch)) (in_seated p s (seat s.name.text))
+      All-append IsRight (known ++ named) (with_seat machine whose p s (seat s.name.text))
+      (All-append IsRight known named (in_unknown (has_profile rows s.profile.text)) (in_mention s.switch))
+      (in_seated p s (seat s.name.text))
 
   in_group : (place : Place) (seat : List ℕ → Option Seat) (e : Entry)
       → Are (row_parts machine whose (group_row rows place seat (shot_group_of e)))
@@ -180,11 +199,13 @@ module _ (rows : Rows) (whose : Whose) where
       All-append IsRight (unknown_unless m.all_known) (device whose (group_device g m) ∷ []) (in_unknown m.all_known)
       (one (device whose (group_device g m)) (right_plain (group_device g m) (plain_group g m)))
 
-  in_ball_device : (to : List ℕ → Destination) (d : BallDevice) → Are (row_parts machine whose (ball_device_row to d))
+  in_ball_device : (to : List ℕ → Destination) (d : BallDeviceEntry)
+      → Are (row_parts machine whose (ball_device_row to d))
   unfolding row_parts
   in_ball_device to d =
       let target = to d.target.text in
-      All-append IsRight (unknown_unless (is_known target)) (device whose (ball_device_from machine d target) ∷ []) (in_unknown (is_known target))
+      All-append IsRight (unknown_unless (is_known target)) (device whose (ball_device_from machine d target) ∷ [])
+      (in_unknown (is_known target))
       (one (device whose (ball_device_from machine d target)) (right_ball_device machine d target))
 
   in_text : (place : Place) (n : ℕ) (ss : List SectionRows) → Are (text_parts rows whose place n ss)
@@ -210,7 +231,7 @@ module _ (rows : Rows) (whose : Whose) where
           by (entries es) = λ i d within. tt
           by (players ps) = λ i d within. tt
           by (sections.entry e) = tt
-          by (sections.listed ws) = tt
+          by (sections.name_list ws) = tt
 
 -- each device of rows is such a one
 pub devices_are_right : (rows : Rows) → All IsRight (parts_of rows)

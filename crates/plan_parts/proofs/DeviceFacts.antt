@@ -4,10 +4,10 @@ use Rattle.std.proofs.Common.{rules, ◌≡◌, ℕ, ◌+◌, ◌*◌, ◌≤◌
 use Rattle.std.proofs.Common.{map, length, refl, sym, ◌∙◌, ap₂, codes, arith}
 use Rattle.std.specs.{Prelude.{Option, None, Some, IfSome}, List.{flat_map, All}, Str.bytes_eq}
 use Rattle.std.proofs.lemmas.List.{length-append, length-map, Elements.{All-nil, All-cons, All-map}}
-use Rattle.mpf_sections.specs.Rows.{Written, Entry, Shot, ShotGroup, BallDevice, BlockEvents, Counter, StepBlock}
-use Rattle.mpf_sections.specs.{Rows.{Timer, BallSave, Multiball, SectionRows}, Typed.{step_block_of, timer_of}}
+use Rattle.mpf_sections.specs.Rows.{WrittenName, Entry, Shot, ShotGroup, BallDeviceEntry, BlockEvents, CounterEntry}
+use Rattle.mpf_sections.specs.Rows.{StepBlock, TimerEntry, BallSaveEntry, MultiballEntry, SectionRows}
+use Rattle.mpf_sections.{specs.Typed.{step_block_of, timer_of}, proofs.SaveRows.{ball_save_short, multiball_short}}
 use Rattle.mpf_sections.specs.Typed.{counters_name, accruals_name, sequences_name, timers_name, counter_of}
-use Rattle.mpf_sections.proofs.SaveRows.{ball_save_short, multiball_short}
 use Rattle.mpf_sections.specs.TypedSaves.{ball_saves_name, multiballs_name, ball_save_of, multiball_of}
 use Rattle.mpf_sections.specs.Short.{IsShortEntry, IsShortBlock, IsShortCounter, IsShortStepBlock, IsShortTimer}
 use Rattle.mpf_sections.specs.Short.{IsShortBallDevice, IsShortBallSave, IsShortMultiball}
@@ -55,7 +55,8 @@ all_block Q each name b =
     let complete = or_own b.complete (block_event name (codes "_complete")) in
     All-cons (All Q) (map posts (block_event name (codes "_updated") ∷ [])) (map posts hit ∷ map posts complete ∷ [])
     (of (block_event name (codes "_updated") ∷ []))
-    (All-cons (All Q) (map posts hit) (map posts complete ∷ []) (of hit) (All-cons (All Q) (map posts complete) [] (of complete) (All-nil (All Q))))
+    (All-cons (All Q) (map posts hit) (map posts complete ∷ []) (of hit)
+    (All-cons (All Q) (map posts complete) [] (of complete) (All-nil (All Q))))
   where
     of : (ns : List (List ℕ)) → All Q (map posts ns)
     of [] = All-nil Q
@@ -67,8 +68,12 @@ short_lists name b h = search (rules, All-cons, length-map, All-nil)
 shots_count : (p : Profile) (ns : List (List ℕ)) → length (flat_map (shot_lists p) ns) ≡ length ns * length p.states
 shots_count p [] = omega arith
 shots_count p (n ∷ ns) =
-    omega
-    (arith, length-append (shot_lists p n) (flat_map (shot_lists p) ns), length-map p.states (λ state. map posts (shot_events n p.name state)), shots_count p ns)
+    omega (
+      arith,
+      length-append (shot_lists p n) (flat_map (shot_lists p) ns),
+      length-map p.states (λ state. map posts (shot_events n p.name state)),
+      shots_count p ns,
+    )
 
 group_count : (p : Profile) (name : List ℕ) (ns : List (List ℕ))
     → length (group_lists p name ns) ≡ length p.states * (length ns + 2)
@@ -89,12 +94,12 @@ posts_nothing : (n : List ℕ) → IsOfNoBall (posts n)
 posts_nothing n = tt
 
 -- what holds of whatever is written
-pub any_written : (o : Option Written) → IfSome o (λ w. Unit {0})
+pub any_written : (o : Option WrittenName) → IfSome o (λ w. Unit {0})
 any_written x1 = search rules
 
 -- ---- devices that are no ball devices
 
-plain_counter : (c : Counter) → IsPlain (counter_device c)
+plain_counter : (c : CounterEntry) → IsPlain (counter_device c)
 plain_counter c =
     record { settings = tt; lists = all_block IsOfNoBall posts_nothing c.name.text c.block; listens = omega arith }
 
@@ -102,16 +107,20 @@ plain_steps : (settings : Settings) (b : StepBlock) → IsNoBallDevice settings 
 plain_steps settings b is =
     record { settings = is; lists = all_block IsOfNoBall posts_nothing b.name.text b.block; listens = omega arith }
 
-plain_timer : (t : Timer) → IsPlain (timer_device t)
+plain_timer : (t : TimerEntry) → IsPlain (timer_device t)
 plain_timer t = record { settings = tt; lists = search rules; listens = omega arith }
 
-plain_save : (s : BallSave) → IsPlain (save_device s)
+plain_save : (s : BallSaveEntry) → IsPlain (save_device s)
 plain_save s =
     record { settings = tt; lists = all_save IsOfNoBall s.name.text (λ ending. tt) tt; listens = omega arith }
 
-plain_multiball : (m : Multiball) → IsPlain (multiball_device m)
+plain_multiball : (m : MultiballEntry) → IsPlain (multiball_device m)
 plain_multiball m =
-    record { settings = tt; lists = all_multiball IsOfNoBall m.name.text m.settings.balls (λ ending. tt) tt; listens = omega arith }
+    record {
+      settings = tt;
+      lists = all_multiball IsOfNoBall m.name.text m.settings.balls (λ ending. tt) tt;
+      listens = omega arith;
+    }
 
 pub plain_lone : (p : Profile) (s : Shot) → IsPlain (lone_device p s)
 plain_lone p s =
@@ -119,7 +128,11 @@ plain_lone p s =
 
 pub plain_group : (g : ShotGroup) (m : Members) → IsPlain (group_device g m)
 plain_group g m =
-    record { settings = tt; lists = posts_of_group IsOfNoBall posts_nothing m.profile g.name.text (texts g.shots); listens = omega arith }
+    record {
+      settings = tt;
+      lists = posts_of_group IsOfNoBall posts_nothing m.profile g.name.text (texts g.shots);
+      listens = omega arith;
+    }
 
 pub anywhere_lone : (p : Profile) (s : Shot) → IsAnywhere (lone_device p s)
 anywhere_lone p s = record { listens = refl; kind = λ owner. tt }
@@ -144,7 +157,7 @@ module _ (S Short : Type 0) where
   abbrev Sound : Device → Type 0
   Sound d = IsSound S Short d
 
-  sound_counter : (c : Counter) → (Short → IsShortCounter c) → Sound (counter_device c)
+  sound_counter : (c : CounterEntry) → (Short → IsShortCounter c) → Sound (counter_device c)
   sound_counter c h = record {
     count = λ s. refl;
     lists = λ s. short_lists c.name.text c.block (h s).block;
@@ -157,7 +170,7 @@ module _ (S Short : Type 0) where
   sound_steps settings b three limited h =
       record { count = λ s. sym three; lists = λ s. short_lists b.name.text b.block (h s).block; limits = limited }
 
-  sound_timer : (t : Timer) → IsShortTimer t → Sound (timer_device t)
+  sound_timer : (t : TimerEntry) → IsShortTimer t → Sound (timer_device t)
   sound_timer t h = record {
     count = λ s. refl;
     lists =
@@ -166,10 +179,10 @@ module _ (S Short : Type 0) where
     limits = λ s. h;
   }
 
-  sound_save : (s : BallSave) → (Short → IsShortBallSave s) → Sound (save_device s)
+  sound_save : (s : BallSaveEntry) → (Short → IsShortBallSave s) → Sound (save_device s)
   sound_save s h = record { count = λ x. refl; lists = λ x. save_lists_few s.name.text; limits = h }
 
-  sound_multiball : (m : Multiball) → (Short → IsShortMultiball m) → Sound (multiball_device m)
+  sound_multiball : (m : MultiballEntry) → (Short → IsShortMultiball m) → Sound (multiball_device m)
   sound_multiball m h =
       record { count = λ x. refl; lists = λ x. multiball_lists_few m.name.text m.settings.balls; limits = h }
 
@@ -188,14 +201,14 @@ module _ (S Short : Type 0) where
   sound_group g m some h = record {
     count = λ holds.
         group_count m.profile g.name.text (texts g.shots)
-        ∙ ap₂ (λ n k. n * (k + 2)) (omega (arith, some holds)) (length-map g.shots (λ (w : Written). w.text));
+        ∙ ap₂ (λ n k. n * (k + 2)) (omega (arith, some holds)) (length-map g.shots (λ (w : WrittenName). w.text));
     lists = λ x. group_lists_few m.profile g.name.text (texts g.shots);
     limits =
         λ x. let short = h x in bank_within m.profile
         (length g.shots) m.enabled true short.shots short.states short.enabled;
   }
 
-  pub sound_ball_device : (machine : List SectionRows) (d : BallDevice) (to : Destination)
+  pub sound_ball_device : (machine : List SectionRows) (d : BallDeviceEntry) (to : Destination)
       → (Short → IsShortBallDevice d) → Sound (ball_device_from machine d to)
   sound_ball_device machine d to h = record {
     count = λ s. refl;
@@ -205,7 +218,7 @@ module _ (S Short : Type 0) where
     limits = λ s. let short = h s in record { switches = short.switches; ejects = short.ejects };
   }
     where
-      few : (o : Option Written) → IsFew (attempt_effects machine d.name.text o)
+      few : (o : Option WrittenName) → IsFew (attempt_effects machine d.name.text o)
       few x1 = search rules
 
   -- ---- entries
@@ -216,9 +229,13 @@ module _ (S Short : Type 0) where
     pub plain : IsPlain d
     pub anywhere : IsAnywhere d
 
-  shared_counter : (c : Counter) → (Short → IsShortCounter c) → IsShared (counter_device c)
+  shared_counter : (c : CounterEntry) → (Short → IsShortCounter c) → IsShared (counter_device c)
   shared_counter c h =
-      record { sound = sound_counter c h; plain = plain_counter c; anywhere = record { listens = refl; kind = λ owner. tt } }
+      record {
+        sound = sound_counter c h;
+        plain = plain_counter c;
+        anywhere = record { listens = refl; kind = λ owner. tt };
+      }
 
   shared_accrual : (b : StepBlock) → (Short → IsShortStepBlock b)
       → IsShared (step_device (kinds.Accrual (step_settings b)) b)
@@ -236,30 +253,42 @@ module _ (S Short : Type 0) where
     anywhere = record { listens = refl; kind = λ owner. tt };
   }
 
-  shared_timer : (t : Timer) → IsShortTimer t → IsShared (timer_device t)
+  shared_timer : (t : TimerEntry) → IsShortTimer t → IsShared (timer_device t)
   shared_timer t h =
-      record { sound = sound_timer t h; plain = plain_timer t; anywhere = record { listens = refl; kind = λ owner. tt } }
+      record {
+        sound = sound_timer t h;
+        plain = plain_timer t;
+        anywhere = record { listens = refl; kind = λ owner. tt };
+      }
 
-  shared_save : (s : BallSave) → (Short → IsShortBallSave s) → IsShared (save_device s)
+  shared_save : (s : BallSaveEntry) → (Short → IsShortBallSave s) → IsShared (save_device s)
   shared_save s h =
       record { sound = sound_save s h; plain = plain_save s; anywhere = record { listens = refl; kind = λ owner. tt } }
 
-  shared_multiball : (m : Multiball) → (Short → IsShortMultiball m) → IsShared (multiball_device m)
+  shared_multiball : (m : MultiballEntry) → (Short → IsShortMultiball m) → IsShared (multiball_device m)
   shared_multiball m h =
-      record { sound = sound_multiball m h; plain = plain_multiball m; anywhere = record { listens = refl; kind = λ owner. tt } }
+      record {
+        sound = sound_multiball m h;
+        plain = plain_multiball m;
+        anywhere = record { listens = refl; kind = λ owner. tt };
+      }
 
   module _ (e : Entry) (short : Short → IsShortEntry 1024 e) where
     save_shared : (section : List ℕ) → IfSome (save_device_of section e) IsShared
     unfolding save_device_of
     save_shared section =
         either IsShared (bytes_eq section ball_saves_name) _ _ (shared_save (ball_save_of e) (λ s. ball_save_short e))
-        (either IsShared (bytes_eq section multiballs_name) _ _ (shared_multiball (multiball_of e) (λ s. multiball_short e)) tt)
+        (either IsShared (bytes_eq section multiballs_name) _ _
+        (shared_multiball (multiball_of e) (λ s. multiball_short e)) tt)
 
     pub device_shared : (section : List ℕ) → IfSome (device_of section e) IsShared
     unfolding device_of
     device_shared section =
         either IsShared (bytes_eq section counters_name) _ _
         (shared_counter (counter_of e) (λ s. counter_short e (short s)))
-        (either IsShared (bytes_eq section accruals_name) _ _ (shared_accrual (step_block_of e) (λ s. step_block_short e (short s)))
-        (either IsShared (bytes_eq section sequences_name) _ _ (shared_sequence (step_block_of e) (λ s. step_block_short e (short s)))
-        (either IsShared (bytes_eq section timers_name) _ _ (shared_timer (timer_of e) (timer_in_range e)) (save_shared section))))
+        (either IsShared (bytes_eq section accruals_name) _ _
+        (shared_accrual (step_block_of e) (λ s. step_block_short e (short s)))
+        (either IsShared (bytes_eq section sequences_name) _ _
+        (shared_sequence (step_block_of e) (λ s. step_block_short e (short s)))
+        (either IsShared (bytes_eq section timers_name) _ _ (shared_timer (timer_of e) (timer_in_range e))
+        (save_shared section))))

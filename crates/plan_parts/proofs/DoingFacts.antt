@@ -1,35 +1,44 @@
 -- What holds of each effect of the rows, of each event that their switches post, and of each switch to which their
 -- devices listen, holds of those of their parts.
-use Rattle.std.proofs.Common.{rules, ◌≡◌, ◌≢◌, ℕ, suc, Bool, true, false, if◌then◌else◌, List, [], ◌∷◌, ◌++◌, map, get_or, codes, arith}
+use Rattle.std.proofs.Common.{rules, ◌≡◌, ◌≢◌, ℕ, suc, Bool, true, false, if◌then◌else◌, List, [], ◌∷◌, ◌++◌, map}
+use Rattle.std.proofs.{Common.{get_or, codes, arith}, lemmas.List.Sums.list_all-from_AllPass}
 use Rattle.std.specs.Prelude.{◌||◌, Option, None, Some, IfSome, is_some}
 use Rattle.std.specs.{Str.bytes_eq, List.{All, AllPairs, flat_map, list_any}}
 use Rattle.std.proofs.lemmas.List.Elements.{All-nil, All-cons, All-head, All-tail, All-append, All-map, All-weaker}
-use Rattle.std.proofs.lemmas.List.Sums.{list_all-from_AllPass}
 use Rattle.mpf_values.specs.Events.{Event}
 use Rattle.mpf_sections.specs.Rows as sections
-use Rattle.mpf_sections.specs.Rows.{Written, Entry, Player, Shot, ShotGroup, BallDevice, ModeSettings, Content, entries, players, SectionRows}
-use Rattle.mpf_sections.specs.Typed.{switches_name, event_player_name, switch_of, event_player_of, mode_settings, switches_in, event_players_in}
+use Rattle.mpf_sections.specs.Rows.{WrittenName, Entry, Player, Shot, ShotGroup, BallDeviceEntry, ModeSettings, Content}
+use Rattle.mpf_sections.specs.{Rows.{entries, players, SectionRows}, CoilRules.{CoilRule, coil_rule_of}}
+use Rattle.mpf_sections.specs.Typed.{switches_name, event_player_name, switch_of, event_player_of, mode_settings}
+use Rattle.mpf_sections.specs.Typed.{switches_in, event_players_in, counter_of, step_block_of, timer_of}
 use Rattle.mpf_sections.specs.TypedCoils.{coils_name, coil_player_name, coil_of, coil_player_of, coil_players_in}
-use Rattle.mpf_sections.specs.{CoilRules.{CoilRule, coil_rule_of}, Typed.{counter_of, step_block_of, timer_of}}
-use Rattle.mpf_sections.specs.TypedGame.{variable_player_name, game_name, variable_player_of, game_of, variable_players_in}
+use Rattle.mpf_sections.specs.TypedGame.{variable_player_name, game_name, variable_player_of, game_of}
+use Rattle.mpf_sections.specs.{TypedGame.variable_players_in, TypedShots.shot_groups_in}
 use Rattle.mpf_sections.specs.TypedBalls.{ball_devices_name, playfield, ball_device_of, ball_devices_in}
-use Rattle.mpf_sections.specs.TypedShots.{shots_name, shot_groups_name, shot_of, shot_group_of, shots_in, shot_groups_in}
+use Rattle.mpf_sections.specs.TypedShots.{shots_name, shot_groups_name, shot_of, shot_group_of, shots_in}
 use Rattle.mpf_config.specs.Rows.{ModeRows, Rows}
 use Rattle.machine_definitions.specs.Shots.{Profile, has_profile, profile_of_name}
 use Rattle.plan_tables.specs.declared.{entries.ModeId.ModeId, table.Table.TheVariants.Switches}
 use Rattle.plan_rows.specs.declared.place.Place.{Place, TheVariants.{Machine, Control, Mode}}
-use Rattle.plan_rows.specs.{declared.destination.Destination.Destination, Members.members_of, Rows.rows_in}
+use Rattle.plan_rows.specs.declared.destination.Destination.{Destination}
+use Rattle.plan_rows.specs.{Members.members_of, Rows.{rows_in, rows_from, text_rows}}
 use Rattle.plan_rows.specs.declared.destination.Destination.TheVariants as destinations
 use Rattle.plan_rows.specs.Seats.{Seat, seat_of, ball_row_of, row_or_unknown, destination_of, rows_after_text}
-use Rattle.plan_rows.specs.Rows.{Row, entry, alone, player, shot_row, group_row, ball_device_row, other_row, entry_row, rows_from, text_rows}
-use Rattle.plan_parts.{specs.{Effects.{Effect, posts}, VariableEntries.item_change}, proofs.SeatFacts.ball_row_some}
+use Rattle.plan_rows.specs.Rows.{Row, entry, alone, player, shot_row, group_row, ball_device_row, other_row, entry_row}
+use Rattle.plan_parts.specs.{Effects.{Effect, posts}, VariableEntries.item_change}
+use Rattle.plan_parts.{proofs.SeatFacts.ball_row_some, specs.BallEntries.{is_known, ball_device_from}}
 use Rattle.plan_parts.specs.CoilEntries.{item_effect, coil_rule_device, rule_device_of}
 use Rattle.plan_parts.specs.DeviceEntries.{texts, Device, events, always, device_of}
 use Rattle.plan_parts.specs.SaveEntries.{save_device_of, save_device, multiball_device}
-use Rattle.plan_parts.specs.{BallEntries.{is_known, ball_device_from}, Doing.IsHeardOnce, Parts.unknown}
+use Rattle.plan_parts.specs.Doing.{IsHeardOnce, IsShotGroupDoing, IsDoing, IsMachineDoing, AreDoing, Does}
+use Rattle.plan_parts.specs.Parts.{unknown, row_parts, text_parts, modes_parts, parts_of}
 use Rattle.plan_parts.specs.ShotEntries.{shot_lists, shot_acts, lone_device, group_device}
-use Rattle.plan_parts.specs.Parts.{Whose, Part, handler, device, mode, mention, run, start, stop, act_on, own, control, of_the_mode, stops_at_ball_end, stops_at_game_end, where_some, where_true, unknown_unless, first_of, mode_parts, machine_device, switch_part, coil_part, game_part, machine_entry_parts, entry_parts, alone_parts, player_parts, seated, row_parts, text_parts, modes_parts, parts_of}
-use Rattle.plan_parts.specs.Doing.{has_target, IsBallDeviceDoing, IsSwitchDoing, IsPlayerDoing, IsDeviceDoing, IsEntryDoing, IsCoilPlayerDoing, IsVariablePlayerDoing, IsShotDoing, IsShotGroupDoing, IsDoing, IsMachineDoing, AreDoing, Does}
+use Rattle.plan_parts.specs.Parts.{Whose, Part, handler, device, mode, mention, run, start, stop, act_on, own, control}
+use Rattle.plan_parts.specs.Parts.{of_the_mode, stops_at_ball_end, stops_at_game_end, where_some, where_true}
+use Rattle.plan_parts.specs.Parts.{unknown_unless, first_of, mode_parts, machine_device, switch_part, coil_part}
+use Rattle.plan_parts.specs.Parts.{game_part, machine_entry_parts, entry_parts, alone_parts, player_parts, with_seat}
+use Rattle.plan_parts.specs.Doing.{has_target, IsBallDeviceDoing, IsSwitchDoing, IsPlayerDoing, IsDeviceDoing}
+use Rattle.plan_parts.specs.Doing.{IsEntryDoing, IsCoilPlayerDoing, IsVariablePlayerDoing, IsShotDoing}
 use Rattle.yaml_bytes.proofs.Each.{All-flat_map, All-from_map}
 use Rattle.mpf_sections.specs.Typed.{counters_name, accruals_name, sequences_name, timers_name}
 use Rattle.mpf_sections.specs.TypedSaves.{ball_saves_name, multiballs_name, ball_save_of, multiball_of}
@@ -96,10 +105,12 @@ machine_apart machine whose section e = by (coil_rule_of section e) (entry_apart
 -- what there is is known
 targets_known : (n : ℕ) (ss : List SectionRows) (name : List ℕ) → has_target ss name ≡ true
     → is_known (destination_of Machine n ss name) ≡ true
-targets_known n ss name is = by (bytes_eq name playfield) (ball_row_of Machine n ss name) (ball_row_some own n ss name) is
+targets_known n ss name is = by (bytes_eq name playfield) (ball_row_of Machine n ss name) (ball_row_some own n ss name)
+    is
   where
     by : (b : Bool) (o : Option ℕ) → is_some o ≡ list_any (λ d. bytes_eq name d.name.text) (flat_map ball_devices_in ss)
-        → (b || list_any (λ d. bytes_eq name d.name.text) (flat_map ball_devices_in ss)) ≡ true → is_known (if b then destinations.Playfield else row_or_unknown o) ≡ true
+        → (b || list_any (λ d. bytes_eq name d.name.text) (flat_map ball_devices_in ss)) ≡ true
+        → is_known (if b then destinations.Playfield else row_or_unknown o) ≡ true
     by x1 x2 some known = search rules
 
 -- ---- parts
@@ -150,7 +161,8 @@ module _ (P : Effect → Type 0) (S L : List ℕ → Type 0) where
   in_unknown : (known : Bool) → known ≡ true → All D (unknown_unless known)
   in_unknown x1 is = search (rules, All-nil)
 
-  in_shot_switch : (o : Option Written) → IfSome o (λ w. L w.text) → All D (where_some (λ w. mention Switches w.text) o)
+  in_shot_switch : (o : Option WrittenName) → IfSome o (λ w. L w.text)
+      → All D (where_some (λ w. mention Switches w.text) o)
   in_shot_switch None h = All-nil D
   in_shot_switch (Some w) h = one (mention Switches w.text) h
 
@@ -162,9 +174,10 @@ module _ (P : Effect → Type 0) (S L : List ℕ → Type 0) where
     GivesDoing r = All D (row_parts rows.machine whose r)
 
     in_seated : (p : Profile) (s : Shot) (seat : Option Seat) → All (All P) (shot_lists p s.name.text)
-        → All D (seated machine whose p s seat)
+        → All D (with_seat machine whose p s seat)
     in_seated p s None h = in_device whose (lone_device p s) (record { lists = h; listens = All-nil L }) none_apart
-    in_seated p s (Some seat) h = each (λ h. handler whose h.0 (act_on (record { 0 = seat.row }) h.1)) (λ h. tt) (shot_acts seat.shot s)
+    in_seated p s (Some seat) h = each (λ h. handler whose h.0 (act_on (record { 0 = seat.row }) h.1)) (λ h. tt)
+        (shot_acts seat.shot s)
 
     in_shot : (place : Place) (seat : List ℕ → Option Seat) (s : Shot) → IsShotDoing P S L rows s
         → GivesDoing (shot_row rows place seat s)
@@ -173,8 +186,9 @@ module _ (P : Effect → Type 0) (S L : List ℕ → Type 0) where
         let known = unknown_unless (has_profile rows s.profile.text) in
         let own = where_some (λ w. mention Switches w.text) s.switch in
         let p = profile_of_name rows s.profile.text in
-        All-append D (known ++ own) (seated machine whose p s (seat s.name.text))
-        (All-append D known own (in_unknown (has_profile rows s.profile.text) h.profile) (in_shot_switch s.switch h.switch))
+        All-append D (known ++ own) (with_seat machine whose p s (seat s.name.text))
+        (All-append D known own (in_unknown (has_profile rows s.profile.text) h.profile)
+        (in_shot_switch s.switch h.switch))
         (in_seated p s (seat s.name.text) h.lists)
 
     in_group : (place : Place) (seat : List ℕ → Option Seat) (g : ShotGroup) → IsShotGroupDoing P S L rows g
@@ -182,16 +196,18 @@ module _ (P : Effect → Type 0) (S L : List ℕ → Type 0) where
     unfolding row_parts
     in_group place seat g h =
         let m = members_of rows g in
-        All-append D (unknown_unless m.all_known) (device whose (group_device g m) ∷ []) (in_unknown m.all_known (search (rules, list_all-from_AllPass, h.shots)))
+        All-append D (unknown_unless m.all_known) (device whose (group_device g m) ∷ [])
+        (in_unknown m.all_known (search (rules, list_all-from_AllPass, h.shots)))
         (in_device whose (group_device g m) (record { lists = h.lists; listens = All-nil L }) none_apart)
 
     -- a ball device that ejects its balls to what there is
-    in_ball_device : (to : List ℕ → Destination) (d : BallDevice) → is_known (to d.target.text) ≡ true
+    in_ball_device : (to : List ℕ → Destination) (d : BallDeviceEntry) → is_known (to d.target.text) ≡ true
         → IsBallDeviceDoing P S L rows d → GivesDoing (ball_device_row to d)
     unfolding row_parts
     in_ball_device to d known h =
         let own = ball_device_from machine d (to d.target.text) in
-        All-append D (unknown_unless (is_known (to d.target.text))) (device whose own ∷ []) (in_unknown (is_known (to d.target.text)) known)
+        All-append D (unknown_unless (is_known (to d.target.text))) (device whose own ∷ [])
+        (in_unknown (is_known (to d.target.text)) known)
         (in_device whose own (record { lists = h.lists; listens = h.listens }) (record { apart = h.apart }))
 
     -- ---- entries
@@ -215,17 +231,22 @@ module _ (P : Effect → Type 0) (S L : List ℕ → Type 0) where
       where
         by : (c s : Bool) → Where s (IsSwitchDoing P S L (switch_of e))
             → IsEntryDoing P S L (machine_device machine whose section e)
-            → All D (if c then coil_part machine whose (coil_of e) ∷ [] else (if s then switch_part machine whose (switch_of e) ∷ [] else where_some (device whose) (machine_device machine whose section e)))
+            → All D (if c then coil_part machine whose (coil_of e)
+            ∷ [] else (if s then switch_part machine whose (switch_of e)
+            ∷ [] else where_some (device whose) (machine_device machine whose section e)))
         by true s hs h = one (coil_part machine whose (coil_of e)) tt
         by false true hs h = one (switch_part machine whose (switch_of e)) hs
-        by false false hs h = in_where whose (machine_device machine whose section e) h (machine_apart machine whose section e)
+        by false false hs h = in_where whose (machine_device machine whose section e) h
+            (machine_apart machine whose section e)
 
     in_player : (place : Place) (section : List ℕ) (p : Player)
         → Where (bytes_eq section event_player_name) (IsPlayerDoing P S L (event_player_of p))
         → Where (bytes_eq section coil_player_name) (IsCoilPlayerDoing P S L rows (coil_player_of p))
-        → Where (bytes_eq section variable_player_name) (IsVariablePlayerDoing P S L (variable_player_of p)) → GivesDoing (player place section p)
+        → Where (bytes_eq section variable_player_name) (IsVariablePlayerDoing P S L (variable_player_of p))
+        → GivesDoing (player place section p)
     unfolding row_parts player_parts
-    in_player place section p = by (bytes_eq section event_player_name) (bytes_eq section coil_player_name) (bytes_eq section variable_player_name)
+    in_player place section p = by (bytes_eq section event_player_name) (bytes_eq section coil_player_name)
+        (bytes_eq section variable_player_name)
       where
         posted : List Effect
         posted = map posts (texts (event_player_of p).posts)
@@ -242,9 +263,12 @@ module _ (P : Effect → Type 0) (S L : List ℕ → Type 0) where
             → All D (if e then handler whose (event_player_of p).event.event (run posted) ∷ []
             else (if c then handler whose (coil_player_of p).event.event (run worked) ∷ []
             else (if v then handler whose (variable_player_of p).event.event (run changed) ∷ [] else [])))
-        by true c v he hc hv = runs whose (event_player_of p).event.event posted (All-map P posts (texts (event_player_of p).posts) he)
-        by false true v he hc hv = runs whose (coil_player_of p).event.event worked (All-map P (item_effect machine) (coil_player_of p).items hc)
-        by false false true he hc hv = runs whose (variable_player_of p).event.event changed (All-map P item_change (variable_player_of p).items hv)
+        by true c v he hc hv = runs whose (event_player_of p).event.event posted
+            (All-map P posts (texts (event_player_of p).posts) he)
+        by false true v he hc hv = runs whose (coil_player_of p).event.event worked
+            (All-map P (item_effect machine) (coil_player_of p).items hc)
+        by false false true he hc hv = runs whose (variable_player_of p).event.event changed
+            (All-map P item_change (variable_player_of p).items hv)
         by false false false he hc hv = All-nil D
 
     -- the game does nothing of its own
@@ -263,26 +287,37 @@ module _ (P : Effect → Type 0) (S L : List ℕ → Type 0) where
     in_players : (place : Place) (s : SectionRows) (ps : List Player)
         → All (IsPlayerDoing P S L) (map event_player_of (if bytes_eq s.name event_player_name then ps else []))
         → All (IsCoilPlayerDoing P S L rows) (map coil_player_of (if bytes_eq s.name coil_player_name then ps else []))
-        → All (IsVariablePlayerDoing P S L) (map variable_player_of (if bytes_eq s.name variable_player_name then ps else [])) → All GivesDoing (map (player place s.name) ps)
+        → All (IsVariablePlayerDoing P S L)
+        (map variable_player_of (if bytes_eq s.name variable_player_name then ps else []))
+        → All GivesDoing (map (player place s.name) ps)
     in_players place s ps posted coils variables =
         let posting = where_named (IsPlayerDoing P S L) event_player_of (bytes_eq s.name event_player_name) ps posted in
-        let working = where_named (IsCoilPlayerDoing P S L rows) coil_player_of (bytes_eq s.name coil_player_name) ps coils in
-        let changing = where_named (IsVariablePlayerDoing P S L) variable_player_of (bytes_eq s.name variable_player_name) ps variables in
-        All-map GivesDoing (player place s.name) ps (λ i d within. in_player place s.name (get_or ps i d) (posting i d within) (working i d within) (changing i d within))
+        let working = where_named (IsCoilPlayerDoing P S L rows) coil_player_of (bytes_eq s.name coil_player_name) ps
+        coils in
+        let changing = where_named (IsVariablePlayerDoing P S L) variable_player_of
+        (bytes_eq s.name variable_player_name) ps variables in
+        All-map GivesDoing (player place s.name) ps
+        (λ i d within. in_player place s.name (get_or ps i d) (posting i d within) (working i d within)
+        (changing i d within))
 
     -- if an entry is a ball device of the machine text, it does so, and ejects its balls to what there is
     abbrev IsBallEntryDoing : (List ℕ → Destination) → Place → List ℕ → Entry → Type 0
     IsBallEntryDoing to place section e =
-        place ≡ Machine → bytes_eq section ball_devices_name ≡ true → IsBallDeviceDoing P S L rows (ball_device_of e) × (is_known (to (ball_device_of e).target.text) ≡ true)
+        place ≡ Machine → bytes_eq section ball_devices_name ≡ true
+        → IsBallDeviceDoing P S L rows (ball_device_of e) × (is_known (to (ball_device_of e).target.text) ≡ true)
 
     -- an entry of a section, whether it is a shot, a group, a ball device, or none of these
-    in_entry_row : (place : Place) (seat : List ℕ → Option Seat) (to : List ℕ → Destination) (section : List ℕ) (e : Entry)
+    in_entry_row : (place : Place) (seat : List ℕ → Option Seat) (to : List ℕ → Destination) (section : List ℕ)
+        (e : Entry)
         → Where (bytes_eq section shots_name) (IsShotDoing P S L rows (shot_of e))
-        → Where (bytes_eq section shot_groups_name) (IsShotGroupDoing P S L rows (shot_group_of e)) → IsBallEntryDoing to place section e → GivesDoing (entry place section e) → GivesDoing (entry_row rows place seat to section e)
+        → Where (bytes_eq section shot_groups_name) (IsShotGroupDoing P S L rows (shot_group_of e))
+        → IsBallEntryDoing to place section e → GivesDoing (entry place section e)
+        → GivesDoing (entry_row rows place seat to section e)
     in_entry_row place seat to section e = by (bytes_eq section shots_name) (bytes_eq section shot_groups_name)
       where
         in_machine : (b : Bool)
-            → (b ≡ true → IsBallDeviceDoing P S L rows (ball_device_of e) × (is_known (to (ball_device_of e).target.text) ≡ true))
+            → (b ≡ true → IsBallDeviceDoing P S L rows (ball_device_of e)
+            × (is_known (to (ball_device_of e).target.text) ≡ true))
             → GivesDoing (entry Machine section e)
             → GivesDoing (if b then ball_device_row to (ball_device_of e) else entry Machine section e)
         in_machine x1 ball h = search (rules, in_ball_device)
@@ -294,19 +329,25 @@ module _ (P : Effect → Type 0) (S L : List ℕ → Type 0) where
         by : (s g : Bool) → Where s (IsShotDoing P S L rows (shot_of e))
             → Where g (IsShotGroupDoing P S L rows (shot_group_of e)) → IsBallEntryDoing to place section e
             → GivesDoing (entry place section e)
-            → GivesDoing (if s then shot_row rows place seat (shot_of e) else (if g then group_row rows place seat (shot_group_of e) else other_row to place section e))
+            → GivesDoing (if s then shot_row rows place seat (shot_of e) else
+            (if g then group_row rows place seat (shot_group_of e) else other_row to place section e))
         by true g hs hg ball h = in_shot place seat (shot_of e) hs
         by false true hs hg ball h = in_group place seat (shot_group_of e) hg
         by false false hs hg ball h = in_other place ball h
 
-    in_entries : (place : Place) (seat : List ℕ → Option Seat) (to : List ℕ → Destination) (s : SectionRows) (es : List Entry)
+    in_entries : (place : Place) (seat : List ℕ → Option Seat) (to : List ℕ → Destination) (s : SectionRows)
+        (es : List Entry)
         → All (IsShotDoing P S L rows) (map shot_of (if bytes_eq s.name shots_name then es else []))
-        → All (IsShotGroupDoing P S L rows) (map shot_group_of (if bytes_eq s.name shot_groups_name then es else [])) → All (IsBallEntryDoing to place s.name) es → All (λ e. GivesDoing (entry place s.name e)) es
+        → All (IsShotGroupDoing P S L rows) (map shot_group_of (if bytes_eq s.name shot_groups_name then es else []))
+        → All (IsBallEntryDoing to place s.name) es → All (λ e. GivesDoing (entry place s.name e)) es
         → All GivesDoing (map (entry_row rows place seat to s.name) es)
     in_entries place seat to s es shots groups balls others =
         let own = where_named (IsShotDoing P S L rows) shot_of (bytes_eq s.name shots_name) es shots in
-        let grouped = where_named (IsShotGroupDoing P S L rows) shot_group_of (bytes_eq s.name shot_groups_name) es groups in
-        All-map GivesDoing (entry_row rows place seat to s.name) es (λ i d within. in_entry_row place seat to s.name (get_or es i d) (own i d within) (grouped i d within) (balls i d within) (others i d within))
+        let grouped = where_named (IsShotGroupDoing P S L rows) shot_group_of (bytes_eq s.name shot_groups_name) es
+        groups in
+        All-map GivesDoing (entry_row rows place seat to s.name) es
+        (λ i d within. in_entry_row place seat to s.name (get_or es i d) (own i d within) (grouped i d within)
+        (balls i d within) (others i d within))
 
     -- what each ball device ejects to is there
     abbrev AreKnown : (List ℕ → Destination) → Type 0
@@ -319,37 +360,46 @@ module _ (P : Effect → Type 0) (S L : List ℕ → Type 0) where
     unfolding event_players_in coil_players_in variable_players_in shots_in shot_groups_in row_parts entry_parts
     in_mode_content seat to s (entries es) h =
         in_entries Mode seat to s es h.shots h.groups (λ i d within own named. absurd cc)
-        (λ i d within. in_where whose (device_of s.name (get_or es i d)) (h.devices i d within) (entry_apart s.name (get_or es i d)))
+        (λ i d within. in_where whose (device_of s.name (get_or es i d)) (h.devices i d within)
+        (entry_apart s.name (get_or es i d)))
     in_mode_content seat to s (players ps) h = in_players Mode s ps h.players h.coil_players h.variable_players
-    in_mode_content seat to s (sections.entry e) h = All-cons GivesDoing (alone Mode s.name e) [] (in_alone Mode s.name e) (All-nil GivesDoing)
-    in_mode_content seat to s (sections.listed ws) h = All-nil GivesDoing
+    in_mode_content seat to s (sections.entry e) h =
+        All-cons GivesDoing (alone Mode s.name e) [] (in_alone Mode s.name e) (All-nil GivesDoing)
+    in_mode_content seat to s (sections.name_list ws) h = All-nil GivesDoing
 
     -- and of one of the machine
     in_machine_content : (seat : List ℕ → Option Seat) (to : List ℕ → Destination) → AreKnown to
         → (s : SectionRows) (content : Content)
         → IsMachineDoing P S L rows (record { name = s.name; content = content })
         → All GivesDoing (rows_from rows Machine seat to s.name content)
-    unfolding switches_in event_players_in coil_players_in variable_players_in shots_in shot_groups_in ball_devices_in row_parts entry_parts
+    unfolding switches_in event_players_in coil_players_in variable_players_in shots_in shot_groups_in ball_devices_in
+        row_parts entry_parts
     in_machine_content seat to known s (entries es) h =
         let switches = where_named (IsSwitchDoing P S L) switch_of (bytes_eq s.name switches_name) es h.switches in
         let all : IsDoing P S L rows (record { name = s.name; content = entries es }) = h.all in
-        let balls = where_named (IsBallDeviceDoing P S L rows) ball_device_of (bytes_eq s.name ball_devices_name) es h.ball_devices in
+        let balls = where_named (IsBallDeviceDoing P S L rows) ball_device_of (bytes_eq s.name ball_devices_name) es
+        h.ball_devices in
         in_entries Machine seat to s es all.shots all.groups
         (λ i d within own named.
         let ball = where_so (bytes_eq s.name ball_devices_name) named (balls i d within) in
         (ball, known (ball_device_of (get_or es i d)).target.text ball.target))
         (λ i d within.
         let e = get_or es i d in
-        in_machine_entry s.name e (switches i d within) (in_machine_device s.name e (h.rules i d within) (all.devices i d within)))
-    in_machine_content seat to known s (players ps) h = let all : IsDoing P S L rows (record { name = s.name; content = players ps }) = h.all in in_players Machine s ps all.players all.coil_players all.variable_players
-    in_machine_content seat to known s (sections.entry e) h = All-cons GivesDoing (alone Machine s.name e) [] (in_alone Machine s.name e) (All-nil GivesDoing)
-    in_machine_content seat to known s (sections.listed ws) h = All-nil GivesDoing
+        in_machine_entry s.name e (switches i d within)
+        (in_machine_device s.name e (h.rules i d within) (all.devices i d within)))
+    in_machine_content seat to known s (players ps) h =
+        let all : IsDoing P S L rows (record { name = s.name; content = players ps }) = h.all
+        in in_players Machine s ps all.players all.coil_players all.variable_players
+    in_machine_content seat to known s (sections.entry e) h =
+        All-cons GivesDoing (alone Machine s.name e) [] (in_alone Machine s.name e) (All-nil GivesDoing)
+    in_machine_content seat to known s (sections.name_list ws) h = All-nil GivesDoing
 
     -- ---- texts
 
     -- of all parts of a text, if each section meets C, and so do its rows
     in_text : (place : Place) (n : ℕ) (ss : List SectionRows) (C : SectionRows → Type 0)
-        → ((s : SectionRows) → C s → All GivesDoing (rows_from rows place (seat_of place n ss) (destination_of place n ss) s.name s.content))
+        → ((s : SectionRows) → C s → All GivesDoing
+        (rows_from rows place (seat_of place n ss) (destination_of place n ss) s.name s.content))
         → All C ss → All D (text_parts rows whose place n ss)
     in_text place n ss C of h =
         let seat = seat_of place n ss in
@@ -373,7 +423,8 @@ module _ (P : Effect → Type 0) (S L : List ℕ → Type 0) where
       let text = text_parts rows whose Mode n m.sections in
       All-append D (first ++ text) (modes_parts rows (suc k) (rows_after_text Mode n m.sections) ms)
       (All-append D first text (in_mode number m.name s)
-      (in_text rows whose Mode n m.sections (IsDoing P S L rows) (λ s. in_mode_content rows whose seat to s s.content) (All-head IsModeDoing m ms h)))
+      (in_text rows whose Mode n m.sections (IsDoing P S L rows) (λ s. in_mode_content rows whose seat to s s.content)
+      (All-head IsModeDoing m ms h)))
       (in_modes rows (suc k) (rows_after_text Mode n m.sections) ms (All-tail IsModeDoing m ms h))
 
   -- what holds of all that rows do holds of all that their parts do
@@ -384,7 +435,8 @@ module _ (P : Effect → Type 0) (S L : List ℕ → Type 0) where
       let to = destination_of Machine 0 rows.machine in
       let after = rows_after_text Machine 0 rows.machine in
       All-append D (text_parts rows own Machine 0 rows.machine) (modes_parts rows 0 after rows.modes)
-      (in_text rows own Machine 0 rows.machine (IsMachineDoing P S L rows) (λ s. in_machine_content rows own seat to (targets_known 0 rows.machine) s s.content) h.machine)
+      (in_text rows own Machine 0 rows.machine (IsMachineDoing P S L rows)
+      (λ s. in_machine_content rows own seat to (targets_known 0 rows.machine) s s.content) h.machine)
       (in_modes rows 0 after rows.modes h.modes)
 
 -- no device listens to one switch twice

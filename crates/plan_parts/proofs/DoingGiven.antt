@@ -1,14 +1,16 @@
 -- The switches and the coils that parts give are those of the machine text, in order.
-use Rattle.std.proofs.Common.{rules, ◌≡◌, ℕ, suc, Bool, true, false, if◌then◌else◌, List, [], ◌∷◌, ◌++◌, map, refl, sym, ◌∙◌, ap, subst, codes}
+use Rattle.std.proofs.Common.{rules, ◌≡◌, ℕ, suc, Bool, true, false, if◌then◌else◌, List, [], ◌∷◌, ◌++◌, map, refl, sym}
+use Rattle.std.proofs.Common.{◌∙◌, ap, subst, codes}
 use Rattle.std.specs.{Prelude.{Option, None, Some}, Str.bytes_eq, List.flat_map}
 use Rattle.std.proofs.lemmas.{Grind.flat_map-append, List.{map-append, append-nil}, Slice.Eq.bytes_eq-Decides}
 use Rattle.mpf_values.specs.Events.{Event}
 use Rattle.mpf_sections.specs.Rows as sections
-use Rattle.mpf_sections.specs.Rows.{Written, Entry, Player, Shot, ModeSettings, Content, entries, players, SectionRows}
-use Rattle.mpf_sections.specs.Typed.{entries_of, switches_name, event_player_name, switch_of, event_player_of, mode_settings, switches_in}
+use Rattle.mpf_sections.specs.Rows.{WrittenName, Entry, Player, Shot, ModeSettings, Content, entries, players}
+use Rattle.mpf_sections.specs.{Rows.SectionRows, TypedBalls.ball_device_of}
+use Rattle.mpf_sections.specs.Typed.{entries_of, switches_name, event_player_name, switch_of, event_player_of}
+use Rattle.mpf_sections.specs.{Typed.{mode_settings, switches_in}, TypedShots.{shot_of, shot_group_of}}
 use Rattle.mpf_sections.specs.TypedCoils.{coils_name, coil_player_name, coil_of, coil_player_of, coils_in}
 use Rattle.mpf_sections.specs.TypedGame.{variable_player_name, game_name, variable_player_of, game_of}
-use Rattle.mpf_sections.specs.{TypedShots.{shot_of, shot_group_of}, TypedBalls.ball_device_of}
 use Rattle.mpf_config.specs.Rows.{ModeRows, Rows}
 use Rattle.machine_definitions.specs.Shots.{Profile, has_profile, profile_of_name}
 use Rattle.plan_tables.specs.declared.{entries.ModeId.ModeId, table.Table.{Table, TheVariants.Switches}}
@@ -20,7 +22,11 @@ use Rattle.plan_parts.specs.{Effects.posts, VariableEntries.item_change, CoilEnt
 use Rattle.plan_parts.specs.{BallEntries.{is_known, ball_device_from}, PartKinds.{given_switch, given_coil}}
 use Rattle.plan_parts.specs.DeviceEntries.{texts, Device, events, always, device_of}
 use Rattle.plan_parts.{specs.ShotEntries.{shot_acts, lone_device, group_device}, proofs.WalkFacts.entry_such}
-use Rattle.plan_parts.specs.Parts.{Whose, Part, switch, game, handler, device, mode, mention, unknown, Reaction, run, start, stop, act_on, own, control, of_the_mode, stops_at_ball_end, stops_at_game_end, where_some, where_true, unknown_unless, mode_parts, machine_device, switch_part, coil_part, game_part, machine_entry_parts, entry_parts, alone_parts, player_parts, seated, row_parts, text_parts, modes_parts, parts_of}
+use Rattle.plan_parts.specs.Parts.{Whose, Part, switch, game, handler, device, mode, mention, unknown, Reaction, run}
+use Rattle.plan_parts.specs.Parts.{start, stop, act_on, own, control, of_the_mode, stops_at_ball_end, stops_at_game_end}
+use Rattle.plan_parts.specs.Parts.{where_some, where_true, unknown_unless, mode_parts, machine_device, switch_part}
+use Rattle.plan_parts.specs.Parts.{coil_part, game_part, machine_entry_parts, entry_parts, alone_parts, player_parts}
+use Rattle.plan_parts.specs.Parts.{with_seat, row_parts, text_parts, modes_parts, parts_of}
 use Rattle.plan_rows.specs.Rows.{shot_row, group_row, ball_device_row, text_rows}
 
 -- only switches and coils tell anything
@@ -58,7 +64,7 @@ module _ {X : Type 0} (tell : Part → List X) (quiet : IsQuiet tell) where
   silent_where whose None = refl
   silent_where whose (Some d) = one (device whose d) (quiet.devices whose d)
 
-  silent_mention : (o : Option Written) → IsSilent (where_some (λ w. mention Switches w.text) o)
+  silent_mention : (o : Option WrittenName) → IsSilent (where_some (λ w. mention Switches w.text) o)
   silent_mention None = refl
   silent_mention (Some w) = one (mention Switches w.text) (quiet.mentions Switches w.text)
 
@@ -76,7 +82,8 @@ module _ {X : Type 0} (tell : Part → List X) (quiet : IsQuiet tell) where
       both (mode name s ∷ starts ++ stops ++ ball) game
       (both (mode name s ∷ starts ++ stops) ball
       (both (mode name s ∷ starts) stops
-      (both (mode name s ∷ []) starts (one (mode name s) (quiet.modes name s)) (each (λ e. handler (control s) e (start m)) (λ e. quiet.handlers (control s) e (start m)) (events s.starts)))
+      (both (mode name s ∷ []) starts (one (mode name s) (quiet.modes name s))
+      (each (λ e. handler (control s) e (start m)) (λ e. quiet.handlers (control s) e (start m)) (events s.starts)))
       (each (λ e. handler (control s) e (stop m)) (λ e. quiet.handlers (control s) e (stop m)) (events s.stops)))
       (ends (stops_at_ball_end s) (codes "ball_ending")))
       (ends (stops_at_game_end s) (codes "game_ending"))
@@ -100,12 +107,14 @@ module _ {X : Type 0} (tell : Part → List X) (quiet : IsQuiet tell) where
     abbrev told_rows : List Row → List X
     told_rows rs = told (flat_map (row_parts rows.machine whose) rs)
 
-    silent_seated : (p : Profile) (s : Shot) (seat : Option Seat) → IsSilent (seated machine whose p s seat)
+    silent_seated : (p : Profile) (s : Shot) (seat : Option Seat) → IsSilent (with_seat machine whose p s seat)
     silent_seated p s None = one (device whose (lone_device p s)) (quiet.devices whose (lone_device p s))
     silent_seated p s (Some seat) =
-        each (λ h. handler whose h.0 (act_on (record { 0 = seat.row }) h.1)) (λ h. quiet.handlers whose h.0 (act_on (record { 0 = seat.row }) h.1)) (shot_acts seat.shot s)
+        each (λ h. handler whose h.0 (act_on (record { 0 = seat.row }) h.1))
+        (λ h. quiet.handlers whose h.0 (act_on (record { 0 = seat.row }) h.1)) (shot_acts seat.shot s)
 
-    silent_entry_row : (place : Place) (seat : List ℕ → Option Seat) (to : List ℕ → Destination) (section : List ℕ) (e : Entry)
+    silent_entry_row : (place : Place) (seat : List ℕ → Option Seat) (to : List ℕ → Destination) (section : List ℕ)
+        (e : Entry)
         → IsSilentRow (entry place section e) → IsSilentRow (entry_row rows place seat to section e)
     unfolding row_parts
     silent_entry_row place seat to section e other =
@@ -118,9 +127,13 @@ module _ {X : Type 0} (tell : Part → List X) (quiet : IsQuiet tell) where
         let d = ball_device_of e in
         let ball = ball_device_from machine d (to d.target.text) in
         entry_such IsSilentRow rows place seat to section e
-        (λ is. both (known ++ named) (seated machine whose p s (seat s.name.text)) (both known named (silent_unknown (has_profile rows s.profile.text)) (silent_mention s.switch)) (silent_seated p s (seat s.name.text)))
-        (λ is. both (unknown_unless (members_of rows g).all_known) (device whose grouped ∷ []) (silent_unknown (members_of rows g).all_known) (one (device whose grouped) (quiet.devices whose grouped)))
-        (λ of is. both (unknown_unless (is_known (to d.target.text))) (device whose ball ∷ []) (silent_unknown (is_known (to d.target.text))) (one (device whose ball) (quiet.devices whose ball)))
+        (λ is. both (known ++ named) (with_seat machine whose p s (seat s.name.text))
+        (both known named (silent_unknown (has_profile rows s.profile.text)) (silent_mention s.switch))
+        (silent_seated p s (seat s.name.text)))
+        (λ is. both (unknown_unless (members_of rows g).all_known) (device whose grouped ∷ [])
+        (silent_unknown (members_of rows g).all_known) (one (device whose grouped) (quiet.devices whose grouped)))
+        (λ of is. both (unknown_unless (is_known (to d.target.text))) (device whose ball ∷ [])
+        (silent_unknown (is_known (to d.target.text))) (one (device whose ball) (quiet.devices whose ball)))
         other
 
     silent_player : (place : Place) (section : List ℕ) (p : Player) → IsSilentRow (player place section p)
@@ -133,12 +146,15 @@ module _ {X : Type 0} (tell : Part → List X) (quiet : IsQuiet tell) where
         let worked = run (map (item_effect machine) works.items) in
         let changed = run (map item_change changes.items) in
         when (bytes_eq section event_player_name) (handler whose event.event.event posted ∷ [])
-        (if bytes_eq section coil_player_name then handler whose works.event.event worked ∷ [] else (if bytes_eq section variable_player_name then handler whose changes.event.event changed ∷ [] else []))
+        (if bytes_eq section coil_player_name then handler whose works.event.event worked
+        ∷ [] else (if bytes_eq section variable_player_name then handler whose changes.event.event changed
+        ∷ [] else []))
         (one (handler whose event.event.event posted) (quiet.handlers whose event.event.event posted))
         (when (bytes_eq section coil_player_name) (handler whose works.event.event worked ∷ [])
         (if bytes_eq section variable_player_name then handler whose changes.event.event changed ∷ [] else [])
         (one (handler whose works.event.event worked) (quiet.handlers whose works.event.event worked))
-        (when (bytes_eq section variable_player_name) (handler whose changes.event.event changed ∷ []) [] (one (handler whose changes.event.event changed) (quiet.handlers whose changes.event.event changed)) refl))
+        (when (bytes_eq section variable_player_name) (handler whose changes.event.event changed ∷ []) []
+        (one (handler whose changes.event.event changed) (quiet.handlers whose changes.event.event changed)) refl))
 
     silent_alone : (place : Place) (section : List ℕ) (e : Entry) → IsSilentRow (alone place section e)
     unfolding row_parts alone_parts
@@ -154,7 +170,8 @@ module _ {X : Type 0} (tell : Part → List X) (quiet : IsQuiet tell) where
     told-cons r rs = flat_map-append tell (of_row r) (flat_map (row_parts rows.machine whose) rs)
 
     told-append : (rs qs : List Row) → told_rows (rs ++ qs) ≡ told_rows rs ++ told_rows qs
-    told-append rs qs = ap told (flat_map-append (row_parts rows.machine whose) rs qs) ∙ flat_map-append tell (flat_map (row_parts rows.machine whose) rs) (flat_map (row_parts rows.machine whose) qs)
+    told-append rs qs = ap told (flat_map-append (row_parts rows.machine whose) rs qs)
+        ∙ flat_map-append tell (flat_map (row_parts rows.machine whose) rs) (flat_map (row_parts rows.machine whose) qs)
 
     silent_rows : {Y : Type 0} (make : Y → Row) → ((y : Y) → IsSilentRow (make y)) → (ys : List Y)
         → told_rows (map make ys) ≡ []
@@ -165,18 +182,21 @@ module _ {X : Type 0} (tell : Part → List X) (quiet : IsQuiet tell) where
     silent_content : (seat : List ℕ → Option Seat) (to : List ℕ → Destination) (name : List ℕ) (content : Content)
         → told_rows (rows_from rows Mode seat to name content) ≡ []
     unfolding row_parts entry_parts
-    silent_content seat to name (entries es) = silent_rows (entry_row rows Mode seat to name) (λ e. silent_entry_row Mode seat to name e (of_mode e)) es
+    silent_content seat to name (entries es) =
+        silent_rows (entry_row rows Mode seat to name) (λ e. silent_entry_row Mode seat to name e (of_mode e)) es
       where
         of_mode : (e : Entry) → IsSilentRow (entry Mode name e)
         of_mode e = silent_where whose (device_of name e)
     silent_content seat to name (players ps) = silent_rows (player Mode name) (silent_player Mode name) ps
     silent_content seat to name (sections.entry e) = silent_rows (alone Mode name) (silent_alone Mode name) (e ∷ [])
-    silent_content seat to name (sections.listed ws) = refl
+    silent_content seat to name (sections.name_list ws) = refl
 
     silent_sections : (seat : List ℕ → Option Seat) (to : List ℕ → Destination) (ss : List SectionRows)
         → told_rows (rows_in rows Mode seat to ss) ≡ []
     silent_sections seat to [] = refl
-    silent_sections seat to (s ∷ ss) = told-append (rows_from rows Mode seat to s.name s.content) (rows_in rows Mode seat to ss) ∙ (λ i. silent_content seat to s.name s.content i ++ silent_sections seat to ss i)
+    silent_sections seat to (s ∷ ss) = told-append (rows_from rows Mode seat to s.name s.content)
+        (rows_in rows Mode seat to ss) ∙ (λ i. silent_content seat to s.name s.content i
+        ++ silent_sections seat to ss i)
 
   silent_modes : (rows : Rows) (k n : ℕ) (ms : List ModeRows) → IsSilent (modes_parts rows k n ms)
   silent_modes rows k n [] = refl
@@ -186,15 +206,19 @@ module _ {X : Type 0} (tell : Part → List X) (quiet : IsQuiet tell) where
       let first = mode_parts number m.name s in
       let text = text_parts rows (of_the_mode number s) Mode n m.sections in
       both (first ++ text) (modes_parts rows (suc k) (rows_after_text Mode n m.sections) ms)
-      (both first text (silent_mode number m.name s) (silent_sections rows (of_the_mode number s) (seat_of Mode n m.sections) (destination_of Mode n m.sections) m.sections))
+      (both first text (silent_mode number m.name s)
+      (silent_sections rows (of_the_mode number s) (seat_of Mode n m.sections) (destination_of Mode n m.sections)
+      m.sections))
       (silent_modes rows (suc k) (rows_after_text Mode n m.sections) ms)
 
   -- ---- the machine text
 
   -- Here an entry of the section of this name tells this, and no other does.
   module _ {Y : Type 0} (rows : Rows) (name : List ℕ) (f : Entry → Y) (g : Y → X)
-      (here : (seat : List ℕ → Option Seat) (to : List ℕ → Destination) (e : Entry) → told (row_parts rows.machine own (entry_row rows Machine seat to name e)) ≡ g (f e) ∷ [])
-      (elsewhere : (section : List ℕ) (e : Entry) → bytes_eq section name ≡ false → told (row_parts rows.machine own (entry Machine section e)) ≡ []) where
+      (here : (seat : List ℕ → Option Seat) (to : List ℕ → Destination) (e : Entry)
+      → told (row_parts rows.machine own (entry_row rows Machine seat to name e)) ≡ g (f e) ∷ [])
+      (elsewhere : (section : List ℕ) (e : Entry) → bytes_eq section name ≡ false
+      → told (row_parts rows.machine own (entry Machine section e)) ≡ []) where
     module _ (seat : List ℕ → Option Seat) (to : List ℕ → Destination) where
       abbrev told_own : List Row → List X
       told_own rs = told (flat_map (row_parts rows.machine own) rs)
@@ -202,22 +226,30 @@ module _ {X : Type 0} (tell : Part → List X) (quiet : IsQuiet tell) where
       entries_tell : (es : List Entry) → told_own (map (entry_row rows Machine seat to name) es) ≡ map g (map f es)
       entries_tell [] = refl
       entries_tell (e ∷ es) =
-          told-cons rows own (entry_row rows Machine seat to name e) (map (entry_row rows Machine seat to name) es) ∙ (λ i. here seat to e i ++ entries_tell es i)
+          told-cons rows own (entry_row rows Machine seat to name e) (map (entry_row rows Machine seat to name) es)
+          ∙ (λ i. here seat to e i ++ entries_tell es i)
 
       none_named : (b : Bool) → [] ≡ map g (map f (if b then [] else []))
       none_named x1 = search rules
 
       content_tells : (section : List ℕ) (content : Content)
-          → told_own (rows_from rows Machine seat to section content) ≡ map g (map f (entries_of name (record { name = section; content = content })))
+          → told_own (rows_from rows Machine seat to section content)
+          ≡ map g (map f (entries_of name (record { name = section; content = content })))
       content_tells section (entries es) = by (bytes_eq section name) refl
         where
           by : (b : Bool) → bytes_eq section name ≡ b
               → told_own (map (entry_row rows Machine seat to section) es) ≡ map g (map f (if b then es else []))
-          by true is = subst (λ n. told_own (map (entry_row rows Machine seat to n) es) ≡ map g (map f es)) (sym ((bytes_eq-Decides section name).0 is)) (entries_tell es)
-          by false is = silent_rows rows own (entry_row rows Machine seat to section) (λ e. silent_entry_row rows own Machine seat to section e (elsewhere section e is)) es
-      content_tells section (players ps) = silent_rows rows own (player Machine section) (silent_player rows own Machine section) ps ∙ none_named (bytes_eq section name)
-      content_tells section (sections.entry e) = silent_rows rows own (alone Machine section) (silent_alone rows own Machine section) (e ∷ []) ∙ none_named (bytes_eq section name)
-      content_tells section (sections.listed ws) = none_named (bytes_eq section name)
+          by true is = subst (λ n. told_own (map (entry_row rows Machine seat to n) es) ≡ map g (map f es))
+              (sym ((bytes_eq-Decides section name).0 is)) (entries_tell es)
+          by false is = silent_rows rows own (entry_row rows Machine seat to section)
+              (λ e. silent_entry_row rows own Machine seat to section e (elsewhere section e is)) es
+      content_tells section (players ps) =
+          silent_rows rows own (player Machine section) (silent_player rows own Machine section) ps
+          ∙ none_named (bytes_eq section name)
+      content_tells section (sections.entry e) =
+          silent_rows rows own (alone Machine section) (silent_alone rows own Machine section) (e ∷ [])
+          ∙ none_named (bytes_eq section name)
+      content_tells section (sections.name_list ws) = none_named (bytes_eq section name)
 
       sections_tell : (ss : List SectionRows)
           → told_own (rows_in rows Machine seat to ss) ≡ map g (flat_map (λ s. map f (entries_of name s)) ss)
@@ -232,24 +264,43 @@ module _ {X : Type 0} (tell : Part → List X) (quiet : IsQuiet tell) where
     all_tell =
         let after = rows_after_text Machine 0 rows.machine in
         flat_map-append tell (text_parts rows own Machine 0 rows.machine) (modes_parts rows 0 after rows.modes)
-        ∙ (λ i. sections_tell (seat_of Machine 0 rows.machine) (destination_of Machine 0 rows.machine) rows.machine i ++ silent_modes rows 0 after rows.modes i)
+        ∙ (λ i. sections_tell (seat_of Machine 0 rows.machine) (destination_of Machine 0 rows.machine) rows.machine i
+        ++ silent_modes rows 0 after rows.modes i)
         ∙ append-nil (map g (flat_map (λ s. map f (entries_of name s)) rows.machine))
 
 -- ---- switches and coils
 
 quiet_switches : IsQuiet given_switch
-quiet_switches = record { modes = λ name s. refl; games = λ a b c. refl; handlers = λ whose e r. refl; devices = λ whose d. refl; mentions = λ t n. refl; missing = refl }
+quiet_switches =
+    record {
+      modes = λ name s. refl;
+      games = λ a b c. refl;
+      handlers = λ whose e r. refl;
+      devices = λ whose d. refl;
+      mentions = λ t n. refl;
+      missing = refl;
+    }
 
 quiet_coils : IsQuiet given_coil
-quiet_coils = record { modes = λ name s. refl; games = λ a b c. refl; handlers = λ whose e r. refl; devices = λ whose d. refl; mentions = λ t n. refl; missing = refl }
+quiet_coils =
+    record {
+      modes = λ name s. refl;
+      games = λ a b c. refl;
+      handlers = λ whose e r. refl;
+      devices = λ whose d. refl;
+      mentions = λ t n. refl;
+      missing = refl;
+    }
 
 pub switches_given : (rows : Rows)
     → flat_map given_switch (parts_of rows) ≡ map (λ s. s.name.text) (flat_map switches_in rows.machine)
 unfolding switches_in row_parts entry_parts machine_entry_parts
-switches_given rows = all_tell given_switch quiet_switches rows switches_name switch_of (λ s. s.name.text) here elsewhere
+switches_given rows = all_tell given_switch quiet_switches rows switches_name switch_of (λ s. s.name.text) here
+    elsewhere
   where
     here : (seat : List ℕ → Option Seat) (to : List ℕ → Destination) (e : Entry)
-        → flat_map given_switch (row_parts rows.machine own (entry_row rows Machine seat to switches_name e)) ≡ (switch_of e).name.text ∷ []
+        → flat_map given_switch (row_parts rows.machine own (entry_row rows Machine seat to switches_name e))
+        ≡ (switch_of e).name.text ∷ []
     here seat to e = refl
 
     elsewhere : (section : List ℕ) (e : Entry) → bytes_eq section switches_name ≡ false
@@ -257,7 +308,9 @@ switches_given rows = all_tell given_switch quiet_switches rows switches_name sw
     elsewhere section e is = by (bytes_eq section coils_name) (bytes_eq section switches_name) is
       where
         by : (c s : Bool) → s ≡ false
-            → flat_map given_switch (if c then coil_part rows.machine own (coil_of e) ∷ [] else (if s then switch_part rows.machine own (switch_of e) ∷ [] else where_some (device own) (machine_device rows.machine own section e))) ≡ []
+            → flat_map given_switch (if c then coil_part rows.machine own (coil_of e)
+            ∷ [] else (if s then switch_part rows.machine own (switch_of e)
+            ∷ [] else where_some (device own) (machine_device rows.machine own section e))) ≡ []
         by true s is = refl
         by false true is = absurd cc
         by false false is = silent_where given_switch quiet_switches own (machine_device rows.machine own section e)
@@ -265,10 +318,12 @@ switches_given rows = all_tell given_switch quiet_switches rows switches_name sw
 pub coils_given : (rows : Rows)
     → flat_map given_coil (parts_of rows) ≡ map (λ c. (c.name.text, limits_of_coil c)) (flat_map coils_in rows.machine)
 unfolding coils_in row_parts entry_parts machine_entry_parts
-coils_given rows = all_tell given_coil quiet_coils rows coils_name coil_of (λ c. (c.name.text, limits_of_coil c)) here elsewhere
+coils_given rows = all_tell given_coil quiet_coils rows coils_name coil_of (λ c. (c.name.text, limits_of_coil c)) here
+    elsewhere
   where
     here : (seat : List ℕ → Option Seat) (to : List ℕ → Destination) (e : Entry)
-        → flat_map given_coil (row_parts rows.machine own (entry_row rows Machine seat to coils_name e)) ≡ ((coil_of e).name.text, limits_of_coil (coil_of e)) ∷ []
+        → flat_map given_coil (row_parts rows.machine own (entry_row rows Machine seat to coils_name e))
+        ≡ ((coil_of e).name.text, limits_of_coil (coil_of e)) ∷ []
     here seat to e = refl
 
     elsewhere : (section : List ℕ) (e : Entry) → bytes_eq section coils_name ≡ false
@@ -276,7 +331,9 @@ coils_given rows = all_tell given_coil quiet_coils rows coils_name coil_of (λ c
     elsewhere section e is = by (bytes_eq section coils_name) (bytes_eq section switches_name) is
       where
         by : (c s : Bool) → c ≡ false
-            → flat_map given_coil (if c then coil_part rows.machine own (coil_of e) ∷ [] else (if s then switch_part rows.machine own (switch_of e) ∷ [] else where_some (device own) (machine_device rows.machine own section e))) ≡ []
+            → flat_map given_coil (if c then coil_part rows.machine own (coil_of e)
+            ∷ [] else (if s then switch_part rows.machine own (switch_of e)
+            ∷ [] else where_some (device own) (machine_device rows.machine own section e))) ≡ []
         by true s is = absurd cc
         by false true is = refl
         by false false is = silent_where given_coil quiet_coils own (machine_device rows.machine own section e)

@@ -1,7 +1,8 @@
 -- The device of an entry, by the name of its section.
 use Rattle.std.{proofs.Common.{◌≡◌, true, false, ℕ, List, refl}, specs.{Prelude.{Some, None}, Str.bytes_eq}}
-use Rattle.mpf_sections.specs.{Rows.Entry, TypedSaves.{ball_saves_name, multiballs_name, ball_save_of, multiball_of}}
-use Rattle.mpf_sections.specs.Typed.{counters_name, accruals_name, sequences_name, timers_name, counter_of, step_block_of, timer_of}
+use Rattle.mpf_sections.specs.{Rows.Entry, Typed.{step_block_of, timer_of}}
+use Rattle.mpf_sections.specs.TypedSaves.{ball_saves_name, multiballs_name, ball_save_of, multiball_of}
+use Rattle.mpf_sections.specs.Typed.{counters_name, accruals_name, sequences_name, timers_name, counter_of}
 use Rattle.plan_tables.specs.declared.devices.Settings.TheVariants as kinds
 use Rattle.plan_parts.specs.DeviceEntries.{counter_device, step_settings, step_device, timer_device, device_of}
 use Rattle.plan_parts.specs.SaveEntries.{save_device, multiball_device, save_device_of}
@@ -35,7 +36,8 @@ module _ (section : List ℕ) (e : Entry) where
 
     module _ (more : bytes_eq section accruals_name ≡ false) where
       pub sequence_there : bytes_eq section sequences_name ≡ true
-          → Some (step_device (kinds.Sequence (step_settings (step_block_of e))) (step_block_of e)) ≡ device_of section e
+          → Some (step_device (kinds.Sequence (step_settings (step_block_of e))) (step_block_of e))
+          ≡ device_of section e
       unfolding device_of
       sequence_there is = rw (others, more, is) refl
 

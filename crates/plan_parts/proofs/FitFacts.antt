@@ -4,8 +4,8 @@ use Rattle.std.specs.{Prelude.{Option, None, Some, IfSome}, List.All}
 use Rattle.std.proofs.lemmas.List.Elements.{All-nil, All-cons, All-append, All-map, All-weaker}
 use Rattle.mpf_values.specs.Events.{Event}
 use Rattle.mpf_config.specs.{Rows.Rows, Named.IsNamedMode}
-use Rattle.mpf_sections.specs.Rows.{Handled, Entry, Player, ModeSettings}
-use Rattle.mpf_sections.specs.Rows.{Content, entries, players, entry as single, listed, SectionRows}
+use Rattle.mpf_sections.specs.Rows.{HandledEvent, Entry, Player, ModeSettings}
+use Rattle.mpf_sections.specs.Rows.{Content, entries, players, entry as single, name_list, SectionRows}
 use Rattle.mpf_sections.specs.Named.{IsName, IsNamedEntry, IsNamedPlayer, IsNamedHandled, AllNamedEvents}
 use Rattle.mpf_sections.specs.Named.{AreNamedSettings, IsNamedContent, IsNamed}
 use Rattle.mpf_sections.specs.Typed.{switch_of, event_player_of, mode_settings}
@@ -34,7 +34,8 @@ module _ (P : List ℕ → Type 0) where
   if_device whose None is = tt
   if_device whose (Some d) is = is
 
-  module _ (of : IsOfNames P) (rows : Rows) (machine : All IsNamed rows.machine) (modes : All IsNamedMode rows.modes) where
+  module _ (of : IsOfNames P) (rows : Rows) (machine : All IsNamed rows.machine)
+      (modes : All IsNamedMode rows.modes) where
     abbrev E : List ℕ → Entry → Type 0
     E section e = IsNamedEntry e
 
@@ -54,7 +55,8 @@ module _ (P : List ℕ → Type 0) where
         seats = λ section e h x is.
             let acting = shot_acts x.shot (shot_of e) in
             All-map (IsFitPart P) (λ (a : Event × Act). handler whose a.0 (act_on (record { 0 = x.row }) a.1)) acting
-            (All-weaker (λ (a : Event × Act). IsFitEvent P a.0) (λ a. IsFitEvent P a.0 × Unit {0}) (λ a is. (is, tt)) acting (fit_shot_acts P of x.shot (shot_of e) (shot_named e h)));
+            (All-weaker (λ (a : Event × Act). IsFitEvent P a.0) (λ a. IsFitEvent P a.0 × Unit {0}) (λ a is. (is, tt))
+            acting (fit_shot_acts P of x.shot (shot_of e) (shot_named e h)));
         groups =
             λ section e h. fit_group P of (shot_group_of e) (members_of rows (shot_group_of e))
             (shot_group_named e h) (members_named rows machine modes (shot_group_of e));
@@ -74,11 +76,15 @@ module _ (P : List ℕ → Type 0) where
             λ section p h. let own = event_player_named p h in
             (fit_handled P of (event_player_of p).event own.event, fit_player P of (event_player_of p) own);
         coil_players = λ section p h.
-            let own = coil_player_named p h in
-            (fit_handled P of (coil_player_of p).event own.event, All-map (IsFitEffect P) (item_effect rows.machine) (coil_player_of p).items own.items);
+            let own = coil_player_named p h in (
+              fit_handled P of (coil_player_of p).event own.event,
+              All-map (IsFitEffect P) (item_effect rows.machine) (coil_player_of p).items own.items,
+            );
         variable_players = λ section p h.
-            let own = variable_player_named p h in
-            (fit_handled P of (variable_player_of p).event own.event, All-map (IsFitEffect P) item_change (variable_player_of p).items own.items);
+            let own = variable_player_named p h in (
+              fit_handled P of (variable_player_of p).event own.event,
+              All-map (IsFitEffect P) item_change (variable_player_of p).items own.items,
+            );
       }
 
     -- ---- modes
@@ -90,12 +96,13 @@ module _ (P : List ℕ → Type 0) where
       in_stop false e is = All-nil (IsFitPart P)
 
       -- what each of these events does
-      handled_fit : (make : Event → Reaction) → ((e : Event) → IsFitReaction P (make e)) → (hs : List Handled)
+      handled_fit : (make : Event → Reaction) → ((e : Event) → IsFitReaction P (make e)) → (hs : List HandledEvent)
           → AllNamedEvents hs → All (IsFitPart P) (map (λ e. handler (control s) e (make e)) (events hs))
       handled_fit make fit hs h =
           All-map (IsFitPart P) (λ e. handler (control s) e (make e)) (events hs)
-          (All-map (λ e. IsFitEvent P e × IsFitReaction P (make e)) (λ (w : Handled). w.event) hs
-          (All-weaker IsNamedHandled (λ (w : Handled). IsFitEvent P w.event × IsFitReaction P (make w.event)) (λ w k. (fit_handled P of w k, fit w.event)) hs h))
+          (All-map (λ e. IsFitEvent P e × IsFitReaction P (make e)) (λ (w : HandledEvent). w.event) hs
+          (All-weaker IsNamedHandled (λ (w : HandledEvent). IsFitEvent P w.event × IsFitReaction P (make w.event))
+          (λ w k. (fit_handled P of w k, fit w.event)) hs h))
 
       mode_fit : (name : List ℕ) → IsName name → AreNamedSettings s → All (IsFitPart P) (mode_parts id name s)
       unfolding mode_parts
@@ -108,7 +115,8 @@ module _ (P : List ℕ → Type 0) where
           All-cons (IsFitPart P) (mode name s) (on ++ off ++ ball ++ end) named
           (All-append (IsFitPart P) (on ++ off ++ ball) end
           (All-append (IsFitPart P) (on ++ off) ball
-          (All-append (IsFitPart P) on off (handled_fit (λ e. start id) (λ e. tt) s.starts h.starts) (handled_fit (λ e. stop id) (λ e. tt) s.stops h.stops))
+          (All-append (IsFitPart P) on off (handled_fit (λ e. start id) (λ e. tt) s.starts h.starts)
+          (handled_fit (λ e. stop id) (λ e. tt) s.stops h.stops))
           (in_stop (stops_at_ball_end s) (always (codes "ball_ending")) (of.ball, tt)))
           (in_stop (stops_at_game_end s) (always (codes "game_ending")) (of.game, tt)))
 
@@ -121,7 +129,7 @@ module _ (P : List ℕ → Type 0) where
         by (entries es) h = h
         by (players ps) h = h
         by (single e) h = h
-        by (listed ws) h = tt
+        by (name_list ws) h = tt
 
     pub parts_fit : All (IsFitPart P) (parts_of rows)
     parts_fit =

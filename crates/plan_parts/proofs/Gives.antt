@@ -1,30 +1,34 @@
 -- What a row gives when it has been filled.
-use Rattle.std.proofs.Common.{◌≡◌, Bool, true, false, ℕ, Option, Result, List, [], ◌∷◌, ◌++◌, map, None, Some, codes, ◌∙◌, refl, sym, ap}
+use Rattle.std.proofs.Common.{◌≡◌, Bool, true, false, ℕ, Option, Result, List, [], ◌∷◌, ◌++◌, map, None, Some, codes}
+use Rattle.std.proofs.Common.{◌∙◌, refl, sym, ap}
 use Rattle.std.specs.{Prelude.{OnOk, option_map, not, if◌then◌else◌}, List.flat_map}
 use Rattle.std.proofs.lemmas.{Result.on_ok_weaker, List.{append-nil, append_assoc, map-append}}
 use Rattle.mpf_values.specs.Events.{Event}
-use Rattle.mpf_sections.specs.{Rows.{Written, ModeSettings}, View.block_view}
+use Rattle.mpf_sections.specs.{Rows.{WrittenName, ModeSettings}, View.block_view}
 use Rattle.mpf_sections.specs.declared.blocks.BlockEvents as typed_blocks
 use Rattle.plan_tables.specs.declared.{entries.ModeId.ModeId, table.Table.TheVariants.Switches}
 use Rattle.plan_tables.specs.declared.devices.{Settings.Settings, Act.Act}
-use Rattle.plan_parts.specs.declared.row_parts.Control.{Control, TheVariants.{Start, Stop}}
+use Rattle.plan_parts.specs.declared.row_parts.ModeControl.{ModeControl, TheVariants.{Start, Stop}}
 use Rattle.plan_parts.specs.declared.row_parts.RowParts as rows
-use Rattle.plan_parts.specs.declared.row_parts.Handled as held
-use Rattle.plan_parts.specs.declared.row_parts.Head as heads
-use Rattle.plan_parts.specs.declared.row_parts.Head.TheVariants as kinds
+use Rattle.plan_parts.specs.declared.row_parts.HandledName as held
+use Rattle.plan_parts.specs.declared.row_parts.RowHead as heads
+use Rattle.plan_parts.specs.declared.row_parts.RowHead.TheVariants as kinds
 use Rattle.plan_parts.specs.{Effects.Effect, Lists.with_last, Devices.{Device, events, always}}
 use Rattle.plan_parts.specs.DeviceEntries.{block_acts, block_mentions, block_lists}
-use Rattle.plan_parts.specs.Parts.{Whose, Part, mode, handler, device, mention, unknown, run, start, stop, where_some, where_true, unknown_unless, control, stops_at_ball_end, stops_at_game_end, mode_parts}
-use Rattle.plan_parts.specs.RowViews.{AreNoParts, whose_view, bytes_view, acts_view, names_view, handled_event_view, controlled_by, stops_where, control_part, control_parts, parts_by, head_parts, parts_in}
-use Rattle.plan_parts.specs.Gives.{Gives, AddsDevice, AddsBlock}
+use Rattle.plan_parts.specs.Parts.{Whose, Part, mode, handler, device, mention, unknown, run, start, stop, where_some}
+use Rattle.plan_parts.specs.Parts.{where_true, unknown_unless, control, stops_at_ball_end, stops_at_game_end}
+use Rattle.plan_parts.specs.{Parts.mode_parts, RowViews.parts_in, Gives.{Gives, AddsDevice, AddsBlock}}
+use Rattle.plan_parts.specs.RowViews.{AreNoParts, whose_view, bytes_view, acts_view, names_view, handled_event_view}
+use Rattle.plan_parts.specs.RowViews.{controlled_by, stops_where, control_part, control_parts, parts_by, head_parts}
 
 -- ---- what a row is, and what else it gives
 
 -- if nothing is unknown and no switch is named, what a row is is all that it gives
-pub parts_of_head : (r : rows.RowParts) (h : heads.Head) → r.unknown ≡ false → r.mention ≡ None → r.head ≡ h
+pub parts_of_head : (r : rows.RowParts) (h : heads.RowHead) → r.unknown ≡ false → r.mention ≡ None → r.head ≡ h
     → parts_in r ≡ parts_by r h
 parts_of_head r h known mentions head =
-    λ i. (if known i then unknown ∷ [] else []) ++ where_some (λ n. mention Switches n.now) (mentions i) ++ parts_by r (head i)
+    λ i. (if known i then unknown ∷ [] else []) ++ where_some (λ n. mention Switches n.now) (mentions i)
+    ++ parts_by r (head i)
 
 where_mapped : {X Y : Type 0} (part : Y → Part) (f : X → Y) (o : Option X)
     → where_some (λ x. part (f x)) o ≡ where_some part (option_map f o)
@@ -36,47 +40,58 @@ unknown_where true = refl
 unknown_where false = refl
 
 -- what a setting names and nothing has, the switch, and the rest
-pub parts_with_switch : (r : rows.RowParts) (known : Bool) (switch : Option Written) (rest : List Part)
+pub parts_with_switch : (r : rows.RowParts) (known : Bool) (switch : Option WrittenName) (rest : List Part)
     → r.unknown ≡ not known
     → option_map (λ n. n.now) r.mention ≡ option_map (λ w. w.text) switch → head_parts r ≡ rest
     → parts_in r ≡ unknown_unless known ++ where_some (λ w. mention Switches w.text) switch ++ rest
 parts_with_switch r known switch rest is names head =
     let unknown_is = ap (λ (b : Bool). if b then unknown ∷ [] else []) is ∙ unknown_where known in
     let switch_is =
-    where_mapped (mention Switches) (λ n. n.now) r.mention ∙ ap (where_some (mention Switches)) names ∙ sym (where_mapped (mention Switches) (λ (w : Written). w.text) switch) in
+    where_mapped (mention Switches) (λ n. n.now) r.mention ∙ ap (where_some (mention Switches)) names
+    ∙ sym (where_mapped (mention Switches) (λ (w : WrittenName). w.text) switch) in
     λ i. unknown_is i ++ switch_is i ++ head i
 
 pub parts_with_unknown : (r : rows.RowParts) (known : Bool) (rest : List Part) → r.unknown ≡ not known
     → r.mention ≡ None → head_parts r ≡ rest → parts_in r ≡ unknown_unless known ++ rest
 parts_with_unknown r known rest is mentions head =
     let unknown_is = ap (λ (b : Bool). if b then unknown ∷ [] else []) is ∙ unknown_where known in
-    (λ i. unknown_is i ++ where_some (λ n. mention Switches n.now) (mentions i) ++ head i) ∙ ap (λ ps. ps ++ rest) (append-nil (unknown_unless known))
+    (λ i. unknown_is i ++ where_some (λ n. mention Switches n.now) (mentions i) ++ head i)
+    ∙ ap (λ ps. ps ++ rest) (append-nil (unknown_unless known))
 
 -- ---- devices
 
 -- a row that is a device
 pub parts_of_device : (r : rows.RowParts) (whose : Whose) (d : Device) → whose_view r.whose ≡ whose
-    → bytes_view r.listens.items ≡ d.listens → acts_view r.handled.items ≡ d.handled
-    → names_view r.mentioned.items ≡ d.mentioned → r.lists ≡ d.lists
+    → bytes_view r.listens.items ≡ d.listens → acts_view r.event_acts.items ≡ d.event_acts
+    → names_view r.other_mentions.items ≡ d.other_mentions → r.lists ≡ d.lists
     → parts_by r (kinds.Device d.settings) ≡ device whose d ∷ []
-parts_of_device r whose d of listens handled mentioned lists =
-    λ i. device (of i) (record { settings = d.settings; listens = listens i; handled = handled i; mentioned = mentioned i; lists = lists i }) ∷ []
+parts_of_device r whose d of listens event_acts other_mentions lists =
+    λ i. device (of i)
+    (record {
+      settings = d.settings;
+      listens = listens i;
+      event_acts = event_acts i;
+      other_mentions = other_mentions i;
+      lists = lists i;
+    }) ∷ []
 
 -- a device that is added where there was nothing is what the row is
 pub head_of_device : (old new : rows.RowParts) (whose : Whose) (d : Device) → AddsDevice old new d
-    → whose_view old.whose ≡ whose → old.listens.items ≡ [] → old.handled.items ≡ []
-    → old.mentioned.items ≡ [] → old.lists ≡ [] → head_parts new ≡ device whose d ∷ []
-head_of_device old new whose d a of listens handled mentioned lists =
+    → whose_view old.whose ≡ whose → old.listens.items ≡ [] → old.event_acts.items ≡ []
+    → old.other_mentions.items ≡ [] → old.lists ≡ [] → head_parts new ≡ device whose d ∷ []
+head_of_device old new whose d a of listens event_acts other_mentions lists =
     ap (parts_by new) a.head
-    ∙ parts_of_device new whose d (ap whose_view a.of ∙ of) (a.listens ∙ ap (λ xs. bytes_view xs ++ d.listens) listens) (a.handled ∙ ap (λ xs. acts_view xs ++ d.handled) handled)
-    (a.mentioned ∙ ap (λ xs. names_view xs ++ d.mentioned) mentioned) (a.lists ∙ ap (λ ls. ls ++ d.lists) lists)
+    ∙ parts_of_device new whose d (ap whose_view a.of ∙ of) (a.listens ∙ ap (λ xs. bytes_view xs ++ d.listens) listens)
+    (a.event_acts ∙ ap (λ xs. acts_view xs ++ d.event_acts) event_acts)
+    (a.other_mentions ∙ ap (λ xs. names_view xs ++ d.other_mentions) other_mentions)
+    (a.lists ∙ ap (λ ls. ls ++ d.lists) lists)
 
 -- and all that it gives
 pub gives_device : (old new : rows.RowParts) (d : Device) → AddsDevice old new d
     → Gives old new (λ whose. device whose d ∷ [])
 gives_device old new d a whose none =
     parts_of_head new new.head (a.known ∙ none.known) (a.mentions ∙ none.mentions) refl
-    ∙ head_of_device old new whose d a none.of none.listens none.handled none.mentioned none.lists
+    ∙ head_of_device old new whose d a none.of none.listens none.event_acts none.other_mentions none.lists
 
 -- a call that adds a device gives it
 pub gives_added : {T E : Type 0} (r : Result T E) (old new : rows.RowParts) (d : Device) (more : Whose → List Part)
@@ -93,20 +108,21 @@ gives_some r old new d o is added =
     gives_added r old new d (λ whose. where_some (device whose) o) (λ whose. ap (where_some (device whose)) is) added
 
 -- a device that listens to no switch, and names no other event
-pub device_acting : {old new : rows.RowParts} (settings : Settings) (handled : List (Event × Act))
+pub device_acting : {old new : rows.RowParts} (settings : Settings) (event_acts : List (Event × Act))
     (lists : List (List Effect)) → new.head ≡ kinds.Device settings → new.whose ≡ old.whose
     → new.unknown ≡ old.unknown → new.mention ≡ old.mention → new.listens ≡ old.listens
-    → new.mentioned ≡ old.mentioned
-    → acts_view new.handled.items ≡ acts_view old.handled.items ++ handled → new.lists ≡ old.lists ++ lists
-    → AddsDevice old new (record { settings = settings; listens = []; handled = handled; mentioned = []; lists = lists })
-device_acting {old} {new} settings handled lists head of known mentions listening mentioning acting doing = record {
+    → new.other_mentions ≡ old.other_mentions
+    → acts_view new.event_acts.items ≡ acts_view old.event_acts.items ++ event_acts → new.lists ≡ old.lists ++ lists
+    → AddsDevice old new
+    (record { settings = settings; listens = []; event_acts = event_acts; other_mentions = []; lists = lists })
+device_acting {old} {new} settings event_acts lists head of known mentions listening mentioning acting doing = record {
   head = head;
   of = of;
   known = known;
   mentions = mentions;
   listens = ap (λ v. bytes_view v.items) listening ∙ sym (append-nil (bytes_view old.listens.items));
-  handled = acting;
-  mentioned = ap (λ v. names_view v.items) mentioning ∙ sym (append-nil (names_view old.mentioned.items));
+  event_acts = acting;
+  other_mentions = ap (λ v. names_view v.items) mentioning ∙ sym (append-nil (names_view old.other_mentions.items));
   lists = doing;
 }
 
@@ -120,8 +136,8 @@ more_lists {old} {mid} d lists more a doing = record {
   known = a.known;
   mentions = a.mentions;
   listens = a.listens;
-  handled = a.handled;
-  mentioned = a.mentioned;
+  event_acts = a.event_acts;
+  other_mentions = a.other_mentions;
   lists = doing ∙ ap (λ l. l ++ more) a.lists ∙ append_assoc old.lists d.lists more;
 }
 
@@ -131,17 +147,18 @@ more_lists {old} {mid} d lists more a doing = record {
 pub block_device : {old mid new : rows.RowParts} {name : List ℕ} {block : typed_blocks.BlockEvents} (text : List ℕ)
     (settings : Settings) (first : List (Event × Act)) → name ≡ text
     → mid.head ≡ kinds.Device settings → mid.whose ≡ old.whose → mid.unknown ≡ old.unknown
-    → mid.mention ≡ old.mention → mid.listens ≡ old.listens → mid.mentioned ≡ old.mentioned
-    → mid.lists ≡ old.lists → acts_view mid.handled.items ≡ acts_view old.handled.items ++ first
+    → mid.mention ≡ old.mention → mid.listens ≡ old.listens → mid.other_mentions ≡ old.other_mentions
+    → mid.lists ≡ old.lists → acts_view mid.event_acts.items ≡ acts_view old.event_acts.items ++ first
     → AddsBlock mid new name block
     → AddsDevice old new (record {
       settings = settings;
       listens = [];
-      handled = first ++ block_acts (block_view block);
-      mentioned = block_mentions (block_view block);
+      event_acts = first ++ block_acts (block_view block);
+      other_mentions = block_mentions (block_view block);
       lists = block_lists text (block_view block);
     })
-block_device {old} {mid} {new} {name} {block} text settings first named head of known mentions listens mentioned lists acting b =
+block_device {old} {mid} {new} {name} {block} text settings first named head of known mentions listens other_mentions
+    lists acting b =
     let acts = block_acts (block_view block) in
     record {
       head = b.head ∙ head;
@@ -149,8 +166,9 @@ block_device {old} {mid} {new} {name} {block} text settings first named head of 
       known = b.known ∙ known;
       mentions = b.mentions ∙ mentions;
       listens = ap (λ v. bytes_view v.items) (b.listens ∙ listens) ∙ sym (append-nil (bytes_view old.listens.items));
-      handled = b.handled ∙ ap (λ l. l ++ acts) acting ∙ append_assoc (acts_view old.handled.items) first acts;
-      mentioned = b.mentioned ∙ ap (λ v. names_view v.items ++ block_mentions (block_view block)) mentioned;
+      event_acts = b.event_acts ∙ ap (λ l. l ++ acts) acting ∙ append_assoc (acts_view old.event_acts.items) first acts;
+      other_mentions = b.other_mentions ∙ ap (λ v. names_view v.items ++ block_mentions (block_view block))
+          other_mentions;
       lists = b.lists ∙ (λ i. lists i ++ block_lists (named i) (block_view block));
     }
 
@@ -163,7 +181,7 @@ gives_nothing r more is whose none = parts_of_head r kinds.Nothing none.known no
 -- ---- handlers
 
 -- a row that is a handler of this event, with one list that does these things
-pub gives_handler : (old new : rows.RowParts) (h : held.Handled) (event : Event) (more : List Effect)
+pub gives_handler : (old new : rows.RowParts) (h : held.HandledName) (event : Event) (more : List Effect)
     (begun : List (List Effect)) → new.head ≡ kinds.Handler h → new.whose ≡ old.whose
     → new.unknown ≡ old.unknown → new.mention ≡ old.mention → handled_event_view h ≡ event
     → begun ≡ old.lists ++ [] ∷ [] → new.lists ≡ with_last more begun
@@ -193,9 +211,10 @@ stopped_where whose m true name = refl
 stopped_where whose m false name = refl
 
 -- what starts and stops a mode
-abbrev pub controls_of_mode : ModeSettings → List (Event × Control)
+abbrev pub controls_of_mode : ModeSettings → List (Event × ModeControl)
 controls_of_mode s =
-    map (controlled_by Start) (events s.starts) ++ map (controlled_by Stop) (events s.stops) ++ stops_where (stops_at_ball_end s) (codes "ball_ending")
+    map (controlled_by Start) (events s.starts) ++ map (controlled_by Stop) (events s.stops)
+    ++ stops_where (stops_at_ball_end s) (codes "ball_ending")
     ++ stops_where (stops_at_game_end s) (codes "game_ending")
 
 pub parts_of_mode : (m : ModeId) (name : List ℕ) (s : ModeSettings)
@@ -209,8 +228,10 @@ parts_of_mode m name s =
     let game = stops_where (stops_at_game_end s) (codes "game_ending") in
     ap (λ ps. mode name s ∷ ps)
     (map-append part (starts ++ stops ++ ball) game
-    ∙ ap (λ ps. ps ++ map part game) (map-append part (starts ++ stops) ball ∙ ap (λ ps. ps ++ map part ball) (map-append part starts stops))
-    ∙ (λ i. started (control s) m (events s.starts) i ++ stopped (control s) m (events s.stops) i ++ stopped_where (control s) m (stops_at_ball_end s) (codes "ball_ending") i
+    ∙ ap (λ ps. ps ++ map part game) (map-append part (starts ++ stops) ball
+    ∙ ap (λ ps. ps ++ map part ball) (map-append part starts stops))
+    ∙ (λ i. started (control s) m (events s.starts) i ++ stopped (control s) m (events s.stops) i
+    ++ stopped_where (control s) m (stops_at_ball_end s) (codes "ball_ending") i
     ++ stopped_where (control s) m (stops_at_game_end s) (codes "game_ending") i))
 
 -- ---- rows

@@ -1,8 +1,10 @@
 -- Effect lists in one buffer, and the last of them.
-use Rattle.std.proofs.Common.{◌≡◌, ℕ, zero, suc, ◌+◌, ◌-◌, ◌<◌, ◌≤◌, true, nat_le, nat_eq, List, [], ◌∷◌, ◌++◌, length, map, take, drop, set, get_or, refl, sym, ap, ◌∙◌, arith}
+use Rattle.std.proofs.Common.{◌≡◌, ℕ, zero, suc, ◌+◌, ◌-◌, ◌<◌, ◌≤◌, true, nat_le, nat_eq, List, [], ◌∷◌, ◌++◌, length}
+use Rattle.std.proofs.Common.{map, take, drop, set, get_or, refl, sym, ap, ◌∙◌, arith}
 use Rattle.std.specs.{List.flat_map, Prelude.{Result, Ok, Err, OnOk, OnErr}}
 use Rattle.std.proofs.lemmas.Bool.{and_parts, and_from, leb-true, le-leb, eqb-true, eq-eqb}
-use Rattle.std.proofs.lemmas.List.{append-nil, append_assoc, map-append, length-map, length-append, length-drop, take_all, take-append-le, drop-append-le, take-append-drop, drop-drop, drop_all}
+use Rattle.std.proofs.lemmas.List.{append-nil, append_assoc, map-append, length-map, length-append, length-drop}
+use Rattle.std.proofs.lemmas.List.{take_all, take-append-le, drop-append-le, take-append-drop, drop-drop, drop_all}
 use Rattle.plan_parts.specs.{Effects.Effect, Lists.{are_ends, lists_from, with_last}}
 
 -- ---- the last list
@@ -63,12 +65,14 @@ pub are_ends-added : (b : ℕ) (es : List ℕ) (n : ℕ) → 0 < length es → a
     → are_ends b (set es (length es - 1) (n + 1)) (n + 1) ≡ true
 are_ends-added b [] n some h = absurd (omega arith)
 are_ends-added b (e ∷ []) n some h =
-    and_from (nat_le b (n + 1)) (nat_eq (n + 1) (n + 1)) (le-leb b (n + 1) (omega (arith, begin_within b (e ∷ []) n h))) (eq-eqb (n + 1) (n + 1) refl)
+    and_from (nat_le b (n + 1)) (nat_eq (n + 1) (n + 1)) (le-leb b (n + 1) (omega (arith, begin_within b (e ∷ []) n h)))
+    (eq-eqb (n + 1) (n + 1) refl)
 are_ends-added b (e ∷ f ∷ es) n some h =
     let p = and_parts (nat_le b e) (are_ends e (f ∷ es) n) h in
     let next : length (e ∷ f ∷ es) - 1 ≡ suc (length (f ∷ es) - 1) = omega arith in
     ap (λ i. are_ends b (set (e ∷ f ∷ es) i (n + 1)) (n + 1)) next
-    ∙ and_from (nat_le b e) (are_ends e (set (f ∷ es) (length (f ∷ es) - 1) (n + 1)) (n + 1)) p.0 (are_ends-added e (f ∷ es) n (omega arith) p.1)
+    ∙ and_from (nat_le b e) (are_ends e (set (f ∷ es) (length (f ∷ es) - 1) (n + 1)) (n + 1)) p.0
+    (are_ends-added e (f ∷ es) n (omega arith) p.1)
 
 pub lists_from-added : {X : Type 0} (f : X → Effect) (b : ℕ) (es : List ℕ) (xs : List X) (x : X)
     → are_ends b es (length xs) ≡ true
@@ -79,7 +83,8 @@ lists_from-added f b (e ∷ []) xs x h =
     let p = and_parts (nat_le b e) (nat_eq e (length xs)) h in
     let le = leb-true b e p.0 in
     let is = eqb-true e (length xs) p.1 in
-    let whole = take_all (length xs + 1 - b) (drop b xs ++ x ∷ []) (omega (arith, length-append (drop b xs) (x ∷ []), length-drop b xs)) in
+    let whole = take_all (length xs + 1 - b) (drop b xs ++ x ∷ [])
+    (omega (arith, length-append (drop b xs) (x ∷ []), length-drop b xs)) in
     let before = take_all (e - b) (drop b xs) (omega (arith, length-drop b xs)) in
     ap (λ l. map f (take (length xs + 1 - b) l) ∷ []) (drop-append-le b xs (x ∷ []) (omega arith))
     ∙ ap (λ l. map f l ∷ []) whole
@@ -95,7 +100,8 @@ lists_from-added f b (e ∷ e2 ∷ es) xs x h =
     ∙ take-append-le (e - b) (drop b xs) (x ∷ []) (omega (arith, length-drop b xs)) in
     let next : length (e ∷ e2 ∷ es) - 1 ≡ suc (length (e2 ∷ es) - 1) = omega arith in
     ap (λ i. map (map f) (lists_from b (set (e ∷ e2 ∷ es) i (length xs + 1)) (xs ++ x ∷ []))) next
-    ∙ ap (λ l. map f l ∷ map (map f) (lists_from e (set (e2 ∷ es) (length (e2 ∷ es) - 1) (length xs + 1)) (xs ++ x ∷ []))) here
+    ∙ ap (λ l. map f l ∷ map (map f) (lists_from e (set (e2 ∷ es) (length (e2 ∷ es) - 1) (length xs + 1))
+    (xs ++ x ∷ []))) here
     ∙ ap (λ l. map f (take (e - b) (drop b xs)) ∷ l) rest
 
 -- ---- a list by its number
@@ -115,7 +121,8 @@ ends_rise b (e ∷ es) n (suc k) d h within =
     ends_rise e es n k d (and_parts (nat_le b e) (are_ends e es n) h).1 (omega arith)
 
 pub list_at : {X Y : Type 0} (f : X → Y) (b : ℕ) (es : List ℕ) (xs : List X) (k d : ℕ) → k < length es
-    → get_or (map (map f) (lists_from b es xs)) k [] ≡ map f (take (get_or es k d - get_or (b ∷ es) k d) (drop (get_or (b ∷ es) k d) xs))
+    → get_or (map (map f) (lists_from b es xs)) k []
+    ≡ map f (take (get_or es k d - get_or (b ∷ es) k d) (drop (get_or (b ∷ es) k d) xs))
 list_at f b [] xs k d within = absurd (omega arith)
 list_at f b (e ∷ es) xs zero d within = refl
 list_at f b (e ∷ es) xs (suc k) d within = list_at f e es xs k d (omega arith)
@@ -128,7 +135,8 @@ lists_from-all b [] xs h = sym (drop_all b xs (omega (arith, eqb-true b (length 
 lists_from-all b (e ∷ es) xs h =
     let p = and_parts (nat_le b e) (are_ends e es (length xs)) h in
     let le = leb-true b e p.0 in
-    ap (λ l. take (e - b) (drop b xs) ++ l) (lists_from-all e es xs p.1 ∙ ap (λ k. drop k xs) (omega arith) ∙ sym (drop-drop (e - b) b xs))
+    ap (λ l. take (e - b) (drop b xs) ++ l)
+    (lists_from-all e es xs p.1 ∙ ap (λ k. drop k xs) (omega arith) ∙ sym (drop-drop (e - b) b xs))
     ∙ take-append-drop (e - b) (drop b xs)
 
 pub flat_map-mapped : {X Y : Type 0} (f : X → Y) (ls : List (List X))

@@ -6,7 +6,7 @@ use Rattle.std.proofs.lemmas.List.Elements.{All-nil, All-cons, All-head, All-tai
 use Rattle.mpf_values.specs.Events.{Event}
 use Rattle.mpf_config.specs.Rows.{ModeRows, Rows}
 use Rattle.mpf_sections.specs.Rows.{Entry, Player, ModeSettings, Content, entries, players}
-use Rattle.mpf_sections.specs.{Rows.{entry as single, listed, SectionRows}, Typed.mode_settings, TypedShots.shot_of}
+use Rattle.mpf_sections.specs.{Rows.{entry as single, name_list, SectionRows}, Typed.mode_settings, TypedShots.shot_of}
 use Rattle.plan_tables.specs.declared.entries.ModeId.{ModeId}
 use Rattle.plan_rows.specs.{declared.place.Place.{Place, TheVariants.{Machine, Mode}}, Seats.rows_after_text}
 use Rattle.plan_parts.specs.{ShotEntries.shot_acts, PartKinds.IsNoMode}
@@ -33,7 +33,7 @@ any s = by s.content
     by (entries es) = λ i d within. tt
     by (players ps) = λ i d within. tt
     by (single e) = tt
-    by (listed ws) = tt
+    by (name_list ws) = tt
 
 -- no part of a text is a mode
 no_modes : (rows : Rows) (whose : Whose) (place : Place) (n : ℕ) (ss : List SectionRows)
@@ -111,7 +111,8 @@ module _ {X : Type 0} (tell : Part → List X) (quiet : (p : Part) → IsNoMode 
       let rest = modes_parts rows (suc k) (rows_after_text Mode n m.sections) ms in
       flat_map-append tell (first ++ text) rest
       ∙ ap₂ (λ a b. a ++ b)
-      (flat_map-append tell first text ∙ ap₂ (λ a b. a ++ b) (mode_told id m.name s ∙ append-nil (told m)) (text_told rows whose Mode n m.sections) ∙ append-nil (told m))
+      (flat_map-append tell first text ∙ ap₂ (λ a b. a ++ b) (mode_told id m.name s ∙ append-nil (told m))
+      (text_told rows whose Mode n m.sections) ∙ append-nil (told m))
       (modes_from rows (suc k) (rows_after_text Mode n m.sections) ms)
 
   -- what modes alone tell is told by those of the rows

@@ -59,7 +59,8 @@ at_middle (b ∷ bs) own later n (suc r) x first from is =
 
 -- ---- the texts of a configuration
 
--- A text of rows: its owner is the machine, or one of the modes that there are; and which rows of the parts are its own.
+-- A text of rows: its owner is the machine, or one of the modes that there are; and which rows of the parts are its
+-- own.
 pub record IsTextOf (rows : Rows) (whose : Whose) (place : Place) (n : ℕ) (ss : List SectionRows) : Type 0 where
   pub owner : IsOwnerBelow (length rows.modes) whose.owner
   pub machine : place ≡ Machine → whose.owner ≡ owners.Machine
@@ -113,7 +114,8 @@ module _ (rows : Rows) (Q : Part → Type 0) (S : SectionRows → Type 0) (M : M
     machine = machine;
     rows_at = λ r ball at.
         marked_row (rows_of_parts (parts_of rows)) r whose ball
-        (ap (λ l. slice_get l r) (sym (marks_are (parts_of rows)) ∙ is) ∙ at_middle before (rows_of_text whose place ss) later n r (whose, ball) first at.0 at.1);
+        (ap (λ l. slice_get l r) (sym (marks_are (parts_of rows)) ∙ is)
+        ∙ at_middle before (rows_of_text whose place ss) later n r (whose, ball) first at.0 at.1);
   }
 
   module _ (each : EachText) where
@@ -136,13 +138,17 @@ module _ (rows : Rows) (Q : Part → Type 0) (S : SectionRows → Type 0) (M : M
         is ∙ ap (λ l. before ++ l)
         (flat_map-append mark (begin ++ text) rest
         ∙ ap (λ l. l ++ marks rest)
-        (flat_map-append mark begin text ∙ ap₂ (λ a b. a ++ b) (mode_marks id m.name s) (text_marks whose Mode n m.sections rows))) in
+        (flat_map-append mark begin text ∙ ap₂ (λ a b. a ++ b) (mode_marks id m.name s)
+        (text_marks whose Mode n m.sections rows))) in
         let next : length (before ++ own) ≡ after = omega
         (arith, length-append before own, first, rows_counted whose Mode n m.sections) in
         All-append Q (begin ++ text) rest
         (All-append Q begin text (each.mode k m below here)
-        (each.text whose Mode n m.sections (text_of whose Mode n m.sections before (marks rest) below (λ is. absurd cc) first so) (each.sections m here)))
-        (modes_each (suc k) after ms (before ++ own) (omega (arith, count)) next (so ∙ sym (append_assoc before own (marks rest))) (All-tail M m ms h))
+        (each.text whose Mode n m.sections
+        (text_of whose Mode n m.sections before (marks rest) below (λ is. absurd cc) first so)
+        (each.sections m here)))
+        (modes_each (suc k) after ms (before ++ own) (omega (arith, count)) next
+        (so ∙ sym (append_assoc before own (marks rest))) (All-tail M m ms h))
 
     -- so it holds of all parts
     pub parts_each : All S rows.machine → All M rows.modes → All Q (parts_of rows)
@@ -155,5 +161,7 @@ module _ (rows : Rows) (Q : Part → Type 0) (S : SectionRows → Type 0) (M : M
         let so : all ≡ mine ++ marks rest = flat_map-append mark text rest ∙ ap (λ l. l ++ marks rest)
         (text_marks own Machine 0 rows.machine rows) in
         All-append Q text rest
-        (each.text own Machine 0 rows.machine (text_of own Machine 0 rows.machine [] (marks rest) tt (λ is. refl) refl so) machine)
-        (modes_each 0 after rows.modes mine (omega arith) (omega (arith, rows_counted own Machine 0 rows.machine)) so modes)
+        (each.text own Machine 0 rows.machine
+        (text_of own Machine 0 rows.machine [] (marks rest) tt (λ is. refl) refl so) machine)
+        (modes_each 0 after rows.modes mine (omega arith) (omega (arith, rows_counted own Machine 0 rows.machine)) so
+        modes)

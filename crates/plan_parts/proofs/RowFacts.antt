@@ -8,8 +8,8 @@ use Rattle.std.proofs.lemmas.{Grind.flat_map-append, Option.slice_get_within}
 use Rattle.std.proofs.lemmas.List.Elements.{All-nil, All-cons, All-append, All-map, All-weaker}
 use Rattle.mpf_values.specs.Events.{Event}
 use Rattle.mpf_config.specs.{Rows.Rows, Short.{IsShortMode, AreListsShort}, States.HaveStates}
-use Rattle.mpf_sections.specs.Rows.{Written, Entry, Player, Shot, BallDevice, ModeSettings, Content}
-use Rattle.mpf_sections.specs.Rows.{entries, players, entry as single, listed, SectionRows}
+use Rattle.mpf_sections.specs.Rows.{WrittenName, Entry, Player, Shot, BallDeviceEntry, ModeSettings, Content}
+use Rattle.mpf_sections.specs.Rows.{entries, players, entry as single, name_list, SectionRows}
 use Rattle.mpf_sections.specs.{Typed.{event_player_of, mode_settings}, TypedCoils.{coil_of, coil_player_of}}
 use Rattle.mpf_sections.specs.TypedGame.{game_name, game_of, min_balls_of, variable_player_of}
 use Rattle.mpf_sections.specs.TypedShots.{shot_of, shot_group_of, shot_profiles_in}
@@ -55,12 +55,16 @@ module _ (rows : Rows) (has : HaveStates rows) where
   found_have : All (λ s. All (λ p. HasState (profile_of p)) (shot_profiles_in s)) (all_sections rows)
   found_have k s within j p inside =
       let q = get_or (shot_profiles_in (get_or (all_sections rows) k s)) j p in
-      omega (arith, sections_have_states rows has k s within j p inside, length-map q.states (λ (w : Written). w.text))
+      omega (
+        arith,
+        sections_have_states rows has k s within j p inside,
+        length-map q.states (λ (w : WrittenName). w.text),
+      )
 
   profile_has : (name : List ℕ) → HasState (profile_of_name rows name)
   profile_has name = found_such HasState standard_has rows found_have name
 
-  first_has : (ws : List Written) → HasState (first_profile rows ws)
+  first_has : (ws : List WrittenName) → HasState (first_profile rows ws)
   first_has ws = first_such HasState standard_has rows found_have ws
 
 -- ---- the game is a part
@@ -148,7 +152,7 @@ module _ (rows : Rows) where
           omega (arith, within)
   ball_target whose _ n ss at machine name = absurd cc
 
-  ball_drains : (d : BallDevice) → All (All (DrainsIn has)) (ball_lists rows.machine d)
+  ball_drains : (d : BallDeviceEntry) → All (All (DrainsIn has)) (ball_lists rows.machine d)
   ball_drains d =
       let D : Effect → Type 0 = DrainsIn has in
       seven (All D) _ _ _ _ _ _ _
@@ -197,7 +201,8 @@ module _ (rows : Rows) where
         device_part d is.sound is.plain (λ some. machine) (machine_kind d.settings whose.owner machine)
 
     ball_part : (section : List ℕ) (e : Entry) → E section e → place ≡ Machine
-        → IsPartOf rows (device whose (ball_device_from rows.machine (ball_device_of e) (destination_of place n ss (ball_device_of e).target.text)))
+        → IsPartOf rows (device whose (ball_device_from rows.machine (ball_device_of e)
+        (destination_of place n ss (ball_device_of e).target.text)))
     ball_part section e short own =
         let b = ball_device_of e in
         let to = destination_of place n ss b.target.text in
@@ -223,7 +228,12 @@ module _ (rows : Rows) where
     coil_within : (e : Entry) → AreLimits (limits_of_coil (coil_of e))
     coil_within e =
         let h = coil_in_range e in
-        record { some_pulse = h.max_pulse_ms.0; pulse = h.max_pulse_ms.1; pulse_power = h.max_pulse_power; hold_power = h.max_hold_power }
+        record {
+          some_pulse = h.max_pulse_ms.0;
+          pulse = h.max_pulse_ms.1;
+          pulse_power = h.max_pulse_power;
+          hold_power = h.max_hold_power;
+        }
 
     rules_within : (e : Entry)
         → AreRules (min_balls_of rows.machine) (game_of e).balls_per_game (game_of e).max_players
@@ -232,7 +242,8 @@ module _ (rows : Rows) where
     seat_is : (s : Shot) (x : Seat) → seat_of place n ss s.name.text ≡ Some x → IsRowOf all x.row whose false
     seat_is s x is =
         at.rows_at x.row false
-        (subst (λ o. IfSome o (λ y. IsRowAt n (rows_of_text whose place ss) (whose, false) y.row)) is (seat_at whose place n ss s.name.text))
+        (subst (λ o. IfSome o (λ y. IsRowAt n (rows_of_text whose place ss) (whose, false) y.row)) is
+        (seat_at whose place n ss s.name.text))
 
     each_part : EachPart rows whose place n ss (IsPartOf rows) E L
     each_part = record {
@@ -278,8 +289,12 @@ module _ (rows : Rows) where
         at.owner,
         (
           All-map IsOfNoBall posts (texts (event_player_of p).posts) (λ i d within. tt),
-          λ h. omega
-              (arith, event_player_short p (short h), length-map (event_player_of p).posts (λ (w : Written). w.text), length-map (texts (event_player_of p).posts) posts),
+          λ h. omega (
+            arith,
+            event_player_short p (short h),
+            length-map (event_player_of p).posts (λ (w : WrittenName). w.text),
+            length-map (texts (event_player_of p).posts) posts,
+          ),
         ),
       );
       coil_players = λ section p short. (
@@ -335,7 +350,7 @@ module _ (rows : Rows) where
       by (entries es) short = λ i d within h. (short h).0 i d within
       by (players ps) short = λ i d within h. (short h).1 i d within
       by (single e) short = λ h. (short h).2 0 e (omega arith)
-      by (listed ws) short = tt
+      by (name_list ws) short = tt
 
   pub parts_are : All (IsPartOf rows) (parts_of rows)
   parts_are =

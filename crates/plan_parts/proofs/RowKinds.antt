@@ -1,6 +1,6 @@
 -- What an entry gives, by the name of its section.
-use Rattle.std.proofs.Common.{◌≡◌, ◌≤◌, true, false, ℕ, Option, None, Some, List, [], ◌∷◌, length, map, refl, sym, ap, ◌∙◌}
-use Rattle.std.specs.{Prelude.slice_get, Str.bytes_eq}
+use Rattle.std.proofs.Common.{◌≡◌, ◌≤◌, true, false, ℕ, Option, None, Some, List, [], ◌∷◌, length, map, refl, sym, ap}
+use Rattle.std.{proofs.Common.◌∙◌, specs.{Prelude.slice_get, Str.bytes_eq}}
 use Rattle.mpf_sections.{specs.Rows.{Entry, Player, Shot, SectionRows}, proofs.ShotRows.few_short}
 use Rattle.mpf_sections.specs.{TypedBalls.ball_device_of, CoilRules.{CoilRule, coil_rule_of}}
 use Rattle.mpf_sections.specs.Typed.{switches_name, event_player_name, switch_of, event_player_of, listed_names}
@@ -10,7 +10,8 @@ use Rattle.plan_rows.specs.Seats.{Seat}
 use Rattle.mpf_sections.specs.TypedCoils.{coils_name, coil_player_name, coil_of, coil_player_of}
 use Rattle.plan_parts.specs.{Effects.posts, VariableEntries.item_change}
 use Rattle.plan_parts.specs.CoilEntries.{item_effect, coil_rule_device, rule_device_of}
-use Rattle.plan_parts.specs.Parts.{Whose, Part, texts, device, handler, run, where_some, first_of, device_of, machine_device, coil_part, switch_part, machine_entry_parts, player_parts, seated}
+use Rattle.plan_parts.specs.Parts.{Whose, Part, texts, device, handler, run, where_some, first_of, device_of}
+use Rattle.plan_parts.specs.Parts.{machine_device, coil_part, switch_part, machine_entry_parts, player_parts, with_seat}
 
 module _ (machine : List SectionRows) (section : List ℕ) where
   module _ (e : Entry) (whose : Whose) where
@@ -26,7 +27,8 @@ module _ (machine : List SectionRows) (section : List ℕ) where
       switch_there is = rw (no_coil, is) refl
 
       module _ (no_switch : bytes_eq section switches_name ≡ false) where
-        machine_device_there : where_some (device whose) (machine_device machine whose section e) ≡ machine_entry_parts machine whose section e
+        machine_device_there : where_some (device whose) (machine_device machine whose section e)
+            ≡ machine_entry_parts machine whose section e
         unfolding machine_entry_parts
         machine_device_there = rw (no_coil, no_switch) refl
 
@@ -43,19 +45,22 @@ module _ (machine : List SectionRows) (section : List ℕ) where
 
   module _ (p : Player) (whose : Whose) where
     pub event_player_there : bytes_eq section event_player_name ≡ true
-        → handler whose (event_player_of p).event.event (run (map posts (texts (event_player_of p).posts))) ∷ [] ≡ player_parts machine whose section p
+        → handler whose (event_player_of p).event.event (run (map posts (texts (event_player_of p).posts))) ∷ []
+        ≡ player_parts machine whose section p
     unfolding player_parts
     event_player_there is = rw is refl
 
     module _ (no_events : bytes_eq section event_player_name ≡ false) where
       pub coil_player_there : bytes_eq section coil_player_name ≡ true
-          → handler whose (coil_player_of p).event.event (run (map (item_effect machine) (coil_player_of p).items)) ∷ [] ≡ player_parts machine whose section p
+          → handler whose (coil_player_of p).event.event (run (map (item_effect machine) (coil_player_of p).items)) ∷ []
+          ≡ player_parts machine whose section p
       unfolding player_parts
       coil_player_there is = rw (no_events, is) refl
 
       module _ (no_coils : bytes_eq section coil_player_name ≡ false) where
         pub variable_player_there : bytes_eq section variable_player_name ≡ true
-            → handler whose (variable_player_of p).event.event (run (map item_change (variable_player_of p).items)) ∷ [] ≡ player_parts machine whose section p
+            → handler whose (variable_player_of p).event.event (run (map item_change (variable_player_of p).items)) ∷ []
+            ≡ player_parts machine whose section p
         unfolding player_parts
         variable_player_there is = rw (no_events, no_coils, is) refl
 
@@ -66,7 +71,7 @@ module _ (machine : List SectionRows) (section : List ℕ) where
 
 -- a shot needs nothing of the machine text
 pub seated_same : (a b : List SectionRows) (whose : Whose) (p : Profile) (s : Shot) (seat : Option Seat)
-    → seated a whose p s seat ≡ seated b whose p s seat
+    → with_seat a whose p s seat ≡ with_seat b whose p s seat
 seated_same a b whose p s None = refl
 seated_same a b whose p s (Some seat) = refl
 

@@ -1,4 +1,5 @@
--- The rows of devices that a text gives, as they are counted before it is read; which of them the seats of its shots are
+-- The rows of devices that a text gives, as they are counted before it is read; which of them the seats of its shots
+-- are
 -- in, and which are those of its ball devices.
 use Rattle.std.proofs.Common.{rules, ◌≡◌, ℕ, suc, ◌+◌, ◌-◌, ◌≤◌, Bool, true, false, ◌||◌, not, if◌then◌else◌, List}
 use Rattle.std.proofs.Common.{[], ◌∷◌, ◌++◌, length, map, refl, sym, ◌∙◌, ap, subst, arith}
@@ -8,10 +9,11 @@ use Rattle.std.proofs.lemmas.{Grind.flat_map-append, List.Folds.list_any-append,
 use Rattle.std.proofs.lemmas.List.Elements.{All-nil, All-cons, All-tail, All-append, All-weaker}
 use Rattle.yaml_subset.specs.Keys.{is_among}
 use Rattle.mpf_values.specs.Events.{Event}
-use Rattle.mpf_sections.specs.Rows.{Written, Entry, Player, Shot, Content, entries, players, entry as single, listed}
-use Rattle.mpf_sections.specs.{Rows.SectionRows, Typed.timer_of, TypedGame.{variable_player_name, game_name}}
+use Rattle.mpf_sections.specs.Rows.{WrittenName, Entry, Player, Shot, Content, entries, players, entry as single}
+use Rattle.mpf_sections.specs.{Rows.{name_list, SectionRows}, Typed.timer_of}
+use Rattle.mpf_sections.{specs.TypedGame.{variable_player_name, game_name}, proofs.CoilRows.coil_rule_some}
 use Rattle.mpf_sections.specs.CoilRules.{CoilRule, coil_rule_of, coil_rule_sections}
-use Rattle.mpf_sections.{proofs.CoilRows.coil_rule_some, specs.TypedCoils.{coils_name, coil_player_name, coil_of}}
+use Rattle.mpf_sections.specs.TypedCoils.{coils_name, coil_player_name, coil_of}
 use Rattle.mpf_sections.specs.Typed.{entries_of, switches_name, event_player_name, counters_name, accruals_name}
 use Rattle.mpf_sections.specs.Typed.{sequences_name, timers_name, entries_in, switch_of, counter_of, step_block_of}
 use Rattle.mpf_sections.specs.TypedShots.{shots_name, shot_groups_name, shot_of, shot_group_of, shot_groups_in}
@@ -31,9 +33,9 @@ use Rattle.plan_parts.specs.{BallEntries.{is_known, ball_device_from}, ShotEntri
 use Rattle.plan_parts.specs.SaveEntries.{save_device, multiball_device, save_device_of}
 use Rattle.plan_parts.specs.CoilEntries.{coil_rule_device, rule_device_of}
 use Rattle.plan_parts.specs.DeviceEntries.{counter_device, step_settings, step_device, timer_device, device_of}
-use Rattle.plan_parts.specs.Parts.{Whose, Device, Part, handler, device, act_on, mention, where_some, first_of, unknown_unless}
+use Rattle.plan_parts.specs.Parts.{Whose, Device, Part, handler, device, act_on, mention, where_some, first_of}
+use Rattle.plan_parts.specs.Parts.{unknown_unless, alone_parts, player_parts, with_seat, row_parts, text_parts}
 use Rattle.plan_parts.specs.Parts.{machine_device, switch_part, coil_part, machine_entry_parts, entry_parts}
-use Rattle.plan_parts.specs.Parts.{alone_parts, player_parts, seated, row_parts, text_parts}
 
 -- ---- the rows that parts give
 
@@ -80,7 +82,7 @@ module _ (whose : Whose) where
 
   -- the rows of entries
   abbrev pub rows_of_entries : Place → (List ℕ → Bool) → List (List ℕ × Entry) → List (Whose × Bool)
-  rows_of_entries place grouped es = flat_map (λ e. row_if (has_row place grouped e) (has_balls place e.0)) es
+  rows_of_entries place is_in_group es = flat_map (λ e. row_if (has_row place is_in_group e) (has_balls place e.0)) es
 
   abbrev pub rows_of_text : Place → List SectionRows → List (Whose × Bool)
   rows_of_text place ss = rows_of_entries place (is_grouped ss) (text_entries ss)
@@ -92,13 +94,17 @@ module _ (whose : Whose) where
   module _ (machine : List SectionRows) where
     -- an entry has a row if it is a ball save or a multiball
     save_row : (section : List ℕ) (e : Entry) → bytes_eq section shot_groups_name ≡ false
-        → marked (save_device_of section e) ≡ row_if (bytes_eq section ball_saves_name || (bytes_eq section multiballs_name || (bytes_eq section shot_groups_name || false))) false
+        → marked (save_device_of section e)
+        ≡ row_if (bytes_eq section ball_saves_name
+        || (bytes_eq section multiballs_name || (bytes_eq section shot_groups_name || false))) false
     unfolding save_device_of
     save_row section e =
         by (bytes_eq section ball_saves_name) (bytes_eq section multiballs_name) (bytes_eq section shot_groups_name)
       where
         by : (s m g : Bool) → g ≡ false
-            → marked (if s then Some (save_device (ball_save_of e)) else (if m then Some (multiball_device (multiball_of e)) else None)) ≡ row_if (s || (m || (g || false))) false
+            → marked (if s then Some (save_device (ball_save_of e)) else
+            (if m then Some (multiball_device (multiball_of e)) else None))
+            ≡ row_if (s || (m || (g || false))) false
         by x1 x2 g other = search rules
 
     -- an entry that is neither a shot nor a group has a row if it is a device
@@ -115,16 +121,19 @@ module _ (whose : Whose) where
             (bytes_eq section multiballs_name || (bytes_eq section shot_groups_name || false))
 
         by : (c a s t : Bool)
-            → marked (if c then Some (counter_device (counter_of e)) else (if a then Some (step_device (kinds.Accrual (step_settings (step_block_of e))) (step_block_of e))
+            → marked (if c then Some (counter_device (counter_of e)) else
+            (if a then Some (step_device (kinds.Accrual (step_settings (step_block_of e))) (step_block_of e))
             else
-            (if s then Some (step_device (kinds.Sequence (step_settings (step_block_of e))) (step_block_of e)) else (if t then Some (timer_device (timer_of e)) else save_device_of section e))))
+            (if s then Some (step_device (kinds.Sequence (step_settings (step_block_of e))) (step_block_of e)) else
+            (if t then Some (timer_device (timer_of e)) else save_device_of section e))))
             ≡ row_if (c || (a || (s || (t || saves)))) false
         by x1 x2 x3 x4 = search (rules, save_row)
 
     -- the machine text has coil rules, too, and ball devices
     machine_device_row : (section : List ℕ) (e : Entry) → bytes_eq section shot_groups_name ≡ false
         → bytes_eq section ball_devices_name ≡ false
-        → marked (machine_device machine whose section e) ≡ row_if (list_any (bytes_eq section) (row_sections Machine)) false
+        → marked (machine_device machine whose section e)
+        ≡ row_if (list_any (bytes_eq section) (row_sections Machine)) false
     machine_device_row section e other no_ball =
         by (coil_rule_of section e) (bytes_eq section ball_devices_name) (shared_row section e other) no_ball
         ∙ ap (λ b. row_if b false)
@@ -138,7 +147,8 @@ module _ (whose : Whose) where
         rule r = search rules
 
         by : (o : Option CoilRule) (b : Bool) → marked (device_of section e) ≡ row_if others false → b ≡ false
-            → marked (first_of (rule_device_of machine o) (device_of section e)) ≡ row_if (is_some o || (b || others)) false
+            → marked (first_of (rule_device_of machine o) (device_of section e))
+            ≡ row_if (is_some o || (b || others)) false
         by None b h is = search rules
         by (Some r) b h is = rule r
 
@@ -156,7 +166,9 @@ module _ (whose : Whose) where
             (ap (λ b. row_if b false) (sym out))
 
         by : (c s : Bool) → bytes_eq section coils_name ≡ c → bytes_eq section switches_name ≡ s
-            → marks (if c then coil_part machine whose (coil_of e) ∷ [] else (if s then switch_part machine whose (switch_of e) ∷ [] else where_some (device whose) (machine_device machine whose section e)))
+            → marks (if c then coil_part machine whose (coil_of e)
+            ∷ [] else (if s then switch_part machine whose (switch_of e)
+            ∷ [] else where_some (device whose) (machine_device machine whose section e)))
             ≡ row_if (is_among (row_sections Machine) section) false
         by true s is _ = without coils_name is refl
         by false true _ is = without switches_name is refl
@@ -167,7 +179,8 @@ module _ (whose : Whose) where
     -- a ball device of the machine text has one
     other_entry_row : (to : List ℕ → Destination) (place : Place) (section : List ℕ) (e : Entry)
         → bytes_eq section shot_groups_name ≡ false
-        → marks (row_parts machine whose (other_row to place section e)) ≡ row_if (is_among (row_sections place) section) (has_balls place section)
+        → marks (row_parts machine whose (other_row to place section e))
+        ≡ row_if (is_among (row_sections place) section) (has_balls place section)
     unfolding row_parts entry_parts
     other_entry_row to Machine section e other = by (bytes_eq section ball_devices_name) refl
       where
@@ -176,12 +189,15 @@ module _ (whose : Whose) where
         ball x1 d is = search rules
 
         by : (b : Bool) → bytes_eq section ball_devices_name ≡ b
-            → marks (row_parts machine whose (if b then ball_device_row to (ball_device_of e) else entry Machine section e)) ≡ row_if (is_among (row_sections Machine) section) b
+            → marks (row_parts machine whose
+            (if b then ball_device_row to (ball_device_of e) else entry Machine section e))
+            ≡ row_if (is_among (row_sections Machine) section) b
         by true is =
             ball (is_known (to (ball_device_of e).target.text))
             (ball_device_from machine (ball_device_of e) (to (ball_device_of e).target.text)) refl
             ∙ named
-            (λ s. (whose, true) ∷ [] ≡ row_if (is_among (row_sections Machine) s) true) section ball_devices_name is refl
+            (λ s. (whose, true) ∷ [] ≡ row_if (is_among (row_sections Machine) s) true) section ball_devices_name is
+            refl
         by false is = machine_row section e other is
     other_entry_row to Control section e other =
         shared_row section e other ∙ ap (λ b. row_if b false) (sym (among_same (row_sections Control) section))
@@ -191,7 +207,8 @@ module _ (whose : Whose) where
   -- ---- those that are counted
 
   -- if those shots have seats that groups list
-  module _ (rows : Rows) (place : Place) (grouped : List ℕ → Bool) (seat : List ℕ → Option Seat) (to : List ℕ → Destination) (same : (name : List ℕ) → is_some (seat name) ≡ grouped name) where
+  module _ (rows : Rows) (place : Place) (is_in_group : List ℕ → Bool) (seat : List ℕ → Option Seat)
+      (to : List ℕ → Destination) (same : (name : List ℕ) → is_some (seat name) ≡ is_in_group name) where
     abbrev given : Row → List (Whose × Bool)
     given r = marks (row_parts rows.machine whose r)
 
@@ -208,7 +225,7 @@ module _ (whose : Whose) where
         flat_map-append mark (row_parts rows.machine whose r) (flat_map (row_parts rows.machine whose) rs)
 
     -- what comes before a shot's own, and before a group's
-    none_before : (known : Bool) (o : Option Written)
+    none_before : (known : Bool) (o : Option WrittenName)
         → marks (unknown_unless known ++ where_some (λ w. mention Switches w.text) o) ≡ []
     none_before x1 x2 = search rules
 
@@ -223,20 +240,20 @@ module _ (whose : Whose) where
 
     -- a shot has a row if it has no seat
     seated_row : (s : Shot) (p : Profile) (o : Option Seat)
-        → marks (seated rows.machine whose p s o) ≡ row_if (not (is_some o)) false
+        → marks (with_seat rows.machine whose p s o) ≡ row_if (not (is_some o)) false
     seated_row s p None = refl
     seated_row s p (Some seat) = acts_give seat.row (shot_acts seat.shot s)
 
     shot_row_is : (e : Entry)
-        → given (shot_row rows place seat (shot_of e)) ≡ row_if (not (grouped e.name.text)) false
+        → given (shot_row rows place seat (shot_of e)) ≡ row_if (not (is_in_group e.name.text)) false
     unfolding row_parts shot_of
     shot_row_is e =
         let s = shot_of e in
         let p = profile_of_name rows s.profile.text in
         let before = unknown_unless (has_profile rows s.profile.text) ++ where_some
         (λ w. mention Switches w.text) s.switch in
-        flat_map-append mark before (seated rows.machine whose p s (seat e.name.text))
-        ∙ ap (λ l. l ++ marks (seated rows.machine whose p s (seat e.name.text)))
+        flat_map-append mark before (with_seat rows.machine whose p s (seat e.name.text))
+        ∙ ap (λ l. l ++ marks (with_seat rows.machine whose p s (seat e.name.text)))
         (none_before (has_profile rows s.profile.text) s.switch)
         ∙ seated_row s p (seat e.name.text)
         ∙ ap (λ b. row_if (not b) false) (same e.name.text)
@@ -246,27 +263,32 @@ module _ (whose : Whose) where
     group_row_is e = group_given _ _ refl
 
     entry_row_is : (section : List ℕ) (e : Entry)
-        → given (entry_row rows place seat to section e) ≡ row_if (has_row place grouped (section, e)) (has_balls place section)
+        → given (entry_row rows place seat to section e)
+        ≡ row_if (has_row place is_in_group (section, e)) (has_balls place section)
     entry_row_is section e = by (bytes_eq section shots_name) (bytes_eq section shot_groups_name) refl refl
       where
         by : (s g : Bool) → bytes_eq section shots_name ≡ s → bytes_eq section shot_groups_name ≡ g
-            → given (if s then shot_row rows place seat (shot_of e) else (if g then group_row rows place seat (shot_group_of e) else other_row to place section e))
-            ≡ row_if (if s then not (grouped e.name.text) else is_among (row_sections place) section)
+            → given (if s then shot_row rows place seat (shot_of e) else
+            (if g then group_row rows place seat (shot_group_of e) else other_row to place section e))
+            ≡ row_if (if s then not (is_in_group e.name.text) else is_among (row_sections place) section)
             (has_balls place section)
         by true g is _ =
             shot_row_is e
             ∙ named
-            (λ x. row_if (not (grouped e.name.text)) false ≡ row_if (not (grouped e.name.text)) (has_balls place x)) section shots_name is
-            (ap (row_if (not (grouped e.name.text))) (sym (shots_no_balls place)))
+            (λ x. row_if (not (is_in_group e.name.text)) false
+            ≡ row_if (not (is_in_group e.name.text)) (has_balls place x))
+            section shots_name is
+            (ap (row_if (not (is_in_group e.name.text))) (sym (shots_no_balls place)))
         by false true _ is =
             group_row_is e
             ∙ named
-            (λ x. (whose, false) ∷ [] ≡ row_if (is_among (row_sections place) x) (has_balls place x)) section shot_groups_name is
+            (λ x. (whose, false) ∷ [] ≡ row_if (is_among (row_sections place) x) (has_balls place x)) section
+            shot_groups_name is
             (λ i. row_if (sym (groups_among place) i) (sym (groups_no_balls place) i))
         by false false _ other = other_entry_row rows.machine to place section e other
 
     abbrev counted : List (List ℕ × Entry) → List (Whose × Bool)
-    counted es = rows_of_entries place grouped es
+    counted es = rows_of_entries place is_in_group es
 
     entries_are : (section : List ℕ) (es : List Entry)
         → all_given (map (entry_row rows place seat to section) es) ≡ counted (map (λ e. (section, e)) es)
@@ -282,7 +304,8 @@ module _ (whose : Whose) where
     unfolding row_parts player_parts
     player_gives section p =
         none_if (bytes_eq section event_player_name) _ _ refl
-        (none_if (bytes_eq section coil_player_name) _ _ refl (none_if (bytes_eq section variable_player_name) _ _ refl refl))
+        (none_if (bytes_eq section coil_player_name) _ _ refl
+        (none_if (bytes_eq section variable_player_name) _ _ refl refl))
 
     players_give : (name : List ℕ) (ps : List Player) → all_given (map (player place name) ps) ≡ []
     players_give name [] = refl
@@ -296,11 +319,12 @@ module _ (whose : Whose) where
     alone_gives _ section e = refl
 
     content_is : (name : List ℕ) (content : Content)
-        → all_given (rows_from rows place seat to name content) ≡ counted (section_entries (record { name = name; content = content }))
+        → all_given (rows_from rows place seat to name content)
+        ≡ counted (section_entries (record { name = name; content = content }))
     content_is name (entries es) = entries_are name es
     content_is name (players ps) = players_give name ps
     content_is name (single e) = all_given-cons (alone place name e) [] ∙ (λ i. alone_gives place name e i ++ [])
-    content_is name (listed ws) = refl
+    content_is name (name_list ws) = refl
 
     sections_are : (ss : List SectionRows) → all_given (rows_in rows place seat to ss) ≡ counted (text_entries ss)
     sections_are [] = refl
@@ -310,18 +334,19 @@ module _ (whose : Whose) where
         all_given-append here rest
         ∙ (λ i. content_is s.name s.content i ++ sections_are ss i)
         ∙ sym
-        (flat_map-append (λ e. row_if (has_row place grouped e) (has_balls place e.0)) (section_entries s) (text_entries ss))
+        (flat_map-append (λ e. row_if (has_row place is_in_group e) (has_balls place e.0)) (section_entries s)
+        (text_entries ss))
 
   -- they are as many
-  module _ (place : Place) (grouped : List ℕ → Bool) where
+  module _ (place : Place) (is_in_group : List ℕ → Bool) where
     one_more : (n m : ℕ) (b ball : Bool) (rest : List (Whose × Bool)) → (if b then suc n else n) + length rest ≡ m
         → n + length (row_if b ball ++ rest) ≡ m
     one_more n m x3 ball rest is = search rules
 
     entries_counted : (n : ℕ) (es : List (List ℕ × Entry))
-        → n + length (rows_of_entries place grouped es) ≡ rows_after_all place grouped n es
+        → n + length (rows_of_entries place is_in_group es) ≡ rows_after_all place is_in_group n es
     entries_counted n [] = omega arith
-    entries_counted n (e ∷ es) = search (rules, one_more, entries_counted (rows_after place grouped n e) es)
+    entries_counted n (e ∷ es) = search (rules, one_more, entries_counted (rows_after place is_in_group n e) es)
 
 -- ---- what is given under names
 
@@ -329,18 +354,19 @@ module _ (whose : Whose) where
 abbrev pub IsRowAt : ℕ → List (Whose × Bool) → Whose × Bool → ℕ → Type 0
 IsRowAt n rows x r = (n ≤ r) × (slice_get rows (r - n) ≡ Some x)
 
-module _ {X : Type 0} (whose : Whose) (row : X → ℕ) (give : ℕ → List ℕ × Entry → List (List ℕ × X)) (place : Place) (grouped : List ℕ → Bool) (ball : Bool) where
+module _ {X : Type 0} (whose : Whose) (row : X → ℕ) (give : ℕ → List ℕ × Entry → List (List ℕ × X)) (place : Place)
+    (is_in_group : List ℕ → Bool) (ball : Bool) where
   -- it is of the row of its entry
   abbrev IsOwn : ℕ → List ℕ × Entry → List ℕ × X → Type 0
-  IsOwn n e x = (row x.1 ≡ n) × (has_row place grouped e ≡ true) × (has_balls place e.0 ≡ ball)
+  IsOwn n e x = (row x.1 ≡ n) × (has_row place is_in_group e ≡ true) × (has_balls place e.0 ≡ ball)
 
   abbrev IsAt : ℕ → List (List ℕ × Entry) → List ℕ × X → Type 0
-  IsAt n es x = IsRowAt n (rows_of_entries whose place grouped es) (whose, ball) (row x.1)
+  IsAt n es x = IsRowAt n (rows_of_entries whose place is_in_group es) (whose, ball) (row x.1)
 
   given_here : (n : ℕ) (e : List ℕ × Entry) (es : List (List ℕ × Entry)) (x : List ℕ × X) → IsOwn n e x
       → IsAt n (e ∷ es) x
   given_here n e es x is =
-      let rest = rows_of_entries whose place grouped es in
+      let rest = rows_of_entries whose place is_in_group es in
       let first : row x.1 - n ≡ 0 = omega (arith, is.0) in (
         omega (arith, is.0),
         ap (λ b. slice_get (row_if whose b (has_balls place e.0) ++ rest) (row x.1 - n)) is.1
@@ -353,13 +379,15 @@ module _ {X : Type 0} (whose : Whose) (row : X → ℕ) (give : ℕ → List ℕ
   given_later n r x3 own rest is = search rules
 
   given_at : ((n : ℕ) (e : List ℕ × Entry) → All (IsOwn n e) (give n e)) → (es : List (List ℕ × Entry)) (n : ℕ)
-      → All (IsAt n es) (given_from give place grouped n es)
+      → All (IsAt n es) (given_from give place is_in_group n es)
   given_at own [] n = All-nil (IsAt n [])
   given_at own (e ∷ es) n =
-      let next = rows_after place grouped n e in
-      All-append (IsAt n (e ∷ es)) (give n e) (given_from give place grouped next es)
+      let next = rows_after place is_in_group n e in
+      All-append (IsAt n (e ∷ es)) (give n e) (given_from give place is_in_group next es)
       (All-weaker (IsOwn n e) (IsAt n (e ∷ es)) (given_here n e es) (give n e) (own n e))
-      (All-weaker (IsAt next es) (IsAt n (e ∷ es)) (λ x. given_later n (row x.1) (has_row place grouped e) (has_balls place e.0) (rows_of_entries whose place grouped es)) (given_from give place grouped next es) (given_at own es next))
+      (All-weaker (IsAt next es) (IsAt n (e ∷ es))
+      (λ x. given_later n (row x.1) (has_row place is_in_group e) (has_balls place e.0)
+      (rows_of_entries whose place is_in_group es)) (given_from give place is_in_group next es) (given_at own es next))
 
 module _ {X : Type 0} (name : List ℕ) where
   -- what holds of all that is given holds of what is found
@@ -385,18 +413,19 @@ module _ {X : Type 0} (name : List ℕ) where
   latest_some (x ∷ xs) found = search (rules, latest_some xs (latest name found x))
 
   -- that is where an entry of some sections has it
-  module _ {Y : Type 0} (give : ℕ → List ℕ × Entry → List (List ℕ × X)) (own : List ℕ) (f : Entry → Y) (p : Y → Bool) where
+  module _ {Y : Type 0} (give : ℕ → List ℕ × Entry → List (List ℕ × X)) (own : List ℕ) (f : Entry → Y)
+      (p : Y → Bool) where
     abbrev gives_it : List ℕ × Entry → Bool
     gives_it e = if bytes_eq e.0 own then p (f e.1) else false
 
     module _ (each : (n : ℕ) (e : List ℕ × Entry) → list_any has_it (give n e) ≡ gives_it e) where
-      at_entries : (place : Place) (grouped : List ℕ → Bool) (es : List (List ℕ × Entry)) (n : ℕ)
-          → list_any has_it (given_from give place grouped n es) ≡ list_any gives_it es
-      at_entries place grouped [] n = refl
-      at_entries place grouped (e ∷ es) n =
-          let next = rows_after place grouped n e in
-          list_any-append has_it (give n e) (given_from give place grouped next es) ∙
-          (λ i. each n e i || at_entries place grouped es next i)
+      at_entries : (place : Place) (is_in_group : List ℕ → Bool) (es : List (List ℕ × Entry)) (n : ℕ)
+          → list_any has_it (given_from give place is_in_group n es) ≡ list_any gives_it es
+      at_entries place is_in_group [] n = refl
+      at_entries place is_in_group (e ∷ es) n =
+          let next = rows_after place is_in_group n e in
+          list_any-append has_it (give n e) (given_from give place is_in_group next es) ∙
+          (λ i. each n e i || at_entries place is_in_group es next i)
 
       in_section : (section : List ℕ) (b : Bool) → bytes_eq section own ≡ b → (es : List Entry)
           → list_any gives_it (map (λ e. (section, e)) es) ≡ list_any p (map f (if b then es else []))
@@ -420,54 +449,60 @@ module _ {X : Type 0} (name : List ℕ) where
 
 -- ---- seats and ball devices
 
-at_group : (name : List ℕ) (row i : ℕ) (ws : List Written)
+at_group : (name : List ℕ) (row i : ℕ) (ws : List WrittenName)
     → list_any (has_it name) (seats_at row i ws) ≡ list_any (λ w. bytes_eq name w.text) ws
 at_group name row i [] = refl
 at_group name row i (w ∷ ws) = ap (λ b. bytes_eq name w.text || b) (at_group name row (suc i) ws)
 
 seats_each : (name : List ℕ) (n : ℕ) (e : List ℕ × Entry)
-    → list_any (has_it name) (entry_seats n e) ≡ (if bytes_eq e.0 shot_groups_name then lists_shot name (shot_group_of e.1) else false)
+    → list_any (has_it name) (entry_seats n e)
+    ≡ (if bytes_eq e.0 shot_groups_name then lists_shot name (shot_group_of e.1) else false)
 seats_each name n e = by (bytes_eq e.0 shot_groups_name)
   where
     by : (b : Bool)
-        → list_any (has_it name) (if b then seats_at n 0 (shot_group_of e.1).shots else []) ≡ (if b then lists_shot name (shot_group_of e.1) else false)
+        → list_any (has_it name) (if b then seats_at n 0 (shot_group_of e.1).shots else [])
+        ≡ (if b then lists_shot name (shot_group_of e.1) else false)
     by x1 = search (rules, at_group)
 
 balls_each : (name : List ℕ) (n : ℕ) (e : List ℕ × Entry)
-    → list_any (has_it name) (entry_ball_row n e) ≡ (if bytes_eq e.0 ball_devices_name then bytes_eq name (ball_device_of e.1).name.text else false)
+    → list_any (has_it name) (entry_ball_row n e)
+    ≡ (if bytes_eq e.0 ball_devices_name then bytes_eq name (ball_device_of e.1).name.text else false)
 balls_each name n e = by (bytes_eq e.0 ball_devices_name)
   where
     either : (b : Bool) → (b || false) ≡ b
     either x1 = search rules
 
     by : (b : Bool)
-        → list_any (has_it name) (if b then ((ball_device_of e.1).name.text, n) ∷ [] else []) ≡ (if b then bytes_eq name (ball_device_of e.1).name.text else false)
+        → list_any (has_it name) (if b then ((ball_device_of e.1).name.text, n) ∷ [] else [])
+        ≡ (if b then bytes_eq name (ball_device_of e.1).name.text else false)
     by x1 = search rules
 
 abbrev seat_row : Seat → ℕ
 seat_row s = s.row
 
-seats_own : (whose : Whose) (place : Place) (grouped : List ℕ → Bool) (n : ℕ) (e : List ℕ × Entry)
-    → All (IsOwn whose seat_row entry_seats place grouped false n e) (entry_seats n e)
-seats_own whose place grouped n e = by (bytes_eq e.0 shot_groups_name) refl
+seats_own : (whose : Whose) (place : Place) (is_in_group : List ℕ → Bool) (n : ℕ) (e : List ℕ × Entry)
+    → All (IsOwn whose seat_row entry_seats place is_in_group false n e) (entry_seats n e)
+seats_own whose place is_in_group n e = by (bytes_eq e.0 shot_groups_name) refl
   where
-    in_group : (i : ℕ) (ws : List Written) → has_row place grouped e ≡ true → has_balls place e.0 ≡ false
-        → All (IsOwn whose seat_row entry_seats place grouped false n e) (seats_at n i ws)
-    in_group i [] row none = All-nil (IsOwn whose seat_row entry_seats place grouped false n e)
+    in_group : (i : ℕ) (ws : List WrittenName) → has_row place is_in_group e ≡ true → has_balls place e.0 ≡ false
+        → All (IsOwn whose seat_row entry_seats place is_in_group false n e) (seats_at n i ws)
+    in_group i [] row none = All-nil (IsOwn whose seat_row entry_seats place is_in_group false n e)
     in_group i (w ∷ ws) row none =
-        All-cons (IsOwn whose seat_row entry_seats place grouped false n e) (w.text, record { row = n; shot = i })
+        All-cons (IsOwn whose seat_row entry_seats place is_in_group false n e) (w.text, record { row = n; shot = i })
         (seats_at n (suc i) ws) (refl, row, none) (in_group (suc i) ws row none)
 
     by : (b : Bool) → bytes_eq e.0 shot_groups_name ≡ b
-        → All (IsOwn whose seat_row entry_seats place grouped false n e) (if b then seats_at n 0 (shot_group_of e.1).shots else [])
+        → All (IsOwn whose seat_row entry_seats place is_in_group false n e)
+        (if b then seats_at n 0 (shot_group_of e.1).shots else [])
     by x1 is = search (rules, in_group, named, groups_among, groups_no_balls, All-nil)
 
-balls_own : (whose : Whose) (grouped : List ℕ → Bool) (n : ℕ) (e : List ℕ × Entry)
-    → All (IsOwn whose (λ r. r) entry_ball_row Machine grouped true n e) (entry_ball_row n e)
-balls_own whose grouped n e = by (bytes_eq e.0 ball_devices_name) refl
+balls_own : (whose : Whose) (is_in_group : List ℕ → Bool) (n : ℕ) (e : List ℕ × Entry)
+    → All (IsOwn whose (λ r. r) entry_ball_row Machine is_in_group true n e) (entry_ball_row n e)
+balls_own whose is_in_group n e = by (bytes_eq e.0 ball_devices_name) refl
   where
     by : (b : Bool) → bytes_eq e.0 ball_devices_name ≡ b
-        → All (IsOwn whose (λ r. r) entry_ball_row Machine grouped true n e) (if b then ((ball_device_of e.1).name.text, n) ∷ [] else [])
+        → All (IsOwn whose (λ r. r) entry_ball_row Machine is_in_group true n e)
+        (if b then ((ball_device_of e.1).name.text, n) ∷ [] else [])
     by x1 is = search rules
 
 -- ---- a text
@@ -485,7 +520,8 @@ module _ (whose : Whose) (place : Place) (n : ℕ) (ss : List SectionRows) where
   seat_at name =
       latest_such name (λ (s : Seat). IsRowAt n (rows_of_text whose place ss) (whose, false) s.row)
       (given_from entry_seats place (is_grouped ss) n (text_entries ss)) None tt
-      (given_at whose seat_row entry_seats place (is_grouped ss) false (seats_own whose place (is_grouped ss)) (text_entries ss) n)
+      (given_at whose seat_row entry_seats place (is_grouped ss) false (seats_own whose place (is_grouped ss))
+      (text_entries ss) n)
 
   -- its rows are those that are counted
   pub text_marks : (rows : Rows) → marks (text_parts rows whose place n ss) ≡ rows_of_text whose place ss
@@ -500,7 +536,8 @@ module _ (whose : Whose) (place : Place) (n : ℕ) (ss : List SectionRows) where
 module _ (whose : Whose) (n : ℕ) (ss : List SectionRows) where
   -- there is a row if there is a ball device
   pub ball_row_some : (name : List ℕ)
-      → is_some (ball_row_of Machine n ss name) ≡ list_any (λ d. bytes_eq name d.name.text) (flat_map ball_devices_in ss)
+      → is_some (ball_row_of Machine n ss name)
+      ≡ list_any (λ d. bytes_eq name d.name.text) (flat_map ball_devices_in ss)
   unfolding ball_devices_in
   ball_row_some name =
       found_some name entry_ball_row ball_devices_name ball_device_of (λ d. bytes_eq name d.name.text)
@@ -512,4 +549,5 @@ module _ (whose : Whose) (n : ℕ) (ss : List SectionRows) where
   ball_row_at name =
       latest_such name (IsRowAt n (rows_of_text whose Machine ss) (whose, true))
       (given_from entry_ball_row Machine (is_grouped ss) n (text_entries ss)) None tt
-      (given_at whose (λ r. r) entry_ball_row Machine (is_grouped ss) true (balls_own whose (is_grouped ss)) (text_entries ss) n)
+      (given_at whose (λ r. r) entry_ball_row Machine (is_grouped ss) true (balls_own whose (is_grouped ss))
+      (text_entries ss) n)

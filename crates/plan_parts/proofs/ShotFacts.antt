@@ -5,7 +5,7 @@ use Rattle.std.proofs.{Common.{codes, length-append}, lemmas.List.{length-map, l
 use Rattle.std.specs.{Prelude.{Option, None, Some, IfSome, fold}, Str.bytes_eq, List.{All, flat_map}}
 use Rattle.std.proofs.lemmas.List.Elements.{All-nil, All-cons, All-tail, All-append, All-map, All-weaker}
 use Rattle.mpf_values.{specs.Events.Event, proofs.NameTexts.IsName-from_is_name}
-use Rattle.mpf_sections.specs.Rows.{Written, Handled, Shot, ShotGroup, ShotProfile, SectionRows}
+use Rattle.mpf_sections.specs.Rows.{WrittenName, HandledEvent, Shot, ShotGroup, ShotProfile, SectionRows}
 use Rattle.mpf_sections.specs.{Named.{IsName, IsNamedShotProfile, IsNamed}, TypedShots.shot_profiles_in}
 use Rattle.mpf_tables.proofs.TableNames.{default_profile_named}
 use Rattle.mpf_sections.proofs.ShotRows.{shot_profiles_named, shot_profiles_short}
@@ -27,16 +27,16 @@ module _ (Q : Event → Type 0) where
   abbrev pub OfEvent : Event × Act → Type 0
   OfEvent x = Q x.0
 
-  abbrev pub OfHandled : Handled → Type 0
+  abbrev pub OfHandled : HandledEvent → Type 0
   OfHandled h = Q h.event
 
-  abbrev pub OfSwitch : Written → Type 0
+  abbrev pub OfSwitch : WrittenName → Type 0
   OfSwitch w = Q (always (w.text ++ codes "_active"))
 
-  all_acts : (act : Act) (hs : List Handled) → All OfHandled hs → All OfEvent (acts act hs)
-  all_acts act hs h = All-map OfEvent (λ (w : Handled). (w.event, act)) hs h
+  all_acts : (act : Act) (hs : List HandledEvent) → All OfHandled hs → All OfEvent (acts act hs)
+  all_acts act hs h = All-map OfEvent (λ (w : HandledEvent). (w.event, act)) hs h
 
-  all_hits : (hit : Act) (switch : Option Written) → IfSome switch OfSwitch → All OfEvent (switch_hits hit switch)
+  all_hits : (hit : Act) (switch : Option WrittenName) → IfSome switch OfSwitch → All OfEvent (switch_hits hit switch)
   all_hits hit x2 h = search rules
 
   pub all_shot_acts : (i : ℕ) (s : Shot) → IfSome s.switch OfSwitch → All OfHandled s.hits → All OfHandled s.advances
@@ -97,7 +97,8 @@ module _ (R : Effect → Type 0) (posted : (n : List ℕ) → R (posts n)) (p : 
   pub posts_of_group : (name : List ℕ) (shots : List (List ℕ)) → All (All R) (group_lists p name shots)
   posts_of_group name shots =
       all_group_lists (All R) p name shots
-      (All-every (λ own. InEachState (All R) p (shot_events own p.name)) (λ own. in_each (shot_events own p.name)) shots) (in_each (group_events (codes "_hit") name))
+      (All-every (λ own. InEachState (All R) p (shot_events own p.name)) (λ own. in_each (shot_events own p.name))
+      shots) (in_each (group_events (codes "_hit") name))
       (in_each (group_events (codes "_complete") name))
 
 -- and has few of them
@@ -143,7 +144,7 @@ pub record IsNamedProfile (p : Profile) : Type 0 where
   pub states : All IsName p.states
 
 profile_of_named : (p : ShotProfile) → IsNamedShotProfile p → IsNamedProfile (profile_of p)
-profile_of_named p h = record { name = h.name; states = All-map IsName (λ (w : Written). w.text) p.states h.states }
+profile_of_named p h = record { name = h.name; states = All-map IsName (λ (w : WrittenName). w.text) p.states h.states }
 
 standard_named : IsNamedProfile standard_profile
 standard_named = record {
@@ -172,12 +173,14 @@ module _ (Q : Profile → Type 0) (standard : Q standard_profile) where
     found_such name =
         let written = flat_map shot_profiles_in (all_sections rows) in
         or_else Q (profile_called rows name) standard_profile
-        (latest_such name (map profile_of written) None tt (All-map Q profile_of written (All-flat_map (λ p. Q (profile_of p)) shot_profiles_in (all_sections rows) all))) standard
+        (latest_such name (map profile_of written) None tt
+        (All-map Q profile_of written (All-flat_map (λ p. Q (profile_of p)) shot_profiles_in (all_sections rows)
+        all))) standard
 
     found_if : (o : Option Shot) → Q (profile_if rows o)
     found_if x1 = search (rules, found_such)
 
-    pub first_such : (ws : List Written) → Q (first_profile rows ws)
+    pub first_such : (ws : List WrittenName) → Q (first_profile rows ws)
     first_such [] = found_if None
     first_such (w ∷ ws) = found_if (shot_called rows w.text)
 
@@ -187,7 +190,8 @@ module _ (rows : Rows) (machine : All IsNamed rows.machine) (modes : All IsNamed
   all_named =
       All-weaker IsNamed (InSection IsNamedProfile standard_named) named (all_sections rows)
       (All-append IsNamed rows.machine (flat_map (λ (m : ModeRows). m.sections) rows.modes) machine
-      (All-flat_map IsNamed (λ (m : ModeRows). m.sections) rows.modes (All-weaker IsNamedMode (λ m. All IsNamed m.sections) (λ m h. h.sections) rows.modes modes)))
+      (All-flat_map IsNamed (λ (m : ModeRows). m.sections) rows.modes
+      (All-weaker IsNamedMode (λ m. All IsNamed m.sections) (λ m h. h.sections) rows.modes modes)))
     where
       named : (s : SectionRows) → IsNamed s → InSection IsNamedProfile standard_named s
       named s h =
@@ -211,7 +215,7 @@ module _ (rows : Rows) where
       in_section : (s : SectionRows) → InSection IsShortProfile standard_short s
       in_section s =
           All-weaker (λ (p : ShotProfile). length p.states ≤ 16) (λ p. IsShortProfile (profile_of p))
-          (λ p few. omega (arith, few, length-map p.states (λ (w : Written). w.text))) (shot_profiles_in s)
+          (λ p few. omega (arith, few, length-map p.states (λ (w : WrittenName). w.text))) (shot_profiles_in s)
           (shot_profiles_short s)
 
   pub profile_short : (name : List ℕ) → IsShortProfile (profile_of_name rows name)
@@ -220,4 +224,8 @@ module _ (rows : Rows) where
   -- a group is short if it has few shots
   pub members_short : (g : ShotGroup) → length g.shots ≤ 16 → IsShortGroup g (members_of rows g)
   members_short g few =
-      record { shots = few; states = first_such IsShortProfile standard_short rows all_short g.shots; enabled = flags_of _ }
+      record {
+        shots = few;
+        states = first_such IsShortProfile standard_short rows all_short g.shots;
+        enabled = flags_of _;
+      }

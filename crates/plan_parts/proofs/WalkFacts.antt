@@ -2,8 +2,8 @@
 use Rattle.std.proofs.Common.{rules, ◌≡◌, ℕ, Bool, true, if◌then◌else◌, List, [], ◌∷◌, ◌++◌, map, get_or, refl}
 use Rattle.std.specs.{Prelude.{Option, None, Some, IfSome}, Str.bytes_eq, List.All}
 use Rattle.std.proofs.lemmas.List.Elements.{All-nil, All-cons, All-append, All-map}
-use Rattle.mpf_sections.specs.Rows.{Written, Entry, Player, Shot, Content, entries, players, entry as single, listed}
-use Rattle.mpf_sections.specs.{Rows.SectionRows, TypedBalls.{ball_devices_name, ball_device_of}}
+use Rattle.mpf_sections.specs.Rows.{WrittenName, Entry, Player, Shot, Content, entries, players, entry as single}
+use Rattle.mpf_sections.specs.{Rows.{name_list, SectionRows}, TypedBalls.{ball_devices_name, ball_device_of}}
 use Rattle.mpf_sections.specs.TypedShots.{shots_name, shot_groups_name, shot_of, shot_group_of}
 use Rattle.mpf_sections.specs.Typed.{switches_name, event_player_name, switch_of, event_player_of}
 use Rattle.mpf_sections.specs.TypedCoils.{coils_name, coil_player_name, coil_of, coil_player_of}
@@ -20,13 +20,14 @@ use Rattle.plan_parts.specs.{VariableEntries.item_change, Parts.{unknown, text_p
 use Rattle.plan_parts.specs.ShotEntries.{shot_acts, lone_device, group_device}
 use Rattle.plan_parts.specs.Parts.{Whose, Device, texts, device_of, run, act_on, Part, handler, device, mention}
 use Rattle.plan_parts.specs.Parts.{where_some, unknown_unless, machine_device, switch_part, coil_part, game_part}
-use Rattle.plan_parts.specs.Parts.{machine_entry_parts, entry_parts, alone_parts, player_parts, seated, row_parts}
+use Rattle.plan_parts.specs.Parts.{machine_entry_parts, entry_parts, alone_parts, player_parts, with_seat, row_parts}
 use Rattle.yaml_bytes.proofs.Each.{All-flat_map}
 
 -- ---- rows
 
 -- what holds of a row of a shot, of a group, of a ball device and of any other entry holds of each entry's row
-pub entry_such : (R : Row → Type 0) (rows : Rows) (place : Place) (seat : List ℕ → Option Seat) (to : List ℕ → Destination) (section : List ℕ) (e : Entry)
+pub entry_such : (R : Row → Type 0) (rows : Rows) (place : Place) (seat : List ℕ → Option Seat)
+    (to : List ℕ → Destination) (section : List ℕ) (e : Entry)
     → (bytes_eq section shots_name ≡ true → R (shot_row rows place seat (shot_of e)))
     → (bytes_eq section shot_groups_name ≡ true → R (group_row rows place seat (shot_group_of e)))
     → (place ≡ Machine → bytes_eq section ball_devices_name ≡ true → R (ball_device_row to (ball_device_of e)))
@@ -44,7 +45,8 @@ entry_such R rows place seat to section e of_shot of_group of_ball other =
     in_other x1 ball rest = search (rules, in_machine)
 
     by : (s g : Bool) → bytes_eq section shots_name ≡ s → bytes_eq section shot_groups_name ≡ g
-        → R (if s then shot_row rows place seat (shot_of e) else (if g then group_row rows place seat (shot_group_of e) else other_row to place section e))
+        → R (if s then shot_row rows place seat (shot_of e) else
+        (if g then group_row rows place seat (shot_group_of e) else other_row to place section e))
     by x1 x2 x3 x4 = search (rules, in_other)
 
 -- E holds of each entry of a section, and L of each entry of a player
@@ -52,14 +54,15 @@ abbrev pub IsSuchContent : (List ℕ → Entry → Type 0) → (List ℕ → Pla
 IsSuchContent E L section (entries es) = All (E section) es
 IsSuchContent E L section (players ps) = All (L section) ps
 IsSuchContent E L section (single e) = E section e
-IsSuchContent E L section (listed ws) = Unit {0}
+IsSuchContent E L section (name_list ws) = Unit {0}
 
 abbrev pub IsSuch : (List ℕ → Entry → Type 0) → (List ℕ → Player → Type 0) → SectionRows → Type 0
 IsSuch E L s = IsSuchContent E L s.name s.content
 
 -- ---- the parts of a text
 
-module _ (rows : Rows) (whose : Whose) (place : Place) (n : ℕ) (ss : List SectionRows) (Q : Part → Type 0) (E : List ℕ → Entry → Type 0) (L : List ℕ → Player → Type 0) where
+module _ (rows : Rows) (whose : Whose) (place : Place) (n : ℕ) (ss : List SectionRows) (Q : Part → Type 0)
+    (E : List ℕ → Entry → Type 0) (L : List ℕ → Player → Type 0) where
   abbrev seat : List ℕ → Option Seat
   seat = seat_of place n ss
 
@@ -98,13 +101,14 @@ module _ (rows : Rows) (whose : Whose) (place : Place) (n : ℕ) (ss : List Sect
         by (players ps) is =
             All-map OfRow (player place s.name) ps (λ i d within. each.player s.name (get_or ps i d) (is i d within))
         by (single e) is = All-cons OfRow (alone place s.name e) [] (each.alone s.name e is) (All-nil OfRow)
-        by (listed ws) is = All-nil OfRow
+        by (name_list ws) is = All-nil OfRow
 
     -- so it holds of all parts of the text
     pub text_each : All (IsSuch E L) ss → All Q (text_parts rows whose place n ss)
     text_each such =
         All-flat_map Q (row_parts rows.machine whose) (text_rows rows place n ss)
-        (All-flat_map OfRow (λ s. rows_from rows place seat to s.name s.content) ss (λ i d within. of_content (get_or ss i d) (such i d within)))
+        (All-flat_map OfRow (λ s. rows_from rows place seat to s.name s.content) ss
+        (λ i d within. of_content (get_or ss i d) (such i d within)))
 
   -- ---- by the parts that rows give
 
@@ -134,7 +138,8 @@ module _ (rows : Rows) (whose : Whose) (place : Place) (n : ℕ) (ss : List Sect
     pub event_players : (section : List ℕ) (p : Player) → L section p
         → Q (handler whose (event_player_of p).event.event (run (map posts (texts (event_player_of p).posts))))
     pub coil_players : (section : List ℕ) (p : Player) → L section p
-        → Q (handler whose (coil_player_of p).event.event (run (map (item_effect rows.machine) (coil_player_of p).items)))
+        → Q (handler whose (coil_player_of p).event.event
+        (run (map (item_effect rows.machine) (coil_player_of p).items)))
     pub variable_players : (section : List ℕ) (p : Player) → L section p
         → Q (handler whose (variable_player_of p).event.event (run (map item_change (variable_player_of p).items)))
 
@@ -149,7 +154,7 @@ module _ (rows : Rows) (whose : Whose) (place : Place) (n : ℕ) (ss : List Sect
     in_device None is = All-nil Q
     in_device (Some d) is = one (device whose d) is
 
-    in_mention : (o : Option Written) → IfSome o (λ w. Q (mention Switches w.text))
+    in_mention : (o : Option WrittenName) → IfSome o (λ w. Q (mention Switches w.text))
         → All Q (where_some (λ w. mention Switches w.text) o)
     in_mention None is = All-nil Q
     in_mention (Some w) is = one (mention Switches w.text) is
@@ -158,8 +163,9 @@ module _ (rows : Rows) (whose : Whose) (place : Place) (n : ℕ) (ss : List Sect
     in_unknown known = either known [] (unknown ∷ []) (All-nil Q) (one unknown each.unknowns)
 
     in_seated : (s : Shot) (p : Profile) → Q (device whose (lone_device p s)) → (o : Option Seat)
-        → ((x : Seat) → o ≡ Some x → All Q (map (λ h. handler whose h.0 (act_on (record { 0 = x.row }) h.1)) (shot_acts x.shot s)))
-        → All Q (seated rows.machine whose p s o)
+        → ((x : Seat) → o ≡ Some x → All Q
+        (map (λ h. handler whose h.0 (act_on (record { 0 = x.row }) h.1)) (shot_acts x.shot s)))
+        → All Q (with_seat rows.machine whose p s o)
     in_seated s p own None seats = one (device whose (lone_device p s)) own
     in_seated s p own (Some x) seats = seats x refl
 
@@ -193,9 +199,10 @@ module _ (rows : Rows) (whose : Whose) (place : Place) (n : ℕ) (ss : List Sect
           let s = shot_of e in
           let p = profile_of_name rows s.profile.text in
           let unknown_one = unknown_unless (has_profile rows s.profile.text) in
-          let mentioned = where_some (λ w. mention Switches w.text) s.switch in
-          All-append Q (unknown_one ++ mentioned) (seated rows.machine whose p s (seat s.name.text))
-          (All-append Q unknown_one mentioned (in_unknown (has_profile rows s.profile.text)) (in_mention s.switch (each.mentions section e is)))
+          let other_mentions = where_some (λ w. mention Switches w.text) s.switch in
+          All-append Q (unknown_one ++ other_mentions) (with_seat rows.machine whose p s (seat s.name.text))
+          (All-append Q unknown_one other_mentions (in_unknown (has_profile rows s.profile.text))
+          (in_mention s.switch (each.mentions section e is)))
           (in_seated s p (each.lone_shots section e is) (seat s.name.text) (each.seats section e is));
       group = λ section e is named.
           let m = members_of rows (shot_group_of e) in

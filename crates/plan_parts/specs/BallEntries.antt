@@ -1,8 +1,8 @@
 -- What the entries of ball devices say. Here `machine` is the sections of the machine text, which have the coils and
 -- the game.
-use Rattle.std.specs.Prelude.{ℕ, Bool, true, false, ◌&&◌, List, [], ◌∷◌, ◌++◌, length, min, Option, None, Some, is_some, codes}
-use Rattle.std.specs.{List.list_any, Str.bytes_eq}
-use Rattle.mpf_sections.specs.Rows.{Written, BallDevice, Content, entry, SectionRows}
+use Rattle.std.specs.Prelude.{ℕ, Bool, true, false, ◌&&◌, List, [], ◌∷◌, ◌++◌, length, min, Option, None, Some, is_some}
+use Rattle.std.specs.{Prelude.codes, List.list_any, Str.bytes_eq}
+use Rattle.mpf_sections.specs.Rows.{WrittenName, BallDeviceEntry, Content, entry, SectionRows}
 use Rattle.mpf_sections.specs.{TypedBalls.{is_trough, is_home, is_drain}, TypedGame.game_name}
 use Rattle.plan_tables.specs.declared.devices.{BallTarget.BallTarget, Settings.Settings}
 use Rattle.plan_tables.specs.declared.devices.BallTarget.TheVariants as targets
@@ -25,8 +25,9 @@ is_game s = bytes_eq s.name game_name && is_entry s.content
 abbrev pub has_game : List SectionRows → Bool
 has_game machine = list_any is_game machine
 
--- whether a ball that enters the device from the playfield has drained: it is tagged `drain`, and there is a game
-abbrev pub drains : List SectionRows → BallDevice → Bool
+-- whether a ball that enters the device, and was not on its way there, has drained: it is tagged `drain`, and there is
+-- a game
+abbrev pub drains : List SectionRows → BallDeviceEntry → Bool
 drains machine d = is_drain d && has_game machine
 
 -- ---- effect lists
@@ -42,14 +43,15 @@ ball_endings =
     ∷ codes "_ball_eject_failed" ∷ []
 
 -- the coil that ejects a ball is pulsed, if there is one
-abbrev pub eject_pulse : List SectionRows → Option Written → List Effect
+abbrev pub eject_pulse : List SectionRows → Option WrittenName → List Effect
 eject_pulse machine None = []
 eject_pulse machine (Some w) = works w.text (own_pulse (defaults_called machine w.text)) ∷ []
 
 -- what it does when it attempts to eject a ball
-abbrev pub attempt_effects : List SectionRows → List ℕ → Option Written → List Effect
+abbrev pub attempt_effects : List SectionRows → List ℕ → Option WrittenName → List Effect
 attempt_effects machine name coil =
-    posts (ball_event name (codes "_ball_eject_attempt")) ∷ posts (ball_event name (codes "_ejecting_ball")) ∷ eject_pulse machine coil
+    posts (ball_event name (codes "_ball_eject_attempt")) ∷ posts (ball_event name (codes "_ejecting_ball"))
+    ∷ eject_pulse machine coil
 
 -- what it does after that: when the ball leaves; when a ball is lost; when the ball that it ejected is where it should
 -- be; when a ball on its way is on the playfield; and when an attempt fails
@@ -63,7 +65,7 @@ later_lists name =
     ∷ []
 
 -- its effect lists; the first is of a ball that enters it
-abbrev pub ball_lists : List SectionRows → BallDevice → List (List Effect)
+abbrev pub ball_lists : List SectionRows → BallDeviceEntry → List (List Effect)
 ball_lists machine d =
     (enters (ball_event d.name.text (codes "_ball_enter")) (drains machine d) ∷ [])
     ∷ attempt_effects machine d.name.text d.eject_coil
@@ -86,7 +88,7 @@ target_of destinations.Playfield = targets.Playfield
 target_of (destinations.Device row) = targets.Device (record { 0 = min row 65535 })
 target_of destinations.Unknown = targets.Playfield
 
-abbrev pub ball_settings : BallDevice → Destination → Settings
+abbrev pub ball_settings : BallDeviceEntry → Destination → Settings
 ball_settings d to = kinds.BallDevice (record {
   switches = length d.switches;
   target = target_of to;
@@ -99,12 +101,12 @@ ball_settings d to = kinds.BallDevice (record {
 -- ---- devices
 
 -- it listens to its ball switches, in their order; no event acts on it
-abbrev pub ball_device_from : List SectionRows → BallDevice → Destination → Device
+abbrev pub ball_device_from : List SectionRows → BallDeviceEntry → Destination → Device
 ball_device_from machine d to = record {
   settings = ball_settings d to;
   listens = texts d.switches;
-  handled = [];
-  mentioned = entry_mentions d.name.text (drains machine d);
+  event_acts = [];
+  other_mentions = entry_mentions d.name.text (drains machine d);
   lists = ball_lists machine d;
 }
 

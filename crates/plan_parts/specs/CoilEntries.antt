@@ -3,7 +3,7 @@
 use Rattle.std.specs.Prelude.{ℕ, Bool, if◌then◌else◌, List, [], ◌∷◌, ◌++◌, Option, None, Some, option_map, unwrap_or}
 use Rattle.mpf_sections.specs.{declared.words.CoilAction.CoilAction, CoilRules.{CoilRule, flipper, autofire}}
 use Rattle.mpf_sections.specs.declared.words.CoilAction.TheVariants as actions
-use Rattle.mpf_sections.specs.Rows.{Written, Coil, CoilItem, Rule, Flipper, Autofire, SectionRows}
+use Rattle.mpf_sections.specs.Rows.{WrittenName, Coil, CoilItem, Rule, FlipperEntry, AutofireEntry, SectionRows}
 use Rattle.plan_tables.specs.declared.entries.CoilLimits.{CoilLimits}
 use Rattle.plan_tables.specs.declared.devices.{Settings.Settings, Act.TheVariants.{Enable, Disable}}
 use Rattle.plan_tables.specs.declared.devices.Settings.TheVariants as kinds
@@ -29,7 +29,8 @@ pub record Defaults : Type 0 where
   pub may_hold : Bool
 
 abbrev pub defaults_of_coil : Coil → Defaults
-defaults_of_coil c = record { pulse_ms = c.pulse_ms; pulse_power = c.pulse_power; hold_power = c.hold_power; may_hold = c.may_hold }
+defaults_of_coil c =
+    record { pulse_ms = c.pulse_ms; pulse_power = c.pulse_power; hold_power = c.hold_power; may_hold = c.may_hold }
 
 abbrev pub defaults_called : List SectionRows → List ℕ → Defaults
 defaults_called machine name = defaults_of_coil (coil_of_name machine name)
@@ -56,33 +57,37 @@ item_effect machine item = works item.coil.text (deed_by (defaults_called machin
 
 -- What lifts a flipper. If it has a hold coil, the main coil is pulsed, and the hold coil is enabled. If it has none,
 -- the main coil is enabled if it may be held, and else pulsed.
-abbrev pub flipper_on : List SectionRows → Written → Option Written → List Effect
+abbrev pub flipper_on : List SectionRows → WrittenName → Option WrittenName → List Effect
 flipper_on machine main (Some hold) =
-    works main.text (own_pulse (defaults_called machine main.text)) ∷ works hold.text (own_hold (defaults_called machine hold.text)) ∷ []
+    works main.text (own_pulse (defaults_called machine main.text))
+    ∷ works hold.text (own_hold (defaults_called machine hold.text)) ∷ []
 flipper_on machine main None =
     let c = defaults_called machine main.text in
     works main.text (if c.may_hold then own_hold c else own_pulse c) ∷ []
 
 -- what lets it fall: the coil that is enabled, if any, is disabled
-abbrev pub flipper_off : List SectionRows → Written → Option Written → List Effect
+abbrev pub flipper_off : List SectionRows → WrittenName → Option WrittenName → List Effect
 flipper_off machine main (Some hold) = works hold.text disable ∷ []
-flipper_off machine main None = if (defaults_called machine main.text).may_hold then works main.text disable ∷ [] else []
+flipper_off machine main None = if (defaults_called machine main.text).may_hold then works main.text disable
+    ∷ [] else []
 
 -- the device of a coil rule, with these settings and effect lists
 abbrev pub rule_device : Settings → Rule → List (List Effect) → Device
 rule_device settings r lists = record {
   settings = settings;
   listens = r.switch.text ∷ [];
-  handled = acts Enable r.enables ++ acts Disable r.disables;
-  mentioned = [];
+  event_acts = acts Enable r.enables ++ acts Disable r.disables;
+  other_mentions = [];
   lists = lists;
 }
 
-abbrev pub flipper_device : List SectionRows → Flipper → Device
-flipper_device machine f = rule_device kinds.Flipper f.rule (flipper_on machine f.main_coil f.hold_coil ∷ flipper_off machine f.main_coil f.hold_coil ∷ [])
+abbrev pub flipper_device : List SectionRows → FlipperEntry → Device
+flipper_device machine f = rule_device kinds.Flipper f.rule
+    (flipper_on machine f.main_coil f.hold_coil ∷ flipper_off machine f.main_coil f.hold_coil ∷ [])
 
-abbrev pub autofire_device : List SectionRows → Autofire → Device
-autofire_device machine a = rule_device kinds.Autofire a.rule ((works a.coil.text (own_pulse (defaults_called machine a.coil.text)) ∷ []) ∷ [])
+abbrev pub autofire_device : List SectionRows → AutofireEntry → Device
+autofire_device machine a = rule_device kinds.Autofire a.rule
+    ((works a.coil.text (own_pulse (defaults_called machine a.coil.text)) ∷ []) ∷ [])
 
 -- the device of a coil rule, whichever it is, and of an entry that may be one
 abbrev pub coil_rule_device : List SectionRows → CoilRule → Device

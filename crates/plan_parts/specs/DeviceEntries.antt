@@ -1,16 +1,17 @@
 -- What the entries of devices say: of counters, accruals, sequences and timers; and the device of each entry.
 use Rattle.std.specs.Prelude.{ℕ, suc, ℤ, if◌then◌else◌, List, [], ◌∷◌, ◌++◌, length, map, Option, Some, codes}
 use Rattle.std.specs.Str.{bytes_eq}
-use Rattle.mpf_sections.specs.declared.words.ControlAction.{ControlAction}
+use Rattle.mpf_sections.specs.{declared.words.ControlAction.ControlAction, Typed.{step_block_of, timer_of}}
 use Rattle.mpf_sections.specs.declared.words.ControlAction.TheVariants as actions
 use Rattle.mpf_values.specs.Events.{Event}
-use Rattle.setting_values.specs.Values.{Handled}
-use Rattle.mpf_sections.specs.Rows.{Written, Entry, BlockEvents, Counter, StepBlock, Control, Timer}
-use Rattle.mpf_sections.specs.Typed.{counters_name, accruals_name, sequences_name, timers_name, counter_of, step_block_of, timer_of}
+use Rattle.setting_values.specs.Values.{HandledEvent}
+use Rattle.mpf_sections.specs.Rows.{WrittenName, Entry, BlockEvents, CounterEntry, StepBlock, ControlEvent, TimerEntry}
+use Rattle.mpf_sections.specs.Typed.{counters_name, accruals_name, sequences_name, timers_name, counter_of}
 use Rattle.machine_settings.specs.declared.settings.StepSettings.{StepSettings}
-use Rattle.plan_tables.specs.declared.devices.{Settings.Settings, Act.Act}
+use Rattle.plan_tables.specs.declared.devices.Settings.{Settings}
+use Rattle.plan_tables.specs.declared.devices.Act.{Act, TheVariants.{Stop, Pause, Add, Subtract, Jump}}
 use Rattle.plan_tables.specs.declared.devices.Settings.TheVariants as kinds
-use Rattle.plan_tables.specs.declared.devices.Act.TheVariants.{Count, Step, Enable, Disable, Reset, Restart, Start, Stop, Pause, Add, Subtract, Jump}
+use Rattle.plan_tables.specs.declared.devices.Act.TheVariants.{Count, Step, Enable, Disable, Reset, Restart, Start}
 use Rattle.plan_rows.specs.Members.{is_none}
 use Rattle.plan_parts.specs.{SaveEntries.save_device_of, Effects.{Effect, posts}}
 pub use Rattle.plan_parts.specs.Devices.{texts, events, Device, always, acts}
@@ -34,7 +35,7 @@ abbrev pub block_endings : List (List ℕ)
 block_endings = codes "_updated" ∷ codes "_hit" ∷ codes "_complete" ∷ []
 
 -- the events that are written, or its own if none is
-abbrev pub or_own : List Written → List ℕ → List (List ℕ)
+abbrev pub or_own : List WrittenName → List ℕ → List (List ℕ)
 or_own ws own = if is_none ws then own ∷ [] else texts ws
 
 -- what a block posts when its value changes, when it is hit, and when it completes
@@ -45,17 +46,17 @@ block_lists name b =
     ∷ map posts (or_own b.complete (block_event name (codes "_complete")))
     ∷ []
 
-abbrev pub counter_device : Counter → Device
+abbrev pub counter_device : CounterEntry → Device
 counter_device c = record {
   settings = kinds.Counter c.settings;
   listens = [];
-  handled = acts Count c.counts ++ block_acts c.block;
-  mentioned = block_mentions c.block;
+  event_acts = acts Count c.counts ++ block_acts c.block;
+  other_mentions = block_mentions c.block;
   lists = block_lists c.name.text c.block;
 }
 
--- the events of each step, which do it; this is the number of the first step
-abbrev pub step_acts : ℕ → List (List Handled) → List (Event × Act)
+-- the events of each step do that step; steps are numbered from this number on
+abbrev pub step_acts : ℕ → List (List HandledEvent) → List (Event × Act)
 step_acts i [] = []
 step_acts i (hs ∷ rest) = acts (Step i) hs ++ step_acts (suc i) rest
 
@@ -67,8 +68,8 @@ abbrev pub step_device : Settings → StepBlock → Device
 step_device settings b = record {
   settings = settings;
   listens = [];
-  handled = step_acts 0 b.steps ++ block_acts b.block;
-  mentioned = block_mentions b.block;
+  event_acts = step_acts 0 b.steps ++ block_acts b.block;
+  other_mentions = block_mentions b.block;
   lists = block_lists b.name.text b.block;
 }
 
@@ -85,8 +86,8 @@ control_act actions.Add n = Add n
 control_act actions.Subtract n = Subtract n
 control_act actions.Jump n = Jump n
 
-abbrev pub controlled : Control → Event × Act
-controlled c = (c.event.event, control_act c.action c.value)
+abbrev pub act_of_control : ControlEvent → Event × Act
+act_of_control c = (c.event.event, control_act c.action c.value)
 
 -- an event of the timer of this name
 abbrev pub timer_event : List ℕ → List ℕ → List ℕ
@@ -100,12 +101,12 @@ timer_endings = codes "_started" ∷ codes "_stopped" ∷ codes "_paused" ∷ co
 abbrev pub timer_lists : List ℕ → List (List Effect)
 timer_lists name = map (λ ending. posts (timer_event name ending) ∷ []) timer_endings
 
-abbrev pub timer_device : Timer → Device
+abbrev pub timer_device : TimerEntry → Device
 timer_device t = record {
   settings = kinds.Timer t.settings;
   listens = [];
-  handled = map controlled t.controls;
-  mentioned = [];
+  event_acts = map act_of_control t.controls;
+  other_mentions = [];
   lists = timer_lists t.name.text;
 }
 

@@ -2,10 +2,10 @@
 -- setting names: first of those of rows, then of those of parts.
 use Rattle.std.specs.Prelude.{◌≡◌, ◌≢◌, ℕ, Bool, true, ◌||◌, List, Option, None, Some, IfSome, IsSome}
 use Rattle.std.specs.{List.{All, AllPairs, flat_map, list_any}, Str.bytes_eq}
-use Rattle.mpf_sections.specs.Rows.{Switch, EventPlayer, CoilPlayer, VariablePlayer, Shot, ShotGroup, BallDevice, SectionRows}
-use Rattle.mpf_sections.specs.TypedBalls.{playfield, ball_devices_in}
-use Rattle.mpf_sections.specs.{TypedCoils.coil_players_in, CoilRules.coil_rule_of}
-use Rattle.mpf_sections.specs.{TypedGame.variable_players_in, TypedShots.{shots_in, shot_groups_in}}
+use Rattle.mpf_sections.specs.Rows.{Switch, EventPlayer, CoilPlayer, VariablePlayer, Shot, ShotGroup, BallDeviceEntry}
+use Rattle.mpf_sections.specs.{Rows.SectionRows, CoilRules.coil_rule_of}
+use Rattle.mpf_sections.specs.{TypedBalls.{playfield, ball_devices_in}, TypedShots.{shots_in, shot_groups_in}}
+use Rattle.mpf_sections.specs.{TypedCoils.coil_players_in, TypedGame.variable_players_in}
 use Rattle.mpf_config.specs.Rows.{ModeRows, Rows}
 use Rattle.mpf_sections.specs.Typed.{entries_in, switches_in, event_players_in}
 use Rattle.machine_definitions.specs.Shots.{shot_called, has_profile, profile_of_name}
@@ -18,7 +18,8 @@ use Rattle.plan_parts.specs.Parts.{Part, switch, handler, device, mention, unkno
 
 -- the playfield, or a ball device of the machine text, has this name
 abbrev pub has_target : List SectionRows → List ℕ → Bool
-has_target machine name = bytes_eq name playfield || list_any (λ d. bytes_eq name d.name.text) (flat_map ball_devices_in machine)
+has_target machine name = bytes_eq name playfield
+    || list_any (λ d. bytes_eq name d.name.text) (flat_map ball_devices_in machine)
 
 -- no device listens to one switch twice
 abbrev pub IsHeardOnce : Part → Type 0
@@ -67,7 +68,7 @@ module _ (P : Effect → Type 0) (S L : List ℕ → Type 0) where
 
     -- P holds of all that the effect lists of a ball device do, and L of the name of each of its ball switches, whose
     -- names are distinct; and it ejects its balls onto the playfield or into a ball device
-    pub record IsBallDeviceDoing (d : BallDevice) : Type 0 where
+    pub record IsBallDeviceDoing (d : BallDeviceEntry) : Type 0 where
       pub lists : All (All P) (ball_lists rows.machine d)
       pub listens : All L (texts d.switches)
       pub apart : AllPairs (λ m n. m ≢ n) (texts d.switches)

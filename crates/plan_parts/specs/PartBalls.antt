@@ -34,20 +34,20 @@ DrainsIn has _ = Unit {0}
 pub record AreBallLists (lists : List (List Effect)) : Type 0 where
   pub event : List ℕ
   pub drain : Bool
-  pub entered : get_or lists 0 [] ≡ enters event drain ∷ []
-  pub attempted : All IsBallFree (get_or lists 1 [])
-  pub left : get_or lists 2 [] ≡ leaves ∷ []
-  pub lost : get_or lists 3 [] ≡ loses ∷ []
-  pub succeeded : All IsBallFree (get_or lists 4 [])
-  pub arrived : get_or lists 5 [] ≡ arrives ∷ []
-  pub failed : All IsBallFree (get_or lists 6 [])
+  pub entry : get_or lists 0 [] ≡ enters event drain ∷ []
+  pub attempt : All IsBallFree (get_or lists 1 [])
+  pub exit : get_or lists 2 [] ≡ leaves ∷ []
+  pub loss : get_or lists 3 [] ≡ loses ∷ []
+  pub success : All IsBallFree (get_or lists 4 [])
+  pub arrival : get_or lists 5 [] ≡ arrives ∷ []
+  pub failure : All IsBallFree (get_or lists 6 [])
 
 -- a ball device with so many ball switches
 pub record IsBallDevice (switches : ℕ) (d : Device) : Type 0 where
   pub lists : AreBallLists d.lists
   pub count : length d.lists ≡ 7
   pub listens : length d.listens ≡ switches
-  pub handled : d.handled ≡ []
+  pub event_acts : d.event_acts ≡ []
 
 -- a device with these settings
 abbrev pub IsRightDevice : Settings → Device → Type 0

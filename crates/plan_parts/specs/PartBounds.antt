@@ -50,8 +50,9 @@ IsTargetAmong rows _ = Unit {0}
 -- Here `S` is what gives profiles of shots a state, and `Short` what makes the lists of rows short; there are so many
 -- modes and these rows, and a game where `has` holds.
 module _ (S Short : Type 0) (modes : ℕ) (rows : List (Whose × Device)) (has : Bool) where
-  -- A device: it has as many effect lists as its settings say, they are short, and its settings are within their limits;
-  -- only devices of the machine listen to switches; where it ejects balls to is there; a ball may drain only in a game.
+  -- A device: it has as many effect lists as its settings say, they are short, and its settings are within their
+  -- limits; only devices of the machine listen to switches; where it ejects balls to is there; a ball may drain only in
+  -- a game.
   pub record IsDevicePart (whose : Whose) (d : Device) : Type 0 where
     pub owner : IsOwnerBelow modes whose.owner
     pub count : S → length d.lists ≡ list_count d.settings

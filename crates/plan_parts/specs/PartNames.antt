@@ -54,8 +54,8 @@ IsFitEvent P e = P e.name × IfSome e.condition (λ c. IsName c.variable)
 -- P holds of each event that the entry of a device names, and switches, coils and variables have names
 pub record IsFitDevice (P : List ℕ → Type 0) (d : Device) : Type 0 where
   pub listens : All IsName d.listens
-  pub handled : All (λ h. IsFitEvent P h.0) d.handled
-  pub mentioned : All P d.mentioned
+  pub event_acts : All (λ h. IsFitEvent P h.0) d.event_acts
+  pub other_mentions : All P d.other_mentions
   pub lists : All (All (IsFitEffect P)) d.lists
 
 abbrev pub IsFitReaction : (List ℕ → Type 0) → Reaction → Type 0

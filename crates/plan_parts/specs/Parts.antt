@@ -1,13 +1,13 @@
 -- What the rows of a configuration give to a plan, by names: parts, each whole.
-use Rattle.std.specs.Prelude.{ℕ, suc, Bool, true, false, not, ◌&&◌, if◌then◌else◌, List, [], ◌∷◌, ◌++◌, map, Option, None, Some, codes}
-use Rattle.std.specs.{List.{flat_map, list_any}, Str.bytes_eq}
+use Rattle.std.specs.Prelude.{ℕ, suc, Bool, true, false, not, ◌&&◌, if◌then◌else◌, List, [], ◌∷◌, ◌++◌, map, Option}
+use Rattle.std.specs.{Prelude.{None, Some, codes}, List.{flat_map, list_any}, Str.bytes_eq}
 use Rattle.mpf_values.specs.Events.{Event}
 use Rattle.mpf_config.specs.Rows.{ModeRows, Rows}
 use Rattle.mpf_sections.specs.declared.words.Debounce.{Debounce, TheVariants.{Auto, Quick, Normal}}
-use Rattle.mpf_sections.specs.Rows.{Written, Entry, Player, Switch, Coil, GameSettings, Shot, ModeSettings, SectionRows}
+use Rattle.mpf_sections.specs.Rows.{WrittenName, Entry, Player, Switch, Coil, GameSettings, Shot, ModeSettings}
+use Rattle.mpf_sections.specs.{Rows.SectionRows, CoilRules.coil_rule_of}
 use Rattle.mpf_sections.specs.Typed.{mode_settings, switches_name, event_player_name, switch_of, event_player_of}
 use Rattle.mpf_sections.specs.TypedCoils.{coils_name, coil_player_name, coil_of, coil_player_of}
-use Rattle.mpf_sections.specs.CoilRules.{coil_rule_of}
 use Rattle.mpf_sections.specs.TypedGame.{variable_player_name, game_name, variable_player_of, game_of, min_balls_of}
 use Rattle.machine_definitions.specs.{Definitions.makes_quick, Shots.Profile}
 use Rattle.plan_tables.specs.declared.entries.{ModeId.ModeId, SwitchKind.SwitchKind, CoilLimits.CoilLimits, Owner.Owner}
@@ -71,21 +71,21 @@ abbrev pub kind_of : List SectionRows → Switch → SwitchKind
 kind_of machine s = record { contact = s.contact; quick = is_quick machine s.name.text s.debounce }
 
 -- whether a ball that presses a switch with these tags is on the playfield
-abbrev pub confirms : List Written → Bool
+abbrev pub confirms : List WrittenName → Bool
 confirms tags = list_any (λ t. bytes_eq t.text (codes "playfield_active")) tags
 
 -- the event of a tag
-abbrev pub tag_event : Written → List ℕ
+abbrev pub tag_event : WrittenName → List ℕ
 tag_event t = codes "sw_" ++ t.text
 
 -- What a switch posts when it becomes active: the event of its own name, those of its tags, and those that its entry
 -- names, tags and names as they are written.
 abbrev pub active_posts : Switch → List (List ℕ)
-active_posts s = (s.name.text ++ codes "_active") ∷ map tag_event s.tags ++ texts s.activated
+active_posts s = (s.name.text ++ codes "_active") ∷ map tag_event s.tags ++ texts s.activation_events
 
 -- what a switch posts when it becomes inactive; its tags have no event then
 abbrev pub inactive_posts : Switch → List (List ℕ)
-inactive_posts s = (s.name.text ++ codes "_inactive") ∷ texts s.deactivated
+inactive_posts s = (s.name.text ++ codes "_inactive") ∷ texts s.deactivation_events
 
 -- ---- modes
 
@@ -180,15 +180,17 @@ module _ (machine : List SectionRows) (whose : Whose) where
 
   -- what a shot gives after its switch: a device of its own, or, if it has a seat in a group, handlers that act on the
   -- row of the group
-  abbrev pub seated : Profile → Shot → Option Seat → List Part
-  seated p s None = device whose (lone_device p s) ∷ []
-  seated p s (Some seat) = map (λ h. handler whose h.0 (act_on (record { 0 = seat.row }) h.1)) (shot_acts seat.shot s)
+  abbrev pub with_seat : Profile → Shot → Option Seat → List Part
+  with_seat p s None = device whose (lone_device p s) ∷ []
+  with_seat p s (Some seat) = map (λ h. handler whose h.0 (act_on (record { 0 = seat.row }) h.1))
+      (shot_acts seat.shot s)
 
   unfoldable pub row_parts : Row → List Part
   row_parts (entry place section e) = entry_parts place section e
   row_parts (alone place section e) = alone_parts place section e
   row_parts (player place section p) = player_parts section p
-  row_parts (shot place s seat known p) = unknown_unless known ++ where_some (λ w. mention Switches w.text) s.switch ++ seated p s seat
+  row_parts (shot place s seat known p) = unknown_unless known ++ where_some (λ w. mention Switches w.text) s.switch
+      ++ with_seat p s seat
   row_parts (group place g m) = unknown_unless m.all_known ++ device whose (group_device g m) ∷ []
   row_parts (ball_device d to) = unknown_unless (is_known to) ++ device whose (ball_device_from machine d to) ∷ []
   row_parts (of_mode name s) = []
@@ -208,4 +210,5 @@ modes_parts rows k n (m ∷ ms) =
     ++ modes_parts rows (suc k) (rows_after_text Mode n m.sections) ms
 
 unfoldable pub parts_of : Rows → List Part
-parts_of rows = text_parts rows own Machine 0 rows.machine ++ modes_parts rows 0 (rows_after_text Machine 0 rows.machine) rows.modes
+parts_of rows = text_parts rows own Machine 0 rows.machine
+    ++ modes_parts rows 0 (rows_after_text Machine 0 rows.machine) rows.modes

@@ -7,15 +7,16 @@ use Rattle.setting_values.specs.View.{guard_view}
 use Rattle.plan_tables.specs.declared.devices.{Act.Act, Settings.Settings}
 use Rattle.plan_tables.specs.declared.{entries.ModeId.ModeId, table.Table.TheVariants.Switches}
 use Rattle.plan_rows.specs.Rows.{Row, of_mode}
-use Rattle.plan_parts.specs.declared.{names.Parts.Parts, row_parts.Control.{Control, TheVariants.{Start, Stop}}}
+use Rattle.plan_parts.specs.{declared.names.NamePieces.NamePieces, View.pieces_text, Devices.always}
+use Rattle.plan_parts.specs.declared.row_parts.ModeControl.{ModeControl, TheVariants.{Start, Stop}}
 use Rattle.plan_parts.specs.declared.row_parts.Whose as held_whose
-use Rattle.plan_parts.specs.declared.row_parts.Text as held_text
-use Rattle.plan_parts.specs.declared.row_parts.Handled as held
-use Rattle.plan_parts.specs.declared.row_parts.Head as heads
-use Rattle.plan_parts.specs.declared.row_parts.Head.TheVariants as kinds
+use Rattle.plan_parts.specs.declared.row_parts.RowText as held_text
+use Rattle.plan_parts.specs.declared.row_parts.HandledName as held
+use Rattle.plan_parts.specs.declared.row_parts.RowHead as heads
+use Rattle.plan_parts.specs.declared.row_parts.RowHead.TheVariants as kinds
 use Rattle.plan_parts.specs.declared.row_parts.RowParts as rows
-use Rattle.plan_parts.specs.{View.parts_text, Devices.always}
-use Rattle.plan_parts.specs.Parts.{Whose, Part, run, start, stop, act_on, switch, coil, game, mode, handler, device, mention, unknown, where_some, own, of_the_mode, mode_parts, row_parts}
+use Rattle.plan_parts.specs.Parts.{Whose, Part, run, start, stop, act_on, switch, coil, game, mode, handler, device}
+use Rattle.plan_parts.specs.Parts.{mention, unknown, where_some, own, of_the_mode, mode_parts, row_parts}
 
 -- ---- what fields hold
 
@@ -23,17 +24,17 @@ abbrev pub whose_view : held_whose.Whose → Whose
 whose_view w = record { owner = w.owner; priority = w.priority }
 
 -- an event that is handled, with its condition
-abbrev pub handled_event_view : held.Handled → Event
-handled_event_view h = record { name = parts_text h.event; condition = option_map (λ g. guard_view g.now) h.condition }
+abbrev pub handled_event_view : held.HandledName → Event
+handled_event_view h = record { name = pieces_text h.event; condition = option_map (λ g. guard_view g.now) h.condition }
 
-abbrev pub acts_view : List (held.Handled × Act) → List (Event × Act)
+abbrev pub acts_view : List (held.HandledName × Act) → List (Event × Act)
 acts_view hs = map (λ h. (handled_event_view h.0, h.1)) hs
 
-abbrev pub controls_view : List (held.Handled × Control) → List (Event × Control)
+abbrev pub controls_view : List (held.HandledName × ModeControl) → List (Event × ModeControl)
 controls_view hs = map (λ h. (handled_event_view h.0, h.1)) hs
 
-abbrev pub names_view : List Parts → List (List ℕ)
-names_view ns = map parts_text ns
+abbrev pub names_view : List NamePieces → List (List ℕ)
+names_view ns = map pieces_text ns
 
 abbrev pub bytes_view : List (Bor (List ℕ)) → List (List ℕ)
 bytes_view ns = map (λ n. n.now) ns
@@ -41,18 +42,18 @@ bytes_view ns = map (λ n. n.now) ns
 -- ---- controls
 
 -- an event does this with a mode; and the event of this name stops it, if this holds
-abbrev pub controlled_by : Control → Event → Event × Control
+abbrev pub controlled_by : ModeControl → Event → Event × ModeControl
 controlled_by control e = (e, control)
 
-abbrev pub stops_where : Bool → List ℕ → List (Event × Control)
+abbrev pub stops_where : Bool → List ℕ → List (Event × ModeControl)
 stops_where holds name = if holds then (always name, Stop) ∷ [] else []
 
 -- what starts and stops the mode of this number
-abbrev pub control_part : Whose → ModeId → Event × Control → Part
+abbrev pub control_part : Whose → ModeId → Event × ModeControl → Part
 control_part whose m (e, Start) = handler whose e (start m)
 control_part whose m (e, Stop) = handler whose e (stop m)
 
-abbrev pub control_parts : Whose → ModeId → List (Event × Control) → List Part
+abbrev pub control_parts : Whose → ModeId → List (Event × ModeControl) → List Part
 control_parts whose m controls = map (control_part whose m) controls
 
 -- ---- the parts of a row
@@ -62,13 +63,13 @@ abbrev pub device_in : rows.RowParts → Settings → Part
 device_in r settings = device (whose_view r.whose) (record {
   settings = settings;
   listens = bytes_view r.listens.items;
-  handled = acts_view r.handled.items;
-  mentioned = names_view r.mentioned.items;
+  event_acts = acts_view r.event_acts.items;
+  other_mentions = names_view r.other_mentions.items;
   lists = r.lists;
 })
 
 -- the parts of its head
-abbrev pub parts_by : rows.RowParts → heads.Head → List Part
+abbrev pub parts_by : rows.RowParts → heads.RowHead → List Part
 parts_by r kinds.Nothing = []
 parts_by r (kinds.Switch name kind confirms) =
     switch name.now kind confirms (names_view r.active.items) (names_view r.inactive.items) ∷ []
@@ -76,10 +77,11 @@ parts_by r (kinds.Coil name limits) = coil name.now limits ∷ []
 parts_by r (kinds.Game min_balls balls_per_game max_players) = game min_balls balls_per_game max_players ∷ []
 parts_by r (kinds.Mode m name settings) =
     mode name.now (mode_settings_view settings) ∷ control_parts (whose_view r.whose) m (controls_view r.controls.items)
-parts_by r (kinds.Handler h) = handler (whose_view r.whose) (handled_event_view h) (run (flat_map (λ es. es) r.lists)) ∷ []
+parts_by r (kinds.Handler h) = handler (whose_view r.whose) (handled_event_view h) (run (flat_map (λ es. es) r.lists))
+    ∷ []
 parts_by r (kinds.Device settings) = device_in r settings ∷ []
 parts_by r (kinds.Seat row) =
-    map (λ h. handler (whose_view r.whose) h.0 (act_on (record { 0 = row }) h.1)) (acts_view r.handled.items)
+    map (λ h. handler (whose_view r.whose) h.0 (act_on (record { 0 = row }) h.1)) (acts_view r.event_acts.items)
 
 abbrev pub head_parts : rows.RowParts → List Part
 head_parts r = parts_by r r.head
@@ -101,8 +103,8 @@ pub record AreNoParts (whose : Whose) (r : rows.RowParts) : Type 0 where
   pub inactive : r.inactive.items ≡ []
   pub controls : r.controls.items ≡ []
   pub listens : r.listens.items ≡ []
-  pub handled : r.handled.items ≡ []
-  pub mentioned : r.mentioned.items ≡ []
+  pub event_acts : r.event_acts.items ≡ []
+  pub other_mentions : r.other_mentions.items ≡ []
   pub lists : r.lists ≡ []
 
 -- ---- the walk over the rows
@@ -112,7 +114,7 @@ pub record TextView : Type 0 where
   pub whose : Whose
   pub modes : ℕ
 
-abbrev pub text_view : held_text.Text → TextView
+abbrev pub text_view : held_text.RowText → TextView
 text_view t = record { whose = whose_view t.whose; modes = t.modes }
 
 abbrev pub machine_text : TextView

@@ -1,7 +1,7 @@
 -- What the entries of ball saves and multiballs say.
 use Rattle.std.specs.{Prelude.{ℕ, if◌then◌else◌, List, [], ◌∷◌, ◌++◌, Option, None, Some, codes}, Str.bytes_eq}
 use Rattle.mpf_values.specs.Events.{Event}
-use Rattle.mpf_sections.specs.Rows.{Entry, BallSave, Multiball}
+use Rattle.mpf_sections.specs.Rows.{Entry, BallSaveEntry, MultiballEntry}
 use Rattle.mpf_sections.specs.TypedSaves.{ball_saves_name, multiballs_name, ball_save_of, multiball_of}
 use Rattle.plan_tables.specs.declared.devices.Act.{Act, TheVariants.{Enable, Disable, Start}}
 use Rattle.plan_tables.specs.declared.devices.Settings.TheVariants as kinds
@@ -26,15 +26,15 @@ save_lists name =
     ∷ []
 
 -- what enables it, and what disables it
-abbrev pub save_acts : BallSave → List (Event × Act)
+abbrev pub save_acts : BallSaveEntry → List (Event × Act)
 save_acts s = acts Enable s.enable_events ++ acts Disable s.disable_events
 
-abbrev pub save_device : BallSave → Device
+abbrev pub save_device : BallSaveEntry → Device
 save_device s = record {
   settings = kinds.BallSave s.settings;
   listens = [];
-  handled = save_acts s;
-  mentioned = [];
+  event_acts = save_acts s;
+  other_mentions = [];
   lists = save_lists s.name.text;
 }
 
@@ -55,12 +55,12 @@ multiball_lists name balls =
     ∷ (posts (multiball_event name (codes "_ended")) ∷ [])
     ∷ []
 
-abbrev pub multiball_device : Multiball → Device
+abbrev pub multiball_device : MultiballEntry → Device
 multiball_device m = record {
   settings = kinds.Multiball m.settings;
   listens = [];
-  handled = acts Start m.start_events;
-  mentioned = [];
+  event_acts = acts Start m.start_events;
+  other_mentions = [];
   lists = multiball_lists m.name.text m.settings.balls;
 }
 

@@ -2,10 +2,10 @@
 use Rattle.std.specs.Prelude.{ℕ, ◌-◌, Bool, true, false, List, [], ◌∷◌, ◌++◌, length, map, Option, None, Some, codes}
 use Rattle.std.specs.List.{flat_map}
 use Rattle.mpf_values.specs.Events.{Event}
-use Rattle.mpf_sections.specs.Rows.{Written, Shot, ShotGroup}
+use Rattle.mpf_sections.specs.Rows.{WrittenName, Shot, ShotGroup}
 use Rattle.machine_definitions.specs.Shots.{Profile}
-use Rattle.plan_tables.specs.declared.devices.{Act.Act, Settings.Settings}
-use Rattle.plan_tables.specs.declared.devices.Act.TheVariants.{Reset, Hit, Advance, ResetShot, EnableShot, DisableShot, RotateRight, RotateLeft}
+use Rattle.plan_tables.specs.declared.devices.{Act.{Act, TheVariants.{RotateRight, RotateLeft}}, Settings.Settings}
+use Rattle.plan_tables.specs.declared.devices.Act.TheVariants.{Reset, Hit, Advance, ResetShot, EnableShot, DisableShot}
 use Rattle.plan_tables.specs.declared.devices.Settings.TheVariants as kinds
 use Rattle.plan_parts.specs.{Effects.{Effect, posts}, DeviceEntries.{Device, always, acts, texts}}
 use Rattle.plan_rows.specs.Members.{is_enabled, flags, Members}
@@ -41,7 +41,7 @@ group_lists p name shots =
 -- ---- events
 
 -- a switch hits its shot when it becomes active
-abbrev pub switch_hits : Act → Option Written → List (Event × Act)
+abbrev pub switch_hits : Act → Option WrittenName → List (Event × Act)
 switch_hits hit None = []
 switch_hits hit (Some w) = (always (w.text ++ codes "_active"), hit) ∷ []
 
@@ -57,7 +57,8 @@ shot_acts i s =
 
 -- what acts on a group
 abbrev pub group_acts : ShotGroup → List (Event × Act)
-group_acts g = acts RotateRight g.rotates ++ acts RotateRight g.rotates_right ++ acts RotateLeft g.rotates_left ++ acts Reset g.resets
+group_acts g = acts RotateRight g.rotates ++ acts RotateRight g.rotates_right ++ acts RotateLeft g.rotates_left
+    ++ acts Reset g.resets
 
 -- ---- devices
 
@@ -76,8 +77,8 @@ abbrev pub lone_device : Profile → Shot → Device
 lone_device p s = record {
   settings = bank_settings p 1 (flags (is_enabled s ∷ [])) false;
   listens = [];
-  handled = shot_acts 0 s;
-  mentioned = [];
+  event_acts = shot_acts 0 s;
+  other_mentions = [];
   lists = shot_lists p s.name.text;
 }
 
@@ -85,7 +86,7 @@ abbrev pub group_device : ShotGroup → Members → Device
 group_device g m = record {
   settings = bank_settings m.profile (length g.shots) m.enabled true;
   listens = [];
-  handled = group_acts g;
-  mentioned = [];
+  event_acts = group_acts g;
+  other_mentions = [];
   lists = group_lists m.profile g.name.text (texts g.shots);
 }

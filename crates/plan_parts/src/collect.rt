@@ -2,8 +2,10 @@
 
 ghost use Rattle.std.specs.Prelude.{◌≡◌, ◌++◌, map, OnOk};
 ghost use Rattle.mpf_sections.specs.View.{mode_settings_view, name_view, switch_view};
-ghost use Rattle.plan_parts.specs.Gives.{Gives, alone_gives, entry_gives, event_player_gives, game_gives, machine_entry_gives, mode_gives, player_entry_gives, switch_gives};
-ghost use Rattle.plan_parts.specs.Parts.{active_posts, confirms, inactive_posts, is_quick, kind_of, stops_at_ball_end, stops_at_game_end, tag_event};
+ghost use Rattle.plan_parts.specs.Gives.{Gives, alone_gives, entry_gives, event_player_gives, game_gives};
+ghost use Rattle.plan_parts.specs.Gives.{machine_entry_gives, mode_gives, player_entry_gives, switch_gives};
+ghost use Rattle.plan_parts.specs.Parts.{active_posts, confirms, inactive_posts, is_quick, kind_of, stops_at_ball_end};
+ghost use Rattle.plan_parts.specs.Parts.{stops_at_game_end, tag_event};
 ghost use Rattle.plan_parts.specs.RowViews.{controls_view, names_view, parts_at, parts_in, stops_where, text_view};
 ghost use Rattle.plan_rows.specs.View.{row_view};
 
@@ -14,8 +16,8 @@ use crate::collect_handled::{collect_controls, collect_names};
 use crate::collect_shots::{collect_group, collect_shot};
 use crate::collect_variables::collect_variable_player;
 use crate::effects::post_each;
-use crate::names::{Parts, joined, whole};
-use crate::row_parts::{Control, Handled, Head, RowParts, Text, Whose, add};
+use crate::names::{NamePieces, join_pieces, whole};
+use crate::row_parts::{HandledName, ModeControl, RowHead, RowParts, RowText, Whose, add};
 use machine_definitions::Definitions;
 use mpf_config::{
     COIL_PLAYER_NAME, COILS_NAME, Debounce, EVENT_PLAYER_NAME, Entry, EventPlayer, GAME_NAME,
@@ -36,10 +38,11 @@ use std::alloc::AllocError;
 pub fn collect_row<'a>(
     parts: &mut RowParts<'a>,
     definitions: &Definitions<'_>,
-    text: Text,
+    text: RowText,
     row: Row<'_, 'a>,
 ) -> Result<(), AllocError>
-    ensures { OnOk result (parts_in parts.new ≡ parts_at definitions.now.machine (text_view text) (row_view row.entry)) }
+    ensures { OnOk result (parts_in parts.new
+        ≡ parts_at definitions.now.machine (text_view text) (row_view row.entry)) }
 {
     parts.clear(text.whose);
     match row {
@@ -73,7 +76,8 @@ fn collect_entry<'a>(
     section: &[u8],
     entry: &'a Entry,
 ) -> Result<(), AllocError>
-    ensures { OnOk result (Gives parts.old parts.new (entry_gives definitions.now.machine place section.now entry.now)) }
+    ensures { OnOk result (Gives parts.old parts.new
+        (entry_gives definitions.now.machine place section.now entry.now)) }
 {
     match place {
         Place::Machine => collect_machine_entry(parts, definitions, section, entry),
@@ -89,7 +93,8 @@ fn collect_machine_entry<'a>(
     section: &[u8],
     entry: &'a Entry,
 ) -> Result<(), AllocError>
-    ensures { OnOk result (Gives parts.old parts.new (machine_entry_gives definitions.now.machine section.now entry.now)) }
+    ensures { OnOk result (Gives parts.old parts.new
+        (machine_entry_gives definitions.now.machine section.now entry.now)) }
 {
     if section == COILS_NAME {
         collect_coil(parts, as_coil(entry));
@@ -130,7 +135,8 @@ fn collect_player<'a>(
     section: &[u8],
     player: &'a Player,
 ) -> Result<(), AllocError>
-    ensures { OnOk result (Gives parts.old parts.new (player_entry_gives definitions.now.machine section.now player.now)) }
+    ensures { OnOk result (Gives parts.old parts.new
+        (player_entry_gives definitions.now.machine section.now player.now)) }
 {
     if section == EVENT_PLAYER_NAME {
         return collect_event_player(parts, as_event_player(player));
@@ -154,7 +160,7 @@ fn collect_switch<'a>(
 ) -> Result<(), AllocError>
     ensures { OnOk result (Gives parts.old parts.new (switch_gives definitions.now.machine row.entry)) }
 {
-    parts.head = Head::Switch {
+    parts.head = RowHead::Switch {
         name: &row.name.text,
         kind: kind_of(definitions, row),
         confirms_playfield: confirms(row.tags),
@@ -196,30 +202,36 @@ fn is_quick(definitions: &Definitions<'_>, name: &[u8], debounce: Debounce) -> b
 }
 
 /// What the switch of a row posts when it becomes active.
-fn collect_active<'a>(active: &mut Vec<Parts<'a>>, row: Switch<'a>) -> Result<(), AllocError>
-    ensures { OnOk result (names_view active.new.items ≡ names_view active.old.items ++ active_posts (switch_view row.entry)) }
+fn collect_active<'a>(active: &mut Vec<NamePieces<'a>>, row: Switch<'a>) -> Result<(), AllocError>
+    ensures { OnOk result (names_view active.new.items
+        ≡ names_view active.old.items ++ active_posts (switch_view row.entry)) }
 {
-    add(active, joined(&row.name.text, b"", b"_active"))?;
+    add(active, join_pieces(&row.name.text, b"", b"_active"))?;
     collect_tags(active, row.tags)?;
-    collect_names(active, row.activated)
+    collect_names(active, row.activation_events)
 }
 
 /// The events of tags.
-fn collect_tags<'a>(active: &mut Vec<Parts<'a>>, tags: &'a [Name]) -> Result<(), AllocError>
-    ensures { OnOk result (names_view active.new.items ≡ names_view active.old.items ++ map tag_event (map name_view tags.now)) }
+fn collect_tags<'a>(active: &mut Vec<NamePieces<'a>>, tags: &'a [Name]) -> Result<(), AllocError>
+    ensures { OnOk result (names_view active.new.items
+        ≡ names_view active.old.items ++ map tag_event (map name_view tags.now)) }
 {
     for tag in tags {
-        add(active, joined(b"sw_", b"", &tag.text))?;
+        add(active, join_pieces(b"sw_", b"", &tag.text))?;
     }
     Ok(())
 }
 
 /// What the switch of a row posts when it becomes inactive.
-fn collect_inactive<'a>(inactive: &mut Vec<Parts<'a>>, row: Switch<'a>) -> Result<(), AllocError>
-    ensures { OnOk result (names_view inactive.new.items ≡ names_view inactive.old.items ++ inactive_posts (switch_view row.entry)) }
+fn collect_inactive<'a>(
+    inactive: &mut Vec<NamePieces<'a>>,
+    row: Switch<'a>,
+) -> Result<(), AllocError>
+    ensures { OnOk result (names_view inactive.new.items
+        ≡ names_view inactive.old.items ++ inactive_posts (switch_view row.entry)) }
 {
-    add(inactive, joined(&row.name.text, b"", b"_inactive"))?;
-    collect_names(inactive, row.deactivated)
+    add(inactive, join_pieces(&row.name.text, b"", b"_inactive"))?;
+    collect_names(inactive, row.deactivation_events)
 }
 
 // ---- `event_player`
@@ -231,7 +243,7 @@ fn collect_event_player<'a>(
 ) -> Result<(), AllocError>
     ensures { OnOk result (Gives parts.old parts.new (event_player_gives row.entry)) }
 {
-    parts.head = Head::Handler(Handled::written(row.event));
+    parts.head = RowHead::Handler(HandledName::as_written(row.event));
     parts.lists.begin()?;
     post_each(&mut parts.lists, row.posts)
 }
@@ -242,7 +254,7 @@ fn collect_event_player<'a>(
 fn collect_game(parts: &mut RowParts<'_>, definitions: &Definitions<'_>, row: GameSettings)
     ensures { Gives parts.old parts.new (game_gives definitions.now.machine row) }
 {
-    parts.head = Head::Game {
+    parts.head = RowHead::Game {
         min_balls: definitions.min_balls(),
         balls_per_game: row.balls_per_game,
         max_players: row.max_players,
@@ -261,13 +273,13 @@ fn collect_mode<'a>(
 ) -> Result<(), AllocError>
     ensures { OnOk result (Gives parts.old parts.new (mode_gives number name.now settings.entry)) }
 {
-    parts.head = Head::Mode(number, name, settings);
+    parts.head = RowHead::Mode(number, name, settings);
     parts.whose = Whose {
         owner: Owner::Machine,
         priority: settings.priority,
     };
-    collect_controls(&mut parts.controls, Control::Start, settings.starts)?;
-    collect_controls(&mut parts.controls, Control::Stop, settings.stops)?;
+    collect_controls(&mut parts.controls, ModeControl::Start, settings.starts)?;
+    collect_controls(&mut parts.controls, ModeControl::Stop, settings.stops)?;
     let at_ball_end = stops_at_ball_end(&settings);
     let at_game_end = stops_at_game_end(&settings);
     collect_stop_where(&mut parts.controls, at_ball_end, b"ball_ending")?;
@@ -290,14 +302,18 @@ fn stops_at_game_end(settings: &ModeSettings<'_>) -> bool
 
 /// The event stops a mode, if `holds`.
 fn collect_stop_where<'a>(
-    controls: &mut Vec<(Handled<'a>, Control)>,
+    controls: &mut Vec<(HandledName<'a>, ModeControl)>,
     holds: bool,
     event: &'a [u8],
 ) -> Result<(), AllocError>
-    ensures { OnOk result (controls_view controls.new.items ≡ controls_view controls.old.items ++ stops_where holds event.now) }
+    ensures { OnOk result (controls_view controls.new.items
+        ≡ controls_view controls.old.items ++ stops_where holds event.now) }
 {
     if holds {
-        return add(controls, (Handled::always(whole(event)), Control::Stop));
+        return add(
+            controls,
+            (HandledName::always(whole(event)), ModeControl::Stop),
+        );
     }
     Ok(())
 }

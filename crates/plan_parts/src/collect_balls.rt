@@ -3,19 +3,20 @@
 ghost use Rattle.std.specs.Prelude.{◌≡◌, ◌≤◌, ◌++◌, ◌∷◌, [], length, map, option_map, OnOk};
 ghost use Rattle.machine_definitions.specs.Found.{section_rows};
 ghost use Rattle.mpf_sections.specs.View.{section_view, ball_device_view, name_at_view, name_view};
-ghost use Rattle.plan_parts.specs.BallEntries.{is_game, has_game, drains, ball_event, ball_lists, attempt_effects, eject_pulse, later_lists, entry_mentions, target_of, is_known};
+ghost use Rattle.plan_parts.specs.BallEntries.{is_game, has_game, drains, ball_event, ball_lists, attempt_effects};
+ghost use Rattle.plan_parts.specs.BallEntries.{eject_pulse, later_lists, entry_mentions, target_of, is_known};
 ghost use Rattle.plan_parts.specs.Devices.{texts};
 ghost use Rattle.plan_parts.specs.Gives.{Gives, ball_device_gives, settings_of_ball_device};
 ghost use Rattle.plan_parts.specs.Lists.{with_last};
 ghost use Rattle.plan_parts.specs.RowViews.{bytes_view, names_view};
-ghost use Rattle.plan_parts.specs.View.{parts_text};
+ghost use Rattle.plan_parts.specs.View.{pieces_text};
 
 use crate::collect_coils::{defaults_of, own_pulse};
 use crate::effects::{Effect, EffectLists, do_in_next, post, post_in_next};
-use crate::names::{Parts, joined, whole};
-use crate::row_parts::{Head, RowParts, add};
+use crate::names::{NamePieces, join_pieces, whole};
+use crate::row_parts::{RowHead, RowParts, add};
 use machine_definitions::Definitions;
-use mpf_config::{BallDevice, Content, GAME_NAME, Name, NameAt, Section};
+use mpf_config::{BallDeviceEntry, Content, GAME_NAME, Name, NameAt, Section};
 use plan_rows::Destination;
 use plan_tables::devices::{BallSettings, BallTarget, RowId, Settings};
 use std::alloc::AllocError;
@@ -24,7 +25,7 @@ use std::alloc::AllocError;
 pub(crate) fn collect_ball_device<'a>(
     parts: &mut RowParts<'a>,
     definitions: &Definitions<'_>,
-    row: BallDevice<'a>,
+    row: BallDeviceEntry<'a>,
     to: Destination,
 ) -> Result<(), AllocError>
     requires few { length row.switches.now ≤ 16 }
@@ -32,9 +33,9 @@ pub(crate) fn collect_ball_device<'a>(
 {
     let drain = drains(definitions, row);
     parts.unknown = !is_known(to);
-    parts.head = Head::Device(ball_settings(row, to));
+    parts.head = RowHead::Device(ball_settings(row, to));
     collect_switches(&mut parts.listens, row.switches)?;
-    collect_mentions(&mut parts.mentioned, &row.name.text, drain)?;
+    collect_mentions(&mut parts.other_mentions, &row.name.text, drain)?;
     collect_lists(&mut parts.lists, definitions, row, drain)
 }
 
@@ -50,7 +51,8 @@ fn is_known(to: Destination) -> bool
 
 /// Its ball switches, in order.
 fn collect_switches<'a>(listens: &mut Vec<&'a [u8]>, switches: &'a [Name]) -> Result<(), AllocError>
-    ensures { OnOk result (bytes_view listens.new.items ≡ bytes_view listens.old.items ++ texts (map name_view switches.now)) }
+    ensures { OnOk result (bytes_view listens.new.items
+        ≡ bytes_view listens.old.items ++ texts (map name_view switches.now)) }
 {
     for switch in switches {
         add(listens, switch.text.as_slice())?;
@@ -60,9 +62,9 @@ fn collect_switches<'a>(listens: &mut Vec<&'a [u8]>, switches: &'a [Name]) -> Re
 
 // ---- the game
 
-/// Whether a ball that enters the device from the playfield has drained: it is tagged `drain`, and
-/// there is a game.
-fn drains(definitions: &Definitions<'_>, row: BallDevice<'_>) -> bool
+/// Whether a ball that enters the device, and was not on its way there, has drained: it is tagged `drain`, and there is
+/// a game.
+fn drains(definitions: &Definitions<'_>, row: BallDeviceEntry<'_>) -> bool
     ensures { result ≡ drains definitions.now.machine (ball_device_view row.entry) }
 {
     row.is_drain() && has_game(&definitions.config().machine.sections)
@@ -96,7 +98,7 @@ fn target_of(to: Destination) -> BallTarget
     }
 }
 
-fn ball_settings(row: BallDevice<'_>, to: Destination) -> Settings
+fn ball_settings(row: BallDeviceEntry<'_>, to: Destination) -> Settings
     requires few { length row.switches.now ≤ 16 }
     ensures { result ≡ settings_of_ball_device row.entry to }
 {
@@ -113,23 +115,24 @@ fn ball_settings(row: BallDevice<'_>, to: Destination) -> Settings
 // ---- effect lists
 
 /// An event of the ball device of this name.
-fn ball_event<'a>(name: &'a [u8], end: &'static [u8]) -> Parts<'a>
-    ensures { parts_text result ≡ ball_event name.now end.now }
+fn ball_event<'a>(name: &'a [u8], end: &'static [u8]) -> NamePieces<'a>
+    ensures { pieces_text result ≡ ball_event name.now end.now }
 {
-    joined(b"balldevice_", name, end)
+    join_pieces(b"balldevice_", name, end)
 }
 
 /// The events of its first list: of a ball that enters, and of a drained ball, if a ball that enters drains.
 fn collect_mentions<'a>(
-    mentioned: &mut Vec<Parts<'a>>,
+    other_mentions: &mut Vec<NamePieces<'a>>,
     name: &'a [u8],
     drain: bool,
 ) -> Result<(), AllocError>
-    ensures { OnOk result (names_view mentioned.new.items ≡ names_view mentioned.old.items ++ entry_mentions name.now drain) }
+    ensures { OnOk result (names_view other_mentions.new.items
+        ≡ names_view other_mentions.old.items ++ entry_mentions name.now drain) }
 {
-    add(mentioned, ball_event(name, b"_ball_enter"))?;
+    add(other_mentions, ball_event(name, b"_ball_enter"))?;
     if drain {
-        return add(mentioned, whole(b"ball_drain"));
+        return add(other_mentions, whole(b"ball_drain"));
     }
     Ok(())
 }
@@ -138,7 +141,7 @@ fn collect_mentions<'a>(
 fn collect_lists<'a>(
     lists: &mut EffectLists<'a>,
     definitions: &Definitions<'_>,
-    row: BallDevice<'a>,
+    row: BallDeviceEntry<'a>,
     drain: bool,
 ) -> Result<(), AllocError>
     requires drains { drain ≡ drains definitions.now.machine (ball_device_view row) }
@@ -160,7 +163,8 @@ fn collect_attempt<'a>(
     name: &'a [u8],
     coil: Option<NameAt<'a>>,
 ) -> Result<(), AllocError>
-    ensures { OnOk result (lists.new ≡ lists.old ++ attempt_effects definitions.now.machine name.now (option_map name_at_view coil.entry) ∷ []) }
+    ensures { OnOk result (lists.new ≡ lists.old
+        ++ attempt_effects definitions.now.machine name.now (option_map name_at_view coil.entry) ∷ []) }
 {
     post_in_next(lists, ball_event(name, b"_ball_eject_attempt"))?;
     post(lists, ball_event(name, b"_ejecting_ball"))?;
@@ -173,7 +177,8 @@ fn collect_pulse<'a>(
     definitions: &Definitions<'_>,
     coil: Option<NameAt<'a>>,
 ) -> Result<(), AllocError>
-    ensures { OnOk result (lists.new ≡ with_last (eject_pulse definitions.now.machine (option_map name_at_view coil.entry)) lists.old) }
+    ensures { OnOk result (lists.new ≡ with_last
+        (eject_pulse definitions.now.machine (option_map name_at_view coil.entry)) lists.old) }
 {
     match coil {
         Some(name) => {

@@ -3,17 +3,20 @@
 ghost use Rattle.std.specs.Prelude.{◌≡◌, ◌∷◌, ◌++◌, [], map, OnOk};
 ghost use Rattle.mpf_sections.specs.TypedCoils.{coil_item_of};
 ghost use Rattle.mpf_sections.specs.View.{coil_view, coil_item_view, keyed_view, name_at_view};
-ghost use Rattle.plan_parts.specs.CoilEntries.{limits_of_coil, defaults_called, own_pulse, own_hold, deed_by, flipper_off, flipper_on, item_effect};
-ghost use Rattle.plan_parts.specs.Gives.{AddsDevice, Gives, autofire_in, coil_gives, coil_player_gives, coil_rule_in, defaults_view, flipper_in, rule_in};
+ghost use Rattle.plan_parts.specs.CoilEntries.{limits_of_coil, defaults_called, own_pulse, own_hold, deed_by};
+ghost use Rattle.plan_parts.specs.CoilEntries.{flipper_off, flipper_on, item_effect};
+ghost use Rattle.plan_parts.specs.Gives.{AddsDevice, Gives, autofire_in, coil_gives, coil_player_gives, coil_rule_in};
+ghost use Rattle.plan_parts.specs.Gives.{defaults_view, flipper_in, rule_in};
 ghost use Rattle.plan_parts.specs.Lists.{with_last};
 ghost use Rattle.plan_parts.specs.View.{deed_view};
 
 use crate::collect_handled::collect_acts;
 use crate::effects::{Deed, Effect, EffectLists, do_in_next};
-use crate::row_parts::{Handled, Head, RowParts, add};
+use crate::row_parts::{HandledName, RowHead, RowParts, add};
 use machine_definitions::Definitions;
 use mpf_config::{
-    Autofire, Coil, CoilAction, CoilItem, CoilPlayer, Flipper, Keyed, NameAt, as_coil_item,
+    AutofireEntry, Coil, CoilAction, CoilItem, CoilPlayer, FlipperEntry, KeyedValues, NameAt,
+    as_coil_item,
 };
 use mpf_sections::{CoilRule, Rule};
 use plan_tables::devices::{Act, Settings};
@@ -26,7 +29,7 @@ use std::alloc::AllocError;
 pub(crate) fn collect_coil<'a>(parts: &mut RowParts<'a>, row: Coil<'a>)
     ensures { Gives parts.old parts.new (coil_gives row.entry) }
 {
-    parts.head = Head::Coil(&row.name.text, limits_of(row));
+    parts.head = RowHead::Coil(&row.name.text, limits_of(row));
 }
 
 /// What a coil may be sent.
@@ -96,7 +99,7 @@ pub(crate) fn collect_coil_player<'a>(
 ) -> Result<(), AllocError>
     ensures { OnOk result (Gives parts.old parts.new (coil_player_gives definitions.now.machine row.entry)) }
 {
-    parts.head = Head::Handler(Handled::written(row.event));
+    parts.head = RowHead::Handler(HandledName::as_written(row.event));
     parts.lists.begin()?;
     collect_items(&mut parts.lists, definitions, row.items)
 }
@@ -105,12 +108,13 @@ pub(crate) fn collect_coil_player<'a>(
 fn collect_items<'a>(
     lists: &mut EffectLists<'a>,
     definitions: &Definitions<'_>,
-    items: &'a [Keyed],
+    items: &'a [KeyedValues],
 ) -> Result<(), AllocError>
-    ensures { OnOk result (lists.new ≡ with_last (map (item_effect definitions.now.machine) (map coil_item_of (map keyed_view items.now))) lists.old) }
+    ensures { OnOk result (lists.new ≡ with_last
+        (map (item_effect definitions.now.machine) (map coil_item_of (map keyed_view items.now))) lists.old) }
 {
-    for keyed in items {
-        let item = as_coil_item(keyed);
+    for pair in items {
+        let item = as_coil_item(pair);
         let deed = deed_of(defaults_of(definitions, &item.coil.text), item);
         lists.add(Effect::Coil(&item.coil.text, deed))?;
     }
@@ -158,17 +162,17 @@ fn collect_rule<'a>(
 ) -> Result<(), AllocError>
     ensures { OnOk result (AddsDevice parts.old parts.new (rule_in settings row.entry)) }
 {
-    parts.head = Head::Device(settings);
+    parts.head = RowHead::Device(settings);
     add(&mut parts.listens, row.switch.text)?;
-    collect_acts(&mut parts.handled, Act::Enable, row.enables)?;
-    collect_acts(&mut parts.handled, Act::Disable, row.disables)
+    collect_acts(&mut parts.event_acts, Act::Enable, row.enables)?;
+    collect_acts(&mut parts.event_acts, Act::Disable, row.disables)
 }
 
 /// A flipper.
 fn collect_flipper<'a>(
     parts: &mut RowParts<'a>,
     definitions: &Definitions<'_>,
-    row: Flipper<'a>,
+    row: FlipperEntry<'a>,
 ) -> Result<(), AllocError>
     ensures { OnOk result (AddsDevice parts.old parts.new (flipper_in definitions.now.machine row.entry)) }
 {
@@ -187,7 +191,9 @@ fn collect_two_coils<'a>(
     main: NameAt<'a>,
     hold: NameAt<'a>,
 ) -> Result<(), AllocError>
-    ensures { OnOk result (lists.new ≡ lists.old ++ flipper_on definitions.now.machine (name_at_view main.entry) (Some (name_at_view hold.entry)) ∷ flipper_off definitions.now.machine (name_at_view main.entry) (Some (name_at_view hold.entry)) ∷ []) }
+    ensures { OnOk result (lists.new ≡ lists.old
+        ++ flipper_on definitions.now.machine (name_at_view main.entry) (Some (name_at_view hold.entry))
+        ∷ flipper_off definitions.now.machine (name_at_view main.entry) (Some (name_at_view hold.entry)) ∷ []) }
 {
     let pulse = own_pulse(defaults_of(definitions, main.text));
     let enable = own_hold(defaults_of(definitions, hold.text));
@@ -203,7 +209,8 @@ fn collect_main_coil<'a>(
     definitions: &Definitions<'_>,
     main: NameAt<'a>,
 ) -> Result<(), AllocError>
-    ensures { OnOk result (lists.new ≡ lists.old ++ flipper_on definitions.now.machine (name_at_view main.entry) None ∷ flipper_off definitions.now.machine (name_at_view main.entry) None ∷ []) }
+    ensures { OnOk result (lists.new ≡ lists.old ++ flipper_on definitions.now.machine (name_at_view main.entry) None
+        ∷ flipper_off definitions.now.machine (name_at_view main.entry) None ∷ []) }
 {
     let coil = defaults_of(definitions, main.text);
     if !coil.may_hold {
@@ -218,7 +225,7 @@ fn collect_main_coil<'a>(
 fn collect_autofire<'a>(
     parts: &mut RowParts<'a>,
     definitions: &Definitions<'_>,
-    row: Autofire<'a>,
+    row: AutofireEntry<'a>,
 ) -> Result<(), AllocError>
     ensures { OnOk result (AddsDevice parts.old parts.new (autofire_in definitions.now.machine row.entry)) }
 {

@@ -3,22 +3,25 @@
 ghost use Rattle.std.specs.Prelude.{◌≡◌, ◌++◌, ◌∷◌, [], map, OnOk};
 ghost use Rattle.mpf_sections.specs.Typed.{control_of, controls_of, with_control};
 ghost use Rattle.mpf_sections.specs.View.{block_view, fields_view, handlers_view, name_view};
-ghost use Rattle.plan_parts.specs.DeviceEntries.{block_acts, block_event, block_lists, control_act, controlled, or_own, step_acts, timer_event, timer_lists};
+ghost use Rattle.plan_parts.specs.DeviceEntries.{block_acts, block_event, block_lists, control_act, act_of_control};
+ghost use Rattle.plan_parts.specs.DeviceEntries.{or_own, step_acts, timer_event, timer_lists};
 ghost use Rattle.plan_parts.specs.Effects.{posts};
-ghost use Rattle.plan_parts.specs.Gives.{AddsBlock, AddsDevice, Gives, counter_in, device_entry_gives, settings_of_steps, step_block_in, timer_in};
+ghost use Rattle.plan_parts.specs.Gives.{AddsBlock, AddsDevice, Gives, counter_in, device_entry_gives};
+ghost use Rattle.plan_parts.specs.Gives.{settings_of_steps, step_block_in, timer_in};
 ghost use Rattle.plan_parts.specs.RowViews.{acts_view};
-ghost use Rattle.plan_parts.specs.View.{parts_text};
+ghost use Rattle.plan_parts.specs.View.{pieces_text};
 
 use crate::collect_handled::{collect_acts, collect_names};
 use crate::collect_saves::collect_save_device;
 use crate::effects::{EffectLists, post, post_each, post_in_next};
-use crate::names::{Parts, joined};
-use crate::row_parts::{Handled, Head, RowParts, add};
+use crate::names::{NamePieces, join_pieces};
+use crate::row_parts::{HandledName, RowHead, RowParts, add};
 use machine_settings::StepSettings;
 use mpf_config::config::ControlAction;
 use mpf_config::{
-    ACCRUALS_NAME, BlockEvents, COUNTERS_NAME, Counter, Entry, Fields, Handler, Name,
-    SEQUENCES_NAME, StepBlock, TIMERS_NAME, Timer, as_control, as_counter, as_step_block, as_timer,
+    ACCRUALS_NAME, BlockEvents, COUNTERS_NAME, CounterEntry, Entry, Fields, Handler, Name,
+    SEQUENCES_NAME, StepBlock, TIMERS_NAME, TimerEntry, as_control, as_counter, as_step_block,
+    as_timer,
 };
 use plan_rows::is_none;
 use plan_tables::devices::{Act, Settings};
@@ -61,30 +64,31 @@ fn collect_block<'a>(
 ) -> Result<(), AllocError>
     ensures { OnOk result (AddsBlock parts.old parts.new name.now block.entry) }
 {
-    collect_block_acts(&mut parts.handled, block)?;
-    collect_names(&mut parts.mentioned, block.hit)?;
-    collect_names(&mut parts.mentioned, block.complete)?;
+    collect_block_acts(&mut parts.event_acts, block)?;
+    collect_names(&mut parts.other_mentions, block.hit)?;
+    collect_names(&mut parts.other_mentions, block.complete)?;
     collect_block_lists(&mut parts.lists, name, block)
 }
 
 /// What enables a block, disables, resets and restarts it.
 fn collect_block_acts<'a>(
-    handled: &mut Vec<(Handled<'a>, Act)>,
+    event_acts: &mut Vec<(HandledName<'a>, Act)>,
     block: BlockEvents<'a>,
 ) -> Result<(), AllocError>
-    ensures { OnOk result (acts_view handled.new.items ≡ acts_view handled.old.items ++ block_acts (block_view block.entry)) }
+    ensures { OnOk result (acts_view event_acts.new.items
+        ≡ acts_view event_acts.old.items ++ block_acts (block_view block.entry)) }
 {
-    collect_acts(handled, Act::Enable, block.enables)?;
-    collect_acts(handled, Act::Disable, block.disables)?;
-    collect_acts(handled, Act::Reset, block.resets)?;
-    collect_acts(handled, Act::Restart, block.restarts)
+    collect_acts(event_acts, Act::Enable, block.enables)?;
+    collect_acts(event_acts, Act::Disable, block.disables)?;
+    collect_acts(event_acts, Act::Reset, block.resets)?;
+    collect_acts(event_acts, Act::Restart, block.restarts)
 }
 
 /// An event of the block of this name.
-fn block_event<'a>(name: &'a [u8], end: &'static [u8]) -> Parts<'a>
-    ensures { parts_text result ≡ block_event name.now end.now }
+fn block_event<'a>(name: &'a [u8], end: &'static [u8]) -> NamePieces<'a>
+    ensures { pieces_text result ≡ block_event name.now end.now }
 {
-    joined(b"logicblock_", name, end)
+    join_pieces(b"logicblock_", name, end)
 }
 
 /// What a block posts when its value changes, when it is hit, and when it completes.
@@ -104,9 +108,10 @@ fn collect_block_lists<'a>(
 fn collect_list<'a>(
     lists: &mut EffectLists<'a>,
     names: &'a [Name],
-    own: Parts<'a>,
+    own: NamePieces<'a>,
 ) -> Result<(), AllocError>
-    ensures { OnOk result (lists.new ≡ lists.old ++ map posts (or_own (map name_view names.now) (parts_text own.entry)) ∷ []) }
+    ensures { OnOk result (lists.new ≡ lists.old ++ map posts (or_own (map name_view names.now) (pieces_text own.entry))
+        ∷ []) }
 {
     lists.begin()?;
     if is_none(names) {
@@ -118,11 +123,11 @@ fn collect_list<'a>(
 // ---- `counters`
 
 /// A counter.
-fn collect_counter<'a>(parts: &mut RowParts<'a>, row: Counter<'a>) -> Result<(), AllocError>
+fn collect_counter<'a>(parts: &mut RowParts<'a>, row: CounterEntry<'a>) -> Result<(), AllocError>
     ensures { OnOk result (AddsDevice parts.old parts.new (counter_in row.entry)) }
 {
-    parts.head = Head::Device(Settings::Counter(row.settings));
-    collect_acts(&mut parts.handled, Act::Count, row.counts)?;
+    parts.head = RowHead::Device(Settings::Counter(row.settings));
+    collect_acts(&mut parts.event_acts, Act::Count, row.counts)?;
     collect_block(parts, &row.name.text, row.block)
 }
 
@@ -145,20 +150,21 @@ fn collect_step_block<'a>(
 ) -> Result<(), AllocError>
     ensures { OnOk result (AddsDevice parts.old parts.new (step_block_in settings row.entry)) }
 {
-    parts.head = Head::Device(settings);
-    collect_steps(&mut parts.handled, row.steps)?;
+    parts.head = RowHead::Device(settings);
+    collect_steps(&mut parts.event_acts, row.steps)?;
     collect_block(parts, &row.name.text, row.block)
 }
 
 /// The events of each step, which do it.
 fn collect_steps<'a>(
-    handled: &mut Vec<(Handled<'a>, Act)>,
+    event_acts: &mut Vec<(HandledName<'a>, Act)>,
     steps: &'a [Vec<Handler>],
 ) -> Result<(), AllocError>
-    ensures { OnOk result (acts_view handled.new.items ≡ acts_view handled.old.items ++ step_acts 0 (map handlers_view steps.now)) }
+    ensures { OnOk result (acts_view event_acts.new.items
+        ≡ acts_view event_acts.old.items ++ step_acts 0 (map handlers_view steps.now)) }
 {
     for number in 0..steps.len() {
-        collect_acts(handled, Act::Step(number), &steps[number])?;
+        collect_acts(event_acts, Act::Step(number), &steps[number])?;
     }
     Ok(())
 }
@@ -166,38 +172,41 @@ fn collect_steps<'a>(
 // ---- `timers`
 
 /// A timer.
-fn collect_timer<'a>(parts: &mut RowParts<'a>, row: Timer<'a>) -> Result<(), AllocError>
+fn collect_timer<'a>(parts: &mut RowParts<'a>, row: TimerEntry<'a>) -> Result<(), AllocError>
     ensures { OnOk result (AddsDevice parts.old parts.new (timer_in row.entry)) }
 {
-    parts.head = Head::Device(Settings::Timer(row.settings));
-    collect_timer_acts(&mut parts.handled, row.controls)?;
+    parts.head = RowHead::Device(Settings::Timer(row.settings));
+    collect_timer_acts(&mut parts.event_acts, row.controls)?;
     collect_timer_lists(&mut parts.lists, &row.name.text)
 }
 
 /// What the events do that control a timer.
 fn collect_timer_acts<'a>(
-    handled: &mut Vec<(Handled<'a>, Act)>,
+    event_acts: &mut Vec<(HandledName<'a>, Act)>,
     maps: &'a [Fields],
 ) -> Result<(), AllocError>
-    ensures { OnOk result (acts_view handled.new.items ≡ acts_view handled.old.items ++ map controlled (controls_of (map fields_view maps.now))) }
+    ensures { OnOk result (acts_view event_acts.new.items
+        ≡ acts_view event_acts.old.items ++ map act_of_control (controls_of (map fields_view maps.now))) }
 {
     for fields in maps {
-        collect_control(handled, fields)?;
+        collect_control(event_acts, fields)?;
     }
     Ok(())
 }
 
 fn collect_control<'a>(
-    handled: &mut Vec<(Handled<'a>, Act)>,
+    event_acts: &mut Vec<(HandledName<'a>, Act)>,
     fields: &'a Fields,
 ) -> Result<(), AllocError>
-    ensures { OnOk result (acts_view handled.new.items ≡ acts_view handled.old.items ++ map controlled (with_control (control_of (fields_view fields.now)) [])) }
+    ensures { OnOk result (acts_view event_acts.new.items
+        ≡ acts_view event_acts.old.items ++ map act_of_control
+        (with_control (control_of (fields_view fields.now)) [])) }
 {
     let Some(control) = as_control(fields) else {
         return Ok(());
     };
     let act = control_act(control.action, control.value);
-    add(handled, (Handled::written(control.event), act))
+    add(event_acts, (HandledName::as_written(control.event), act))
 }
 
 /// What a control does, with its value.
@@ -217,10 +226,10 @@ fn control_act(action: ControlAction, value: i64) -> Act
 }
 
 /// An event of the timer of this name.
-fn timer_event<'a>(name: &'a [u8], end: &'static [u8]) -> Parts<'a>
-    ensures { parts_text result ≡ timer_event name.now end.now }
+fn timer_event<'a>(name: &'a [u8], end: &'static [u8]) -> NamePieces<'a>
+    ensures { pieces_text result ≡ timer_event name.now end.now }
 {
-    joined(b"timer_", name, end)
+    join_pieces(b"timer_", name, end)
 }
 
 /// What a timer posts when it starts, stops, pauses, ticks and completes.

@@ -3,14 +3,15 @@
 ghost use Rattle.std.specs.Prelude.{◌≡◌, ◌++◌, OnOk};
 ghost use Rattle.plan_parts.specs.Gives.{AddsDevice, Gives, ball_save_in, multiball_in, save_entry_gives};
 ghost use Rattle.plan_parts.specs.SaveEntries.{save_event, save_lists, multiball_event, multiball_lists};
-ghost use Rattle.plan_parts.specs.View.{parts_text};
+ghost use Rattle.plan_parts.specs.View.{pieces_text};
 
 use crate::collect_handled::collect_acts;
 use crate::effects::{Effect, EffectLists, post_in_next};
-use crate::names::{Parts, joined};
-use crate::row_parts::{Head, RowParts};
+use crate::names::{NamePieces, join_pieces};
+use crate::row_parts::{RowHead, RowParts};
 use mpf_config::{
-    BALL_SAVES_NAME, BallSave, Entry, MULTIBALLS_NAME, Multiball, as_ball_save, as_multiball,
+    BALL_SAVES_NAME, BallSaveEntry, Entry, MULTIBALLS_NAME, MultiballEntry, as_ball_save,
+    as_multiball,
 };
 use plan_tables::devices::{Act, Settings};
 use std::alloc::AllocError;
@@ -36,20 +37,20 @@ pub(crate) fn collect_save_device<'a>(
 // ---- `ball_saves`
 
 /// A ball save.
-fn collect_ball_save<'a>(parts: &mut RowParts<'a>, row: BallSave<'a>) -> Result<(), AllocError>
+fn collect_ball_save<'a>(parts: &mut RowParts<'a>, row: BallSaveEntry<'a>) -> Result<(), AllocError>
     ensures { OnOk result (AddsDevice parts.old parts.new (ball_save_in row.entry)) }
 {
-    parts.head = Head::Device(Settings::BallSave(row.settings));
-    collect_acts(&mut parts.handled, Act::Enable, row.enable_events)?;
-    collect_acts(&mut parts.handled, Act::Disable, row.disable_events)?;
+    parts.head = RowHead::Device(Settings::BallSave(row.settings));
+    collect_acts(&mut parts.event_acts, Act::Enable, row.enable_events)?;
+    collect_acts(&mut parts.event_acts, Act::Disable, row.disable_events)?;
     collect_save_lists(&mut parts.lists, &row.name.text)
 }
 
 /// An event of the ball save of this name.
-fn save_event<'a>(name: &'a [u8], end: &'static [u8]) -> Parts<'a>
-    ensures { parts_text result ≡ save_event name.now end.now }
+fn save_event<'a>(name: &'a [u8], end: &'static [u8]) -> NamePieces<'a>
+    ensures { pieces_text result ≡ save_event name.now end.now }
 {
-    joined(b"ball_save_", name, end)
+    join_pieces(b"ball_save_", name, end)
 }
 
 /// What a ball save does when it becomes active, when it is no longer active, and when it saves a ball.
@@ -66,19 +67,22 @@ fn collect_save_lists<'a>(lists: &mut EffectLists<'a>, name: &'a [u8]) -> Result
 // ---- `multiballs`
 
 /// A multiball.
-fn collect_multiball<'a>(parts: &mut RowParts<'a>, row: Multiball<'a>) -> Result<(), AllocError>
+fn collect_multiball<'a>(
+    parts: &mut RowParts<'a>,
+    row: MultiballEntry<'a>,
+) -> Result<(), AllocError>
     ensures { OnOk result (AddsDevice parts.old parts.new (multiball_in row.entry)) }
 {
-    parts.head = Head::Device(Settings::Multiball(row.settings));
-    collect_acts(&mut parts.handled, Act::Start, row.start_events)?;
+    parts.head = RowHead::Device(Settings::Multiball(row.settings));
+    collect_acts(&mut parts.event_acts, Act::Start, row.start_events)?;
     collect_multiball_lists(&mut parts.lists, &row.name.text, row.settings.balls)
 }
 
 /// An event of the multiball of this name.
-fn multiball_event<'a>(name: &'a [u8], end: &'static [u8]) -> Parts<'a>
-    ensures { parts_text result ≡ multiball_event name.now end.now }
+fn multiball_event<'a>(name: &'a [u8], end: &'static [u8]) -> NamePieces<'a>
+    ensures { pieces_text result ≡ multiball_event name.now end.now }
 {
-    joined(b"multiball_", name, end)
+    join_pieces(b"multiball_", name, end)
 }
 
 /// What a multiball does when it starts, and when it ends.

@@ -8,14 +8,15 @@ ghost use Rattle.plan_parts.specs.Devices.{texts};
 ghost use Rattle.plan_parts.specs.Effects.{posts};
 ghost use Rattle.plan_parts.specs.Gives.{AddsDevice, Gives, group_gives, lone_in, shot_gives};
 ghost use Rattle.plan_parts.specs.RowViews.{acts_view};
-ghost use Rattle.plan_parts.specs.ShotEntries.{bank_settings, group_acts, group_events, group_lists, shot_acts, shot_events, shot_lists, state_lists, switch_hits};
-ghost use Rattle.plan_parts.specs.View.{parts_text};
+ghost use Rattle.plan_parts.specs.ShotEntries.{bank_settings, group_acts, group_events, group_lists, shot_acts};
+ghost use Rattle.plan_parts.specs.ShotEntries.{shot_events, shot_lists, state_lists, switch_hits};
+ghost use Rattle.plan_parts.specs.View.{pieces_text};
 ghost use Rattle.plan_rows.specs.Members.{flags};
 
 use crate::collect_handled::collect_acts;
 use crate::effects::{EffectLists, post, post_in_next};
-use crate::names::{Parts, joined};
-use crate::row_parts::{Handled, Head, RowParts, add};
+use crate::names::{NamePieces, join_pieces};
+use crate::row_parts::{HandledName, RowHead, RowParts, add};
 use machine_definitions::Profile;
 use mpf_config::{Name, NameAt, Shot, ShotGroup};
 use plan_rows::{Members, Seat, is_enabled};
@@ -28,17 +29,17 @@ pub(crate) fn collect_shot<'a>(
     parts: &mut RowParts<'a>,
     row: Shot<'a>,
     seat: Option<Seat>,
-    known: bool,
+    is_known: bool,
     profile: &Profile<'a>,
 ) -> Result<(), AllocError>
-    ensures { OnOk result (Gives parts.old parts.new (shot_gives row.entry seat known profile.now)) }
+    ensures { OnOk result (Gives parts.old parts.new (shot_gives row.entry seat is_known profile.now)) }
 {
-    parts.unknown = !known;
+    parts.unknown = !is_known;
     parts.mention = name_in(row.switch);
     match seat {
         Some(seat) => {
-            parts.head = Head::Seat(seat.row);
-            collect_shot_acts(&mut parts.handled, seat.shot, row)
+            parts.head = RowHead::Seat(seat.row);
+            collect_shot_acts(&mut parts.event_acts, seat.shot, row)
         }
         None => collect_lone(parts, row, profile),
     }
@@ -62,8 +63,8 @@ fn collect_lone<'a>(
 ) -> Result<(), AllocError>
     ensures { OnOk result (AddsDevice parts.old parts.new (lone_in profile.now row.entry)) }
 {
-    parts.head = Head::Device(bank_settings(profile, 1, first_flag(is_enabled(row)), false));
-    collect_shot_acts(&mut parts.handled, 0, row)?;
+    parts.head = RowHead::Device(bank_settings(profile, 1, first_flag(is_enabled(row)), false));
+    collect_shot_acts(&mut parts.event_acts, 0, row)?;
     collect_shot_lists(&mut parts.lists, profile, &row.name.text)
 }
 
@@ -78,8 +79,8 @@ pub(crate) fn collect_group<'a>(
 {
     let shots = row.shots.len() as u8;
     parts.unknown = !members.all_known;
-    parts.head = Head::Device(bank_settings(members.profile, shots, members.enabled, true));
-    collect_group_acts(&mut parts.handled, row)?;
+    parts.head = RowHead::Device(bank_settings(members.profile, shots, members.enabled, true));
+    collect_group_acts(&mut parts.event_acts, row)?;
     collect_group_lists(&mut parts.lists, members.profile, row)
 }
 
@@ -110,32 +111,34 @@ fn bank_settings(profile: &Profile<'_>, shots: u8, enabled: [bool; 16], group: b
 
 /// What acts on the shot of this number in a bank.
 fn collect_shot_acts<'a>(
-    handled: &mut Vec<(Handled<'a>, Act)>,
+    event_acts: &mut Vec<(HandledName<'a>, Act)>,
     number: usize,
     shot: Shot<'a>,
 ) -> Result<(), AllocError>
-    ensures { OnOk result (acts_view handled.new.items ≡ acts_view handled.old.items ++ shot_acts number (shot_view shot.entry)) }
+    ensures { OnOk result (acts_view event_acts.new.items
+        ≡ acts_view event_acts.old.items ++ shot_acts number (shot_view shot.entry)) }
 {
-    collect_switch_hits(handled, Act::Hit(number), shot.switch)?;
-    collect_acts(handled, Act::Hit(number), shot.hits)?;
-    collect_acts(handled, Act::Advance(number), shot.advances)?;
-    collect_acts(handled, Act::ResetShot(number), shot.resets)?;
-    collect_acts(handled, Act::EnableShot(number), shot.enables)?;
-    collect_acts(handled, Act::DisableShot(number), shot.disables)
+    collect_switch_hits(event_acts, Act::Hit(number), shot.switch)?;
+    collect_acts(event_acts, Act::Hit(number), shot.hits)?;
+    collect_acts(event_acts, Act::Advance(number), shot.advances)?;
+    collect_acts(event_acts, Act::ResetShot(number), shot.resets)?;
+    collect_acts(event_acts, Act::EnableShot(number), shot.enables)?;
+    collect_acts(event_acts, Act::DisableShot(number), shot.disables)
 }
 
 /// The switch of a shot hits it when it becomes active.
 fn collect_switch_hits<'a>(
-    handled: &mut Vec<(Handled<'a>, Act)>,
+    event_acts: &mut Vec<(HandledName<'a>, Act)>,
     hit: Act,
     switch: Option<NameAt<'a>>,
 ) -> Result<(), AllocError>
-    ensures { OnOk result (acts_view handled.new.items ≡ acts_view handled.old.items ++ switch_hits hit (option_map name_at_view switch.entry)) }
+    ensures { OnOk result (acts_view event_acts.new.items
+        ≡ acts_view event_acts.old.items ++ switch_hits hit (option_map name_at_view switch.entry)) }
 {
     match switch {
         Some(name) => {
-            let event = joined(name.text, b"", b"_active");
-            add(handled, (Handled::always(event), hit))
+            let event = join_pieces(name.text, b"", b"_active");
+            add(event_acts, (HandledName::always(event), hit))
         }
         None => Ok(()),
     }
@@ -143,15 +146,16 @@ fn collect_switch_hits<'a>(
 
 /// What acts on a group.
 fn collect_group_acts<'a>(
-    handled: &mut Vec<(Handled<'a>, Act)>,
+    event_acts: &mut Vec<(HandledName<'a>, Act)>,
     group: ShotGroup<'a>,
 ) -> Result<(), AllocError>
-    ensures { OnOk result (acts_view handled.new.items ≡ acts_view handled.old.items ++ group_acts (shot_group_view group.entry)) }
+    ensures { OnOk result (acts_view event_acts.new.items
+        ≡ acts_view event_acts.old.items ++ group_acts (shot_group_view group.entry)) }
 {
-    collect_acts(handled, Act::RotateRight, group.rotates)?;
-    collect_acts(handled, Act::RotateRight, group.rotates_right)?;
-    collect_acts(handled, Act::RotateLeft, group.rotates_left)?;
-    collect_acts(handled, Act::Reset, group.resets)
+    collect_acts(event_acts, Act::RotateRight, group.rotates)?;
+    collect_acts(event_acts, Act::RotateRight, group.rotates_right)?;
+    collect_acts(event_acts, Act::RotateLeft, group.rotates_left)?;
+    collect_acts(event_acts, Act::Reset, group.resets)
 }
 
 // ---- effect lists
@@ -162,7 +166,9 @@ fn collect_group_lists<'a>(
     profile: &Profile<'a>,
     group: ShotGroup<'a>,
 ) -> Result<(), AllocError>
-    ensures { OnOk result (lists.new ≡ lists.old ++ group_lists (profile_view profile.now) (shot_group_view group.entry).name.text (texts (map name_view group.entry.shots.now))) }
+    ensures { OnOk result (lists.new ≡ lists.old
+        ++ group_lists (profile_view profile.now) (shot_group_view group.entry).name.text
+        (texts (map name_view group.entry.shots.now))) }
 {
     let name = group.name.text.as_slice();
     collect_each_shot(lists, profile, group.shots)?;
@@ -176,7 +182,8 @@ fn collect_each_shot<'a>(
     profile: &Profile<'a>,
     shots: &'a [Name],
 ) -> Result<(), AllocError>
-    ensures { OnOk result (lists.new ≡ lists.old ++ flat_map (shot_lists (profile_view profile.now)) (texts (map name_view shots.now))) }
+    ensures { OnOk result (lists.new ≡ lists.old
+        ++ flat_map (shot_lists (profile_view profile.now)) (texts (map name_view shots.now))) }
 {
     for shot in shots {
         collect_shot_lists(lists, profile, &shot.text)?;
@@ -207,7 +214,7 @@ fn collect_shot_list<'a>(
 ) -> Result<(), AllocError>
     ensures { OnOk result (lists.new ≡ lists.old ++ map posts (shot_events name.now profile.now state.now) ∷ []) }
 {
-    post_in_next(lists, joined(name, b"", b"_hit"))?;
+    post_in_next(lists, join_pieces(name, b"", b"_hit"))?;
     post(lists, ending(name, profile, b"_hit"))?;
     post(lists, in_profile(name, profile, state))?;
     post(lists, ending(name, state, b"_hit"))
@@ -237,34 +244,34 @@ fn collect_group_list<'a>(
 ) -> Result<(), AllocError>
     ensures { OnOk result (lists.new ≡ lists.old ++ map posts (group_events end.now name.now state.now) ∷ []) }
 {
-    post_in_next(lists, joined(name, b"", end))?;
+    post_in_next(lists, join_pieces(name, b"", end))?;
     post(lists, ending(name, state, end))
 }
 
 /// A name, `_`, another name, and an ending.
-fn ending<'a>(name: &'a [u8], other: &'a [u8], end: &'static [u8]) -> Parts<'a>
-    ensures { parts_text result ≡ name.now ++ codes "_" ++ other.now ++ end.now }
+fn ending<'a>(name: &'a [u8], other: &'a [u8], end: &'static [u8]) -> NamePieces<'a>
+    ensures { pieces_text result ≡ name.now ++ codes "_" ++ other.now ++ end.now }
 {
-    Parts {
-        first: b"",
-        second: b"",
-        third: name,
-        fourth: b"_",
-        fifth: other,
-        sixth: end,
+    NamePieces {
+        shot: b"",
+        joint: b"",
+        stem: name,
+        front: b"_",
+        middle: other,
+        end,
     }
 }
 
 /// What a shot posts in a state, with the name of its profile.
-fn in_profile<'a>(name: &'a [u8], profile: &'a [u8], state: &'a [u8]) -> Parts<'a>
-    ensures { parts_text result ≡ name.now ++ codes "_" ++ profile.now ++ codes "_" ++ state.now ++ codes "_hit" }
+fn in_profile<'a>(name: &'a [u8], profile: &'a [u8], state: &'a [u8]) -> NamePieces<'a>
+    ensures { pieces_text result ≡ name.now ++ codes "_" ++ profile.now ++ codes "_" ++ state.now ++ codes "_hit" }
 {
-    Parts {
-        first: name,
-        second: b"_",
-        third: profile,
-        fourth: b"_",
-        fifth: state,
-        sixth: b"_hit",
+    NamePieces {
+        shot: name,
+        joint: b"_",
+        stem: profile,
+        front: b"_",
+        middle: state,
+        end: b"_hit",
     }
 }

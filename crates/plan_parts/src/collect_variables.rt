@@ -9,8 +9,8 @@ ghost use Rattle.plan_parts.specs.VariableEntries.{item_change};
 ghost use Rattle.plan_parts.specs.View.{effect_view};
 
 use crate::effects::{Effect, EffectLists};
-use crate::row_parts::{Handled, Head, RowParts};
-use mpf_config::{Keyed, VariableItem, VariablePlayer, as_variable_item};
+use crate::row_parts::{HandledName, RowHead, RowParts};
+use mpf_config::{KeyedValues, VariableItem, VariablePlayer, as_variable_item};
 use std::alloc::AllocError;
 
 /// A handler of its event, which does what the items say.
@@ -20,7 +20,7 @@ pub(crate) fn collect_variable_player<'a>(
 ) -> Result<(), AllocError>
     ensures { OnOk result (Gives parts.old parts.new (variable_player_gives row.entry)) }
 {
-    parts.head = Head::Handler(Handled::written(row.event));
+    parts.head = RowHead::Handler(HandledName::as_written(row.event));
     parts.lists.begin()?;
     collect_changes(&mut parts.lists, row.items)
 }
@@ -33,11 +33,15 @@ fn change_of(item: VariableItem<'_>) -> Effect<'_>
 }
 
 /// The list that began last does what the items say.
-fn collect_changes<'a>(lists: &mut EffectLists<'a>, items: &'a [Keyed]) -> Result<(), AllocError>
-    ensures { OnOk result (lists.new ≡ with_last (map item_change (map variable_item_of (map keyed_view items.now))) lists.old) }
+fn collect_changes<'a>(
+    lists: &mut EffectLists<'a>,
+    items: &'a [KeyedValues],
+) -> Result<(), AllocError>
+    ensures { OnOk result (lists.new ≡ with_last (map item_change (map variable_item_of (map keyed_view items.now)))
+        lists.old) }
 {
-    for keyed in items {
-        lists.add(change_of(as_variable_item(keyed)))?;
+    for pair in items {
+        lists.add(change_of(as_variable_item(pair)))?;
     }
     Ok(())
 }

@@ -5,9 +5,9 @@ ghost use Rattle.mpf_sections.specs.View.{name_view};
 ghost use Rattle.plan_parts.specs.Devices.{texts};
 ghost use Rattle.plan_parts.specs.Effects.{posts};
 ghost use Rattle.plan_parts.specs.Lists.{with_last};
-ghost use Rattle.plan_parts.specs.View.{parts_text, effect_view};
+ghost use Rattle.plan_parts.specs.View.{pieces_text, effect_view};
 
-use crate::names::{Parts, whole};
+use crate::names::{NamePieces, whole};
 use crate::row_parts::add;
 use machine_settings::VariableAction;
 use mpf_config::Name;
@@ -29,7 +29,7 @@ pub enum Deed {
 #[derive(Clone, Copy)]
 pub enum Effect<'a> {
     /// It posts the event of this name.
-    Post(Parts<'a>),
+    Post(NamePieces<'a>),
     /// It does this with the coil of this name.
     Coil(&'a [u8], Deed),
     /// It does this with the variable of this name, with a number. If that changes the variable, it
@@ -37,7 +37,7 @@ pub enum Effect<'a> {
     Variable(&'a [u8], VariableAction, i64),
     /// A ball enters the ball device of the row, which posts the event of this name. The flag says
     /// whether the ball may have drained.
-    Enter(Parts<'a>, bool),
+    Enter(NamePieces<'a>, bool),
     /// The ball that the ball device of the row ejects leaves it.
     Leave,
     /// A ball is lost from the ball device of the row: it leaves without being ejected.
@@ -123,11 +123,13 @@ impl<'a> EffectLists<'a> {
         self.ends.len()
     }
 
-    /// The list of this number.
+    /// The list of this number. It is empty if there are not so many.
     pub fn list(&self, number: usize) -> &[Effect<'a>]
-        requires { number < length self.now }
         ensures { map effect_view result.now ≡ slice_index_or self.now number [] }
     {
+        if number >= self.ends.len() {
+            return &[];
+        }
         let begin = begin_of(&self.ends, number);
         part_of(&self.effects, begin, self.ends[number])
     }
@@ -161,8 +163,8 @@ fn part_of<'e, 'a>(effects: &'e [Effect<'a>], begin: usize, end: usize) -> &'e [
 }
 
 /// The list that began last posts the event.
-pub(crate) fn post<'a>(lists: &mut EffectLists<'a>, event: Parts<'a>) -> Result<(), AllocError>
-    ensures { OnOk result (lists.new ≡ with_last (posts (parts_text event.entry) ∷ []) lists.old) }
+pub(crate) fn post<'a>(lists: &mut EffectLists<'a>, event: NamePieces<'a>) -> Result<(), AllocError>
+    ensures { OnOk result (lists.new ≡ with_last (posts (pieces_text event.entry) ∷ []) lists.old) }
 {
     lists.add(Effect::Post(event))
 }
@@ -170,9 +172,9 @@ pub(crate) fn post<'a>(lists: &mut EffectLists<'a>, event: Parts<'a>) -> Result<
 /// Begins a list that posts the event.
 pub(crate) fn post_in_next<'a>(
     lists: &mut EffectLists<'a>,
-    event: Parts<'a>,
+    event: NamePieces<'a>,
 ) -> Result<(), AllocError>
-    ensures { OnOk result (lists.new ≡ lists.old ++ (posts (parts_text event.entry) ∷ []) ∷ []) }
+    ensures { OnOk result (lists.new ≡ lists.old ++ (posts (pieces_text event.entry) ∷ []) ∷ []) }
 {
     lists.begin()?;
     post(lists, event)

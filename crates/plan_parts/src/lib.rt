@@ -18,5 +18,7 @@ pub mod row_parts;
 
 pub use collect::collect_row;
 pub use effects::{Deed, Effect, EffectLists};
-pub use names::{Parts, is_whole, joined, mode_event_name, player_event, whole, write_name};
-pub use row_parts::{Control, Handled, Head, RowParts, Text, Whose};
+pub use names::{
+    NamePieces, is_whole, join_pieces, mode_event_name, player_event, whole, write_name,
+};
+pub use row_parts::{HandledName, ModeControl, RowHead, RowParts, RowText, Whose};

@@ -3,7 +3,7 @@
 ghost use Rattle.std.specs.Prelude.{◌≡◌, OnOk, ◌++◌, true};
 ghost use Rattle.machine_definitions.specs.Players.{player_event};
 ghost use Rattle.plan_parts.specs.Effects.{event_ending, mode_event_name};
-ghost use Rattle.plan_parts.specs.View.{parts_text};
+ghost use Rattle.plan_parts.specs.View.{pieces_text, has_one_piece};
 
 use plan_tables::entries::ModeEvent;
 use std::alloc::AllocError;
@@ -11,34 +11,34 @@ use std::alloc::AllocError;
 /// A name in six pieces, one after the other, each borrowed from where it is written. A piece that is not needed is
 /// empty.
 #[derive(Clone, Copy)]
-pub struct Parts<'a> {
-    pub first: &'a [u8],
-    pub second: &'a [u8],
-    pub third: &'a [u8],
-    pub fourth: &'a [u8],
-    pub fifth: &'a [u8],
-    pub sixth: &'a [u8],
+pub struct NamePieces<'a> {
+    pub shot: &'a [u8],
+    pub joint: &'a [u8],
+    pub stem: &'a [u8],
+    pub front: &'a [u8],
+    pub middle: &'a [u8],
+    pub end: &'a [u8],
 }
 
 /// A name in three pieces.
-pub fn joined<'a>(front: &'a [u8], middle: &'a [u8], end: &'a [u8]) -> Parts<'a>
-    ensures { parts_text result ≡ front.now ++ middle.now ++ end.now }
+pub fn join_pieces<'a>(front: &'a [u8], middle: &'a [u8], end: &'a [u8]) -> NamePieces<'a>
+    ensures { pieces_text result ≡ front.now ++ middle.now ++ end.now }
 {
-    Parts {
-        first: b"",
-        second: b"",
-        third: b"",
-        fourth: front,
-        fifth: middle,
-        sixth: end,
+    NamePieces {
+        shot: b"",
+        joint: b"",
+        stem: b"",
+        front,
+        middle,
+        end,
     }
 }
 
 /// A name as it is written.
-pub fn whole(name: &[u8]) -> Parts<'_>
-    ensures { parts_text result ≡ name.now }
+pub fn whole(name: &[u8]) -> NamePieces<'_>
+    ensures { pieces_text result ≡ name.now }
 {
-    joined(b"", b"", name)
+    join_pieces(b"", b"", name)
 }
 
 /// How the name of an event of a mode ends.
@@ -55,48 +55,49 @@ fn event_ending(which: ModeEvent) -> &'static [u8]
 }
 
 /// The name of this event of the mode of this name.
-pub fn mode_event_name(which: ModeEvent, name: &[u8]) -> Parts<'_>
-    ensures { parts_text result ≡ mode_event_name which name.now }
+pub fn mode_event_name(which: ModeEvent, name: &[u8]) -> NamePieces<'_>
+    ensures { pieces_text result ≡ mode_event_name which name.now }
 {
-    Parts {
-        first: b"",
-        second: b"",
-        third: b"",
-        fourth: b"mode_",
-        fifth: name,
-        sixth: event_ending(which),
+    NamePieces {
+        shot: b"",
+        joint: b"",
+        stem: b"",
+        front: b"mode_",
+        middle: name,
+        end: event_ending(which),
     }
 }
 
 /// The name of the event that is posted when the variable of this name changes.
-pub fn player_event(variable: &[u8]) -> Parts<'_>
-    ensures { parts_text result ≡ player_event variable.now }
+pub fn player_event(variable: &[u8]) -> NamePieces<'_>
+    ensures { pieces_text result ≡ player_event variable.now }
 {
-    joined(b"player_", b"", variable)
+    join_pieces(b"player_", b"", variable)
 }
 
-/// Whether the name is in one piece, as most are.
-pub fn is_whole(name: &Parts) -> bool
-    ensures { result ≡ true → parts_text name.now ≡ name.now.sixth.now }
+/// Whether the name is its last piece, as most are.
+pub fn is_whole(name: &NamePieces) -> bool
+    ensures exact { result ≡ has_one_piece name.now }
+    ensures whole { result ≡ true → pieces_text name.now ≡ name.now.end.now }
 {
-    name.first.is_empty()
-        && name.second.is_empty()
-        && name.third.is_empty()
-        && name.fourth.is_empty()
-        && name.fifth.is_empty()
+    name.shot.is_empty()
+        && name.joint.is_empty()
+        && name.stem.is_empty()
+        && name.front.is_empty()
+        && name.middle.is_empty()
 }
 
 /// Writes the name into the text, in place of what was there.
-pub fn write_name(text: &mut Vec<u8>, name: Parts) -> Result<(), AllocError>
-    ensures { OnOk result (text.new.items ≡ parts_text name.entry) }
+pub fn write_name(text: &mut Vec<u8>, name: NamePieces) -> Result<(), AllocError>
+    ensures { OnOk result (text.new.items ≡ pieces_text name.entry) }
 {
     text.clear();
-    write_piece(text, name.first)?;
-    write_piece(text, name.second)?;
-    write_piece(text, name.third)?;
-    write_piece(text, name.fourth)?;
-    write_piece(text, name.fifth)?;
-    write_piece(text, name.sixth)
+    write_piece(text, name.shot)?;
+    write_piece(text, name.joint)?;
+    write_piece(text, name.stem)?;
+    write_piece(text, name.front)?;
+    write_piece(text, name.middle)?;
+    write_piece(text, name.end)
 }
 
 /// Writes a piece of a name after what is there. Most pieces are empty: the test makes them cheap.

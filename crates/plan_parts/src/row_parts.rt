@@ -3,7 +3,7 @@
 ghost use Rattle.std.specs.Prelude.{◌≡◌, [], ◌∷◌, ◌++◌, OnOk, OnErr};
 
 use crate::effects::EffectLists;
-use crate::names::{Parts, whole};
+use crate::names::{NamePieces, whole};
 use mpf_config::{Guard, HandledAt, ModeSettings, mode_settings};
 use plan_rows::Row;
 use plan_tables::devices::{Act, Settings};
@@ -20,23 +20,23 @@ pub struct Whose {
 
 /// The text that a row is in.
 #[derive(Clone, Copy)]
-pub struct Text {
+pub struct RowText {
     /// Whose it is.
     pub whose: Whose,
     /// How many modes come before the row: the number of the mode, if the row is one.
     pub modes: u16,
 }
 
-impl Text {
+impl RowText {
     ghost use Rattle.std.specs.Prelude.{◌≡◌, ◌<◌};
     ghost use Rattle.plan_rows.specs.View.{row_view};
     ghost use Rattle.plan_parts.specs.RowViews.{machine_text, text_after, text_view};
 
     /// The machine text.
-    pub fn machine() -> Text
+    pub fn machine() -> RowText
         ensures { text_view result ≡ machine_text }
     {
-        Text {
+        RowText {
             whose: Whose {
                 owner: Owner::Machine,
                 priority: 0,
@@ -47,11 +47,11 @@ impl Text {
 
     /// The text that the next row is in: a mode comes before the rows of its text. No machine has so many modes that
     /// they cannot be counted.
-    pub fn after(self, row: Row<'_, '_>) -> Text
+    pub fn after(self, row: Row<'_, '_>) -> RowText
         ensures { self.modes < 65535 → text_view result ≡ text_after (row_view row.entry) (text_view self) }
     {
         match row {
-            Row::Mode(_, sections) => Text {
+            Row::Mode(_, sections) => RowText {
                 whose: Whose {
                     owner: Owner::Mode(ModeId(self.modes)),
                     priority: mode_settings(sections).priority,
@@ -75,33 +75,33 @@ pub(crate) fn add<T: Drop>(items: &mut Vec<T>, more: T) -> Result<(), AllocError
 
 /// An event that is handled, and the condition if it has one.
 #[derive(Clone, Copy)]
-pub struct Handled<'a> {
-    pub event: Parts<'a>,
+pub struct HandledName<'a> {
+    pub event: NamePieces<'a>,
     pub condition: Option<&'a Guard>,
 }
 
-impl<'a> Handled<'a> {
+impl<'a> HandledName<'a> {
     ghost use Rattle.std.specs.Prelude.{◌≡◌};
     ghost use Rattle.mpf_sections.specs.View.{handled_at_view};
     ghost use Rattle.plan_parts.specs.DeviceEntries.{always};
     ghost use Rattle.plan_parts.specs.RowViews.{handled_event_view};
-    ghost use Rattle.plan_parts.specs.View.{parts_text};
+    ghost use Rattle.plan_parts.specs.View.{pieces_text};
 
     /// As it is written.
-    pub fn written(handled: HandledAt<'a>) -> Handled<'a>
-        ensures { handled_event_view result ≡ (handled_at_view handled.entry).event }
+    pub fn as_written(handled_at: HandledAt<'a>) -> HandledName<'a>
+        ensures { handled_event_view result ≡ (handled_at_view handled_at.entry).event }
     {
-        Handled {
-            event: whole(handled.name),
-            condition: handled.condition,
+        HandledName {
+            event: whole(handled_at.name),
+            condition: handled_at.condition,
         }
     }
 
     /// The event of this name, whatever the variables are.
-    pub fn always(event: Parts<'a>) -> Handled<'a>
-        ensures { handled_event_view result ≡ always (parts_text event.entry) }
+    pub fn always(event: NamePieces<'a>) -> HandledName<'a>
+        ensures { handled_event_view result ≡ always (pieces_text event.entry) }
     {
-        Handled {
+        HandledName {
             event,
             condition: None,
         }
@@ -110,7 +110,7 @@ impl<'a> Handled<'a> {
 
 /// What an event does with a mode.
 #[derive(Clone, Copy)]
-pub enum Control {
+pub enum ModeControl {
     /// It starts the mode.
     Start,
     /// It stops the mode.
@@ -119,7 +119,7 @@ pub enum Control {
 
 /// What a row is to a plan. The other fields of [`RowParts`] say the rest.
 #[derive(Clone, Copy)]
-pub enum Head<'a> {
+pub enum RowHead<'a> {
     /// It gives nothing.
     Nothing,
     /// A switch: its name, how it is read, and whether a ball that presses it is on the playfield. It posts
@@ -141,10 +141,10 @@ pub enum Head<'a> {
     /// A mode: its number, its name and its settings. `controls` start and stop it.
     Mode(ModeId, &'a [u8], ModeSettings<'a>),
     /// A handler of this event: it does what `lists` do.
-    Handler(Handled<'a>),
-    /// A device with these settings: `listens`, `handled`, `mentioned` and `lists` are its own.
+    Handler(HandledName<'a>),
+    /// A device with these settings: `listens`, `event_acts`, `other_mentions` and `lists` are its own.
     Device(Settings),
-    /// A shot in a group: the events of `handled` act on the row of this number, which may come later.
+    /// A shot in a group: the events of `event_acts` act on the row of this number, which may come later.
     Seat(usize),
 }
 
@@ -156,21 +156,21 @@ pub struct RowParts<'a> {
     /// The switch of a shot. Of all names of a row, it is the first.
     pub mention: Option<&'a [u8]>,
     /// What the row is to a plan.
-    pub head: Head<'a>,
+    pub head: RowHead<'a>,
     /// Whose it is.
     pub whose: Whose,
     /// What a switch posts when it becomes active.
-    pub active: Vec<Parts<'a>>,
+    pub active: Vec<NamePieces<'a>>,
     /// What a switch posts when it becomes inactive.
-    pub inactive: Vec<Parts<'a>>,
+    pub inactive: Vec<NamePieces<'a>>,
     /// What starts and stops a mode.
-    pub controls: Vec<(Handled<'a>, Control)>,
+    pub controls: Vec<(HandledName<'a>, ModeControl)>,
     /// The switches to which a device listens. A switch has its place among them as its number in the device.
     pub listens: Vec<&'a [u8]>,
     /// The events that a device or a seat handles, and what each does.
-    pub handled: Vec<(Handled<'a>, Act)>,
+    pub event_acts: Vec<(HandledName<'a>, Act)>,
     /// Other events that a device names before its effect lists do.
-    pub mentioned: Vec<Parts<'a>>,
+    pub other_mentions: Vec<NamePieces<'a>>,
     /// The effect lists of a device, or the one of a handler.
     pub lists: EffectLists<'a>,
 }
@@ -187,14 +187,14 @@ impl<'a> RowParts<'a> {
         RowParts {
             unknown: false,
             mention: None,
-            head: Head::Nothing,
-            whose: Text::machine().whose,
+            head: RowHead::Nothing,
+            whose: RowText::machine().whose,
             active: Vec::new(alloc),
             inactive: Vec::new(alloc),
             controls: Vec::new(alloc),
             listens: Vec::new(alloc),
-            handled: Vec::new(alloc),
-            mentioned: Vec::new(alloc),
+            event_acts: Vec::new(alloc),
+            other_mentions: Vec::new(alloc),
             lists: EffectLists::new(alloc),
         }
     }
@@ -205,14 +205,14 @@ impl<'a> RowParts<'a> {
     {
         self.unknown = false;
         self.mention = None;
-        self.head = Head::Nothing;
+        self.head = RowHead::Nothing;
         self.whose = whose;
         self.active.clear();
         self.inactive.clear();
         self.controls.clear();
         self.listens.clear();
-        self.handled.clear();
-        self.mentioned.clear();
+        self.event_acts.clear();
+        self.other_mentions.clear();
         self.lists.clear();
     }
 }

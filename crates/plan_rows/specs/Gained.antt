@@ -5,16 +5,17 @@ use Rattle.section_tables.specs.declared.rows.Entry as written_entries
 use Rattle.setting_values.specs.declared.values.Name.{Name}
 use Rattle.section_tables.specs.declared.rows.Player as written_players
 use Rattle.mpf_sections.specs.{declared.section.Section.Section, TypedShots.{shot_of, shot_group_of}}
-use Rattle.mpf_sections.specs.{Rows.{Written, Entry}, TypedBalls.ball_device_of}
+use Rattle.mpf_sections.specs.{Rows.{WrittenName, Entry}, TypedBalls.ball_device_of}
 use Rattle.mpf_sections.specs.View.{name_view, entry_view, player_view, section_view}
 use Rattle.mpf_config.specs.{declared.config.ModeText.ModeText, Rows.Rows, View.mode_view}
 use Rattle.machine_definitions.specs.Found.{is_found, section_rows}
 use Rattle.plan_rows.specs.declared.{place.Place.{Place, TheVariants.Mode}, seats.Seats.Seats}
 use Rattle.plan_rows.specs.declared.rows.Row as rows
 use Rattle.plan_rows.specs.declared.seats.Seat as seats
-use Rattle.plan_rows.specs.Seats.{section_entries, text_entries, lists_shot, is_grouped, given_from, latest, Seat, seats_at, entry_seats, seat_of, entry_ball_row, destination_of, rows_after_text}
-use Rattle.plan_rows.specs.Rows.{Row, player, shot_row, ball_device_row, other_row, entry_row, rows_from, rows_in, text_rows, mode_rows}
-use Rattle.plan_rows.specs.View.{found_seat, found_row, found_destination, row_list_view}
+use Rattle.plan_rows.specs.Seats.{section_entries, text_entries, lists_shot, is_grouped, given_from, latest, Seat}
+use Rattle.plan_rows.specs.Seats.{seats_at, entry_seats, seat_of, entry_ball_row, destination_of, rows_after_text}
+use Rattle.plan_rows.specs.Rows.{Row, player, shot_row, ball_device_row, other_row, entry_row, rows_from, rows_in}
+use Rattle.plan_rows.specs.{Rows.{text_rows, mode_rows}, View.{found_seat, found_row, found_destination, row_list_view}}
 
 -- a list of rows has grown by these
 abbrev pub Gains : (old new : Vec rows.Row) → List Row → Type 0
@@ -40,7 +41,7 @@ named_entries s = section_entries (section_view s)
 abbrev pub all_entries : List Section → List (List ℕ × Entry)
 all_entries sections = text_entries (section_rows sections)
 
-abbrev pub written_names : List Name → List Written
+abbrev pub written_names : List Name → List WrittenName
 written_names names = map name_view names
 
 -- the seats of the shots that a group lists, whose row has this number
@@ -62,25 +63,30 @@ HasGrouped sections names = (name : List ℕ) → is_found names name ≡ is_gro
 
 -- by each name the seat of the shot that has it is found, if a group lists it
 abbrev pub HasSeats : Place → ℕ → List Section → Seats → Type 0
-HasSeats place before sections found = (name : List ℕ) → found_seat found.shots name ≡ seat_of place before (section_rows sections) name
+HasSeats place before sections seats_so_far = (name : List ℕ)
+    → found_seat seats_so_far.shots name ≡ seat_of place before (section_rows sections) name
 
 -- by each name is found where balls go that are ejected to it
 abbrev pub HasDestinations : Place → ℕ → List Section → Seats → Type 0
-HasDestinations place before sections found = (name : List ℕ) → found_destination found.devices name ≡ destination_of place before (section_rows sections) name
+HasDestinations place before sections seats_so_far = (name : List ℕ)
+    → found_destination seats_so_far.devices name ≡ destination_of place before (section_rows sections) name
 
 -- what a section gives, if such shots are grouped: the seats of shots, and the rows of ball devices
 abbrev pub seats_given : {S : Type 0} → Place → HashSet (Bor (List ℕ)) S → ℕ → Section → List (List ℕ × Seat)
-seats_given place grouped before s = given_from entry_seats place (is_found grouped) before (named_entries s)
+seats_given place group_shots before s = given_from entry_seats place (is_found group_shots) before (named_entries s)
 
 abbrev pub devices_given : {S : Type 0} → Place → HashSet (Bor (List ℕ)) S → ℕ → Section → List (List ℕ × ℕ)
-devices_given place grouped before s = given_from entry_ball_row place (is_found grouped) before (named_entries s)
+devices_given place group_shots before s =
+    given_from entry_ball_row place (is_found group_shots) before (named_entries s)
 
 -- what sections give
 abbrev pub all_seats_given : {S : Type 0} → Place → HashSet (Bor (List ℕ)) S → ℕ → List Section → List (List ℕ × Seat)
-all_seats_given place grouped before sections = given_from entry_seats place (is_found grouped) before (all_entries sections)
+all_seats_given place group_shots before sections =
+    given_from entry_seats place (is_found group_shots) before (all_entries sections)
 
 abbrev pub all_devices_given : {S : Type 0} → Place → HashSet (Bor (List ℕ)) S → ℕ → List Section → List (List ℕ × ℕ)
-all_devices_given place grouped before sections = given_from entry_ball_row place (is_found grouped) before (all_entries sections)
+all_devices_given place group_shots before sections =
+    given_from entry_ball_row place (is_found group_shots) before (all_entries sections)
 
 -- how many rows come before the text after these sections
 abbrev pub rows_after_sections : Place → ℕ → List Section → ℕ
@@ -92,28 +98,35 @@ rows_after_mode before mode = rows_after_text Mode before (mode_view mode).secti
 
 -- ---- the rows that the program's entries give, if these are the seats of their text
 
-module _ (defined : Rows) (place : Place) (found : Seats) where
+module _ (definitions : Rows) (place : Place) (seats_so_far : Seats) where
   abbrev pub row_of_entry : List ℕ → written_entries.Entry → Row
-  row_of_entry section e = entry_row defined place (found_seat found.shots) (found_destination found.devices) section (entry_view e)
+  row_of_entry section e = entry_row definitions place (found_seat seats_so_far.shots)
+      (found_destination seats_so_far.devices) section (entry_view e)
 
   abbrev pub rows_of_entries : List ℕ → List written_entries.Entry → List Row
-  rows_of_entries section es = map (entry_row defined place (found_seat found.shots) (found_destination found.devices) section) (map entry_view es)
+  rows_of_entries section es = map (entry_row definitions place (found_seat seats_so_far.shots)
+      (found_destination seats_so_far.devices) section) (map entry_view es)
 
   abbrev pub rows_of_section : Section → List Row
-  rows_of_section s = rows_from defined place (found_seat found.shots) (found_destination found.devices) (section_view s).name (section_view s).content
+  rows_of_section s = rows_from definitions place (found_seat seats_so_far.shots)
+      (found_destination seats_so_far.devices)
+      (section_view s).name (section_view s).content
 
   abbrev pub rows_of_sections : List Section → List Row
-  rows_of_sections sections = rows_in defined place (found_seat found.shots) (found_destination found.devices) (section_rows sections)
+  rows_of_sections sections = rows_in definitions place (found_seat seats_so_far.shots)
+      (found_destination seats_so_far.devices) (section_rows sections)
 
   abbrev pub row_of_shot : written_entries.Entry → Row
-  row_of_shot e = shot_row defined place (found_seat found.shots) (shot_of (entry_view e))
+  row_of_shot e = shot_row definitions place (found_seat seats_so_far.shots) (shot_of (entry_view e))
 
 -- an entry that is neither a shot nor a group
 abbrev pub row_of_other : Place → Seats → List ℕ → written_entries.Entry → Row
-row_of_other place found section e = other_row (found_destination found.devices) place section (entry_view e)
+row_of_other place seats_so_far section e =
+    other_row (found_destination seats_so_far.devices) place section (entry_view e)
 
 abbrev pub row_of_ball_device : Seats → written_entries.Entry → Row
-row_of_ball_device found e = ball_device_row (found_destination found.devices) (ball_device_of (entry_view e))
+row_of_ball_device seats_so_far e = ball_device_row (found_destination seats_so_far.devices)
+    (ball_device_of (entry_view e))
 
 -- the entries of a player
 abbrev pub rows_of_players : Place → List ℕ → List written_players.Player → List Row
@@ -121,7 +134,7 @@ rows_of_players place section ps = map (player place section) (map player_view p
 
 -- a text, and a mode with its text, before which come so many rows of devices
 abbrev pub rows_of_text : Rows → Place → ℕ → List Section → List Row
-rows_of_text defined place before sections = text_rows defined place before (section_rows sections)
+rows_of_text definitions place before sections = text_rows definitions place before (section_rows sections)
 
 abbrev pub rows_of_mode : Rows → ℕ → ModeText → List Row
-rows_of_mode defined before mode = mode_rows defined before (mode_view mode)
+rows_of_mode definitions before mode = mode_rows definitions before (mode_view mode)

@@ -1,7 +1,7 @@
 -- What other entries say of the shots of a group.
 use Rattle.std.specs.Prelude.{Bool, true, false, List, [], ◌∷◌, ◌++◌, map, take, replicate, Option, None, Some, is_some}
 use Rattle.std.specs.List.{list_all}
-use Rattle.mpf_sections.specs.{Rows.{Written, Shot, ShotGroup}, TypedShots.default_profile}
+use Rattle.mpf_sections.specs.{Rows.{WrittenName, Shot, ShotGroup}, TypedShots.default_profile}
 use Rattle.mpf_config.specs.Rows.{Rows}
 use Rattle.machine_definitions.specs.Shots.{Profile, shot_called, profile_of_name}
 
@@ -32,7 +32,7 @@ abbrev pub profile_if : Rows → Option Shot → Profile
 profile_if rows None = profile_of_name rows default_profile
 profile_if rows (Some s) = profile_of_name rows s.profile.text
 
-abbrev pub first_profile : Rows → List Written → Profile
+abbrev pub first_profile : Rows → List WrittenName → Profile
 first_profile rows [] = profile_if rows None
 first_profile rows (w ∷ ws) = profile_if rows (shot_called rows w.text)
 

@@ -1,12 +1,12 @@
 -- The rows of a configuration, in plan order.
 use Rattle.std.specs.{Prelude.{ℕ, Bool, if◌then◌else◌, List, [], ◌∷◌, ◌++◌, map, Option}, List.flat_map, Str.bytes_eq}
-use Rattle.mpf_sections.specs.Rows.{Entry, Player, ModeSettings, Content, entries, players, entry as single, listed, SectionRows}
+use Rattle.mpf_sections.specs.Rows.{Entry, Player, ModeSettings, Content, entries, players, entry as single, name_list}
+use Rattle.mpf_sections.specs.Rows.{SectionRows, Shot, ShotGroup, BallDeviceEntry}
 use Rattle.mpf_config.specs.Rows.{ModeRows, Rows}
-use Rattle.mpf_sections.specs.{Typed.mode_settings, Rows.{Shot, ShotGroup, BallDevice}}
+use Rattle.mpf_sections.specs.{Typed.mode_settings, TypedBalls.{ball_devices_name, ball_device_of}}
 use Rattle.plan_rows.specs.declared.place.Place.{Place, TheVariants.{Machine, Control, Mode}}
 use Rattle.plan_rows.specs.{declared.destination.Destination.Destination, Members.{Members, members_of}}
 use Rattle.mpf_sections.specs.TypedShots.{shots_name, shot_groups_name, shot_of, shot_group_of}
-use Rattle.mpf_sections.specs.TypedBalls.{ball_devices_name, ball_device_of}
 use Rattle.machine_definitions.specs.Shots.{Profile, has_profile, profile_of_name}
 use Rattle.plan_rows.specs.Seats.{Seat, seat_of, destination_of, rows_after_text}
 
@@ -19,7 +19,7 @@ pub data Row : Type 0 where
   alone : Place → List ℕ → Entry → Row
   shot : Place → Shot → Option Seat → Bool → Profile → Row
   group : Place → ShotGroup → Members → Row
-  ball_device : BallDevice → Destination → Row
+  ball_device : BallDeviceEntry → Destination → Row
   player : Place → List ℕ → Player → Row
   of_mode : List ℕ → ModeSettings → Row
 
@@ -33,7 +33,7 @@ module _ (rows : Rows) (place : Place) (seat : List ℕ → Option Seat) where
 
 -- Here `destination` says of a name where balls go that are ejected to what has this name.
 module _ (destination : List ℕ → Destination) where
-  abbrev pub ball_device_row : BallDevice → Row
+  abbrev pub ball_device_row : BallDeviceEntry → Row
   ball_device_row d = ball_device d (destination d.target.text)
 
   -- an entry of neither a shot nor a group; ball devices stand in the machine text alone
@@ -55,7 +55,7 @@ module _ (rows : Rows) (place : Place) (seat : List ℕ → Option Seat) (destin
   rows_from name (entries es) = map (entry_row name) es
   rows_from name (players ps) = map (player place name) ps
   rows_from name (single e) = alone place name e ∷ []
-  rows_from name (listed ws) = []
+  rows_from name (name_list ws) = []
 
   -- the rows of sections, as written
   abbrev pub rows_in : List SectionRows → List Row
@@ -63,7 +63,8 @@ module _ (rows : Rows) (place : Place) (seat : List ℕ → Option Seat) (destin
 
 -- the rows of a text, if so many rows of devices come before it
 abbrev pub text_rows : Rows → Place → ℕ → List SectionRows → List Row
-text_rows rows place n sections = rows_in rows place (seat_of place n sections) (destination_of place n sections) sections
+text_rows rows place n sections = rows_in rows place (seat_of place n sections) (destination_of place n sections)
+    sections
 
 -- a mode, and then the rows of its text
 abbrev pub mode_rows : Rows → ℕ → ModeRows → List Row
@@ -76,4 +77,5 @@ modes_rows rows n (m ∷ ms) = mode_rows rows n m ++ modes_rows rows (rows_after
 
 -- the rows of the machine, and then those of one mode after the other
 abbrev pub rows_of : Rows → List Row
-rows_of rows = text_rows rows Machine 0 rows.machine ++ modes_rows rows (rows_after_text Machine 0 rows.machine) rows.modes
+rows_of rows = text_rows rows Machine 0 rows.machine
+    ++ modes_rows rows (rows_after_text Machine 0 rows.machine) rows.modes

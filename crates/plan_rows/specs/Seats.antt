@@ -2,11 +2,11 @@
 use Rattle.std.specs.Prelude.{ℕ, suc, Bool, not, if◌then◌else◌, List, [], ◌∷◌, ◌++◌, map, fold, Option, None, Some}
 use Rattle.std.specs.{List.{flat_map, list_any}, Str.bytes_eq}
 use Rattle.yaml_subset.specs.Keys.{is_among}
-use Rattle.mpf_sections.specs.{Rows.{Written, Entry, ShotGroup, SectionRows}, CoilRules.coil_rule_sections}
+use Rattle.mpf_sections.specs.Rows.{WrittenName, Entry, ShotGroup, SectionRows}
+use Rattle.mpf_sections.specs.{CoilRules.coil_rule_sections, TypedSaves.{ball_saves_name, multiballs_name}}
 use Rattle.mpf_sections.specs.Typed.{entries_in, counters_name, accruals_name, sequences_name, timers_name}
 use Rattle.mpf_sections.specs.TypedShots.{shots_name, shot_groups_name, shot_group_of, shot_groups_in}
 use Rattle.mpf_sections.specs.TypedBalls.{ball_devices_name, playfield, ball_device_of}
-use Rattle.mpf_sections.specs.TypedSaves.{ball_saves_name, multiballs_name}
 use Rattle.plan_rows.specs.declared.destination.Destination.{Destination, TheVariants.{Playfield, Device, Unknown}}
 use Rattle.plan_rows.specs.declared.place.Place.{Place, TheVariants.{Machine, Control, Mode}}
 
@@ -27,7 +27,8 @@ is_grouped sections name = list_any (lists_shot name) (flat_map shot_groups_in s
 -- the sections of a text of any place whose entries each have a row; beside them there are shots
 abbrev pub shared_row_sections : List (List ℕ)
 shared_row_sections =
-    counters_name ∷ accruals_name ∷ sequences_name ∷ timers_name ∷ ball_saves_name ∷ multiballs_name ∷ shot_groups_name ∷ []
+    counters_name ∷ accruals_name ∷ sequences_name ∷ timers_name ∷ ball_saves_name ∷ multiballs_name ∷ shot_groups_name
+    ∷ []
 
 -- those of a text of this place
 abbrev pub row_sections : Place → List (List ℕ)
@@ -35,11 +36,11 @@ row_sections Machine = coil_rule_sections ++ ball_devices_name ∷ shared_row_se
 row_sections Control = shared_row_sections
 row_sections Mode = shared_row_sections
 
--- Here `grouped` says of a name whether a group of the text lists the shot of this name.
-module _ (place : Place) (grouped : List ℕ → Bool) where
+-- Here `is_in_group` says of a name whether a group of the text lists the shot of this name.
+module _ (place : Place) (is_in_group : List ℕ → Bool) where
   -- whether an entry of a text has a row: a shot has one of its own if no group of the text lists it
   abbrev pub has_row : List ℕ × Entry → Bool
-  has_row e = if bytes_eq e.0 shots_name then not (grouped e.1.name.text) else is_among (row_sections place) e.0
+  has_row e = if bytes_eq e.0 shots_name then not (is_in_group e.1.name.text) else is_among (row_sections place) e.0
 
   -- how many rows come before the entry after this one
   abbrev pub rows_after : ℕ → List ℕ × Entry → ℕ
@@ -50,18 +51,20 @@ module _ (place : Place) (grouped : List ℕ → Bool) where
   rows_after_all n es = fold rows_after n es
 
 -- Here `give` says what an entry gives under which names, if so many rows come before it.
-module _ {X : Type 0} (give : ℕ → List ℕ × Entry → List (List ℕ × X)) (place : Place) (grouped : List ℕ → Bool) where
+module _ {X : Type 0} (give : ℕ → List ℕ × Entry → List (List ℕ × X)) (place : Place)
+    (is_in_group : List ℕ → Bool) where
   -- what these entries give, if so many rows come before them
   abbrev pub given_from : ℕ → List (List ℕ × Entry) → List (List ℕ × X)
   given_from n [] = []
-  given_from n (e ∷ es) = give n e ++ given_from (rows_after place grouped n e) es
+  given_from n (e ∷ es) = give n e ++ given_from (rows_after place is_in_group n e) es
 
 -- what is given under this name, or was found before; of two the later
 abbrev pub latest : {X : Type 0} → List ℕ → Option X → List ℕ × X → Option X
-latest name found x = if bytes_eq name x.0 then Some x.1 else found
+latest name earlier x = if bytes_eq name x.0 then Some x.1 else earlier
 
 -- what the entries of a text give under this name, if so many rows come before it
-abbrev pub found_in : {X : Type 0} → (ℕ → List ℕ × Entry → List (List ℕ × X)) → Place → ℕ → List SectionRows → List ℕ → Option X
+abbrev pub found_in : {X : Type 0} → (ℕ → List ℕ × Entry → List (List ℕ × X)) → Place → ℕ → List SectionRows → List ℕ
+    → Option X
 found_in give place n sections name =
     fold (latest name) None (given_from give place (is_grouped sections) n (text_entries sections))
 
@@ -73,7 +76,7 @@ pub record Seat : Type 0 where
   pub shot : ℕ
 
 -- the seats in the row of this number that a group lists, from this seat on
-abbrev pub seats_at : ℕ → ℕ → List Written → List (List ℕ × Seat)
+abbrev pub seats_at : ℕ → ℕ → List WrittenName → List (List ℕ × Seat)
 seats_at row i [] = []
 seats_at row i (w ∷ ws) = (w.text, record { row = row; shot = i }) ∷ seats_at row (suc i) ws
 

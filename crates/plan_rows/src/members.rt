@@ -5,7 +5,8 @@ ghost use Rattle.std.specs.List.{list_all};
 ghost use Rattle.mpf_sections.specs.View.{shot_view, shot_group_view};
 ghost use Rattle.machine_definitions.specs.Found.{profile_view};
 ghost use Rattle.machine_definitions.specs.Shots.{shot_called};
-ghost use Rattle.plan_rows.specs.Members.{is_none, flags, is_enabled, is_enabled_if, profile_if, first_profile, members_of};
+ghost use Rattle.plan_rows.specs.Members.{is_none, flags, is_enabled, is_enabled_if, profile_if, first_profile};
+ghost use Rattle.plan_rows.specs.Members.{members_of};
 ghost use Rattle.plan_rows.specs.View.{members_view};
 ghost use Rattle.plan_rows.specs.Gained.{written_names};
 

@@ -6,7 +6,9 @@ ghost use Rattle.mpf_sections.specs.TypedShots.{shots_name, shot_groups_name};
 ghost use Rattle.mpf_sections.specs.TypedBalls.{ball_devices_name};
 ghost use Rattle.plan_rows.specs.Rows.{rows_of};
 ghost use Rattle.plan_rows.specs.View.{row_view, row_list_view};
-ghost use Rattle.plan_rows.specs.Gained.{Gains, row_of_ball_device, rows_of_mode, rows_of_players, rows_after_sections, rows_after_mode, rows_of_text, rows_of_entries, row_of_entry, row_of_other, rows_of_section, rows_of_sections, row_of_shot};
+ghost use Rattle.plan_rows.specs.Gained.{Gains, row_of_ball_device, rows_of_mode, rows_of_players, rows_after_sections};
+ghost use Rattle.plan_rows.specs.Gained.{rows_after_mode, rows_of_text, rows_of_entries, row_of_entry, row_of_other};
+ghost use Rattle.plan_rows.specs.Gained.{rows_of_section, rows_of_sections, row_of_shot};
 
 use crate::destination::Destination;
 use crate::members::{Members, members_of};
@@ -150,12 +152,13 @@ fn add_entries<'d, 'a>(
     section: &'a [u8],
     entries: &'a [Entry],
 ) -> Result<(), AllocError>
-    ensures { OnOk result (Gains rows.old rows.new (rows_of_entries definitions.now place seats.now section.now entries.now)) }
+    ensures { OnOk result (Gains rows.old rows.new
+        (rows_of_entries definitions.now place seats.now section.now entries.now)) }
 {
     rows.reserve(entries.len())?;
-    let asked = section_of(section);
+    let kind_of_section = section_of(section);
     for entry in entries {
-        rows.push(entry_row(definitions, place, seats, asked, entry))?;
+        rows.push(entry_row(definitions, place, seats, kind_of_section, entry))?;
     }
     Ok(())
 }

@@ -7,9 +7,13 @@ ghost use Rattle.std.specs.Prelude.{◌≡◌, IfOk, OnOk};
 ghost use Rattle.machine_definitions.specs.Found.{is_found, GainsNames};
 ghost use Rattle.yaml_subset.specs.Keys.{is_among};
 ghost use Rattle.plan_rows.specs.declared.place.Place.{Place};
-ghost use Rattle.plan_rows.specs.Seats.{row_sections, has_row, rows_after, rows_after_all, entry_seats, entry_ball_row, row_or_unknown};
+ghost use Rattle.plan_rows.specs.Seats.{row_sections, has_row, rows_after, rows_after_all, entry_seats, entry_ball_row};
+ghost use Rattle.plan_rows.specs.Seats.{row_or_unknown};
 ghost use Rattle.plan_rows.specs.View.{found_row, found_destination};
-ghost use Rattle.plan_rows.specs.Gained.{all_devices_given, all_entries, all_seats_given, GainsDeviceRows, GainsSeats, HasDestinations, HasGrouped, HasSeats, lists_shot_in, is_named_in, named_entries, named_entry, rows_after_sections, seats_of_names, devices_given, seats_given};
+ghost use Rattle.plan_rows.specs.Gained.{all_devices_given, all_entries, all_seats_given, GainsDeviceRows, GainsSeats};
+ghost use Rattle.plan_rows.specs.Gained.{HasDestinations, HasGrouped, HasSeats, lists_shot_in, is_named_in};
+ghost use Rattle.plan_rows.specs.Gained.{named_entries, named_entry, rows_after_sections, seats_of_names};
+ghost use Rattle.plan_rows.specs.Gained.{devices_given, seats_given};
 
 use crate::destination::Destination;
 use crate::place::Place;
@@ -97,11 +101,11 @@ pub(crate) fn seats_of<'a>(
     ensures destinations { IfOk result (λ r. HasDestinations place before sections.now r.0) }
     ensures rows { IfOk result (λ r. r.1 ≡ rows_after_sections place before sections.now) }
 {
-    let grouped = grouped_shots(alloc, hashing, sections)?;
+    let group_shots = grouped_shots(alloc, hashing, sections)?;
     let shots: ByName<'a, Seat> = IndexMap::with_hasher(alloc, hashing);
     let devices: ByName<'a, usize> = IndexMap::with_hasher(alloc, hashing);
     let mut seats: Seats<'a> = Seats { shots, devices };
-    let rows = add_sections(&mut seats, place, &grouped, before, sections)?;
+    let rows = add_sections(&mut seats, place, &group_shots, before, sections)?;
     Ok((seats, rows))
 }
 
@@ -110,17 +114,20 @@ pub(crate) fn seats_of<'a>(
 fn add_sections<'a>(
     seats: &mut Seats<'a>,
     place: Place,
-    grouped: &Names<'a>,
+    group_shots: &Names<'a>,
     before: usize,
     sections: &'a [Section],
 ) -> Result<usize, AllocError>
-    ensures shots { OnOk result (GainsSeats seats.old.shots seats.new.shots (all_seats_given place grouped.now before sections.now)) }
-    ensures devices { OnOk result (GainsDeviceRows seats.old.devices seats.new.devices (all_devices_given place grouped.now before sections.now)) }
-    ensures rows { IfOk result (λ rows. rows ≡ rows_after_all place (is_found grouped.now) before (all_entries sections.now)) }
+    ensures shots { OnOk result (GainsSeats seats.old.shots seats.new.shots
+        (all_seats_given place group_shots.now before sections.now)) }
+    ensures devices { OnOk result (GainsDeviceRows seats.old.devices seats.new.devices
+        (all_devices_given place group_shots.now before sections.now)) }
+    ensures rows { IfOk result (λ rows. rows
+        ≡ rows_after_all place (is_found group_shots.now) before (all_entries sections.now)) }
 {
     let mut rows = before;
     for section in sections {
-        rows = add_section(seats, place, grouped, rows, section)?;
+        rows = add_section(seats, place, group_shots, rows, section)?;
     }
     Ok(rows)
 }
@@ -130,19 +137,22 @@ fn add_sections<'a>(
 fn add_section<'a>(
     seats: &mut Seats<'a>,
     place: Place,
-    grouped: &Names<'a>,
+    group_shots: &Names<'a>,
     before: usize,
     section: &'a Section,
 ) -> Result<usize, AllocError>
-    ensures shots { OnOk result (GainsSeats seats.old.shots seats.new.shots (seats_given place grouped.now before section.now)) }
-    ensures devices { OnOk result (GainsDeviceRows seats.old.devices seats.new.devices (devices_given place grouped.now before section.now)) }
-    ensures rows { IfOk result (λ rows. rows ≡ rows_after_all place (is_found grouped.now) before (named_entries section.now)) }
+    ensures shots { OnOk result (GainsSeats seats.old.shots seats.new.shots
+        (seats_given place group_shots.now before section.now)) }
+    ensures devices { OnOk result (GainsDeviceRows seats.old.devices seats.new.devices
+        (devices_given place group_shots.now before section.now)) }
+    ensures rows { IfOk result (λ rows. rows
+        ≡ rows_after_all place (is_found group_shots.now) before (named_entries section.now)) }
 {
-    let rowed = is_rowed(place, &section.name);
+    let takes_rows = is_rowed(place, &section.name);
     let mut rows = before;
     for entry in section.content.entries() {
         add_entry(seats, rows, &section.name, entry)?;
-        rows = rows_after(rowed, grouped, rows, &section.name, entry)?;
+        rows = rows_after(takes_rows, group_shots, rows, &section.name, entry)?;
     }
     Ok(rows)
 }
@@ -154,8 +164,10 @@ fn add_entry<'a>(
     section: &[u8],
     entry: &'a Entry,
 ) -> Result<(), AllocError>
-    ensures shots { OnOk result (GainsSeats seats.old.shots seats.new.shots (entry_seats before (named_entry section.now entry.now))) }
-    ensures devices { OnOk result (GainsDeviceRows seats.old.devices seats.new.devices (entry_ball_row before (named_entry section.now entry.now))) }
+    ensures shots { OnOk result (GainsSeats seats.old.shots seats.new.shots
+        (entry_seats before (named_entry section.now entry.now))) }
+    ensures devices { OnOk result (GainsDeviceRows seats.old.devices seats.new.devices
+        (entry_ball_row before (named_entry section.now entry.now))) }
 {
     add_group(&mut seats.shots, before, section, entry)?;
     add_ball_device(&mut seats.devices, before, section, entry)
@@ -183,7 +195,8 @@ fn add_ball_device<'a>(
     section: &[u8],
     entry: &'a Entry,
 ) -> Result<(), AllocError>
-    ensures { OnOk result (GainsDeviceRows rows.old rows.new (entry_ball_row before (named_entry section.now entry.now))) }
+    ensures { OnOk result (GainsDeviceRows rows.old rows.new
+        (entry_ball_row before (named_entry section.now entry.now))) }
 {
     if section == BALL_DEVICES_NAME {
         rows.insert(&entry.name.text, before)?;
@@ -208,15 +221,16 @@ fn add_seats<'a>(
 /// How many rows come before what comes after this entry, if so many come before it, and `rowed` says whether
 /// other entries than shots have rows in its section. No memory holds so many entries that they cannot be counted.
 fn rows_after(
-    rowed: bool,
-    grouped: &Names<'_>,
+    takes_rows: bool,
+    group_shots: &Names<'_>,
     before: usize,
     section: &[u8],
     entry: &Entry,
 ) -> Result<usize, AllocError>
-    ensures { IfOk result (λ rows. (place : Place) → rowed ≡ is_among (row_sections place) section.now → rows ≡ rows_after place (is_found grouped.now) before (named_entry section.now entry.now)) }
+    ensures { IfOk result (λ rows. (place : Place) → takes_rows ≡ is_among (row_sections place) section.now
+        → rows ≡ rows_after place (is_found group_shots.now) before (named_entry section.now entry.now)) }
 {
-    if has_row(rowed, grouped, section, entry) {
+    if has_row(takes_rows, group_shots, section, entry) {
         return before.checked_add(1).ok_or(AllocError);
     }
     Ok(before)
@@ -224,13 +238,14 @@ fn rows_after(
 
 /// Whether an entry has a row, if these shots are in groups of its text, and `rowed` says whether other entries
 /// than shots have rows in its section.
-fn has_row(rowed: bool, grouped: &Names<'_>, section: &[u8], entry: &Entry) -> bool
-    ensures { (place : Place) → rowed ≡ is_among (row_sections place) section.now → result ≡ has_row place (is_found grouped.now) (named_entry section.now entry.now) }
+fn has_row(takes_rows: bool, group_shots: &Names<'_>, section: &[u8], entry: &Entry) -> bool
+    ensures { (place : Place) → takes_rows ≡ is_among (row_sections place) section.now
+        → result ≡ has_row place (is_found group_shots.now) (named_entry section.now entry.now) }
 {
     if section == SHOTS_NAME {
-        return !grouped.contains(entry.name.text.as_slice());
+        return !group_shots.contains(entry.name.text.as_slice());
     }
-    rowed
+    takes_rows
 }
 
 /// Whether the entries of a section of this name have rows, if it is not that of shots.

@@ -1,5 +1,6 @@
 -- The first row that passes a test, by its place.
-use Rattle.std.proofs.Common.{rules, ◌≡◌, ℕ, suc, ◌+◌, ◌<◌, Bool, cond, not, nat_lt, List, [], ◌∷◌, length, map, get_or, Some, None, refl, ◌∙◌, sym, ap, inl, inr, arith}
+use Rattle.std.proofs.Common.{rules, ◌≡◌, ℕ, suc, ◌+◌, ◌<◌, Bool, cond, not, nat_lt, List, [], ◌∷◌, length, map, get_or}
+use Rattle.std.proofs.Common.{Some, None, refl, ◌∙◌, sym, ap, inl, inr, arith}
 use Rattle.std.specs.{List.{find, position, position_or_len, range_with_len, slice_get}, Option.option_map}
 use Rattle.std.proofs.lemmas.Bool.{cases_lt, cond-true, cond-false, lt-ltb, le-ltb}
 use Rattle.std.proofs.lemmas.List.{Folds.find_at, FromFn.{length-range_with_len, get_or-range_with_len}}
@@ -26,7 +27,8 @@ module _ {X Y : Type 0} (p : X → Bool) (item : Y → X) (make : ℕ → Y) (d 
   place n (x ∷ xs) stand =
       let here : n ≡ n + 0 = omega arith in
       let first : item (make n) ≡ x = ap (λ k. item (make k)) here ∙ stand 0 (omega arith) in
-      let rest = place (n + 1) xs (λ i within. let e : (n + 1) + i ≡ n + suc i = omega arith in ap (λ k. item (make k)) e ∙ stand (suc i) (omega (arith, within))) in
+      let rest = place (n + 1) xs (λ i within. let e : (n + 1) + i ≡ n + suc i = omega arith
+      in ap (λ k. item (make k)) e ∙ stand (suc i) (omega (arith, within))) in
       λ i. cond (not (p (first i))) (1 + rest i) 0
 
   found : (xs : List X) → ((i : ℕ) → i < length xs → item (make (0 + i)) ≡ get_or xs i d)
@@ -34,7 +36,8 @@ module _ {X Y : Type 0} (p : X → Bool) (item : Y → X) (make : ℕ → Y) (d 
   found xs stand = search (rules, find_at, place, slice_get-map, numbered)
 
 -- the first trough is at the place of the first row that is one
-pub trough_place : (plan : PlanView) → first_trough plan ≡ option_map (λ n. record { 0 = n }) (position (λ r. is_trough r.settings) plan.rows)
+pub trough_place : (plan : PlanView) → first_trough plan
+    ≡ option_map (λ n. record { 0 = n }) (position (λ r. is_trough r.settings) plan.rows)
 trough_place plan =
     found (λ r. is_trough r.settings) (row_at plan) (λ n. record { 0 = n }) no_row plan.rows
     (λ i within. let e : 0 + i ≡ i = omega arith in ap (λ k. row_at plan (record { 0 = k })) e)

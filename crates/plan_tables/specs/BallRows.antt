@@ -51,13 +51,13 @@ IsPlain _ = Unit {0}
 pub record BooksBalls (r : RowId) (lists : ℕ → List Action) : Type 0 where
   pub event : EventId
   pub drain : Bool
-  pub entered : lists 0 ≡ Enter r event drain ∷ []
-  pub attempted : All IsPlain (lists 1)
-  pub left : lists 2 ≡ Leave r ∷ []
-  pub lost : lists 3 ≡ Lose r ∷ []
-  pub succeeded : All IsPlain (lists 4)
-  pub arrived : lists 5 ≡ Arrive r ∷ []
-  pub failed : All IsPlain (lists 6)
+  pub entry : lists 0 ≡ Enter r event drain ∷ []
+  pub attempt : All IsPlain (lists 1)
+  pub exit : lists 2 ≡ Leave r ∷ []
+  pub loss : lists 3 ≡ Lose r ∷ []
+  pub success : All IsPlain (lists 4)
+  pub arrival : lists 5 ≡ Arrive r ∷ []
+  pub failure : All IsPlain (lists 6)
 
 -- the lists of a ball device do so, and those of any other device book nothing
 abbrev pub BooksRightly : RowId → Settings → (ℕ → List Action) → Type 0

@@ -1,8 +1,10 @@
 -- The limits of a device's settings, and how many effect lists it has.
 use Rattle.std.specs.Prelude.{◌≡◌, ℕ, suc, ◌+◌, ◌*◌, ◌≤◌, if◌then◌else◌, length}
-use Rattle.machine_settings.specs.Limits.{IsCounterWithin, AreStepsWithin, IsTimerWithin, IsEjectWithin, IsSaveWithin, IsMultiballWithin}
+use Rattle.machine_settings.specs.Limits.{IsCounterWithin, AreStepsWithin, IsTimerWithin, IsEjectWithin, IsSaveWithin}
+use Rattle.machine_settings.specs.Limits.{IsMultiballWithin}
 use Rattle.plan_tables.specs.declared.devices.{BallSettings.BallSettings, BankSettings.BankSettings, Settings.Settings}
-use Rattle.plan_tables.specs.declared.devices.Settings.TheVariants.{Counter, Accrual, Sequence, Timer, Bank, Flipper, Autofire, BallDevice, BallSave, Multiball}
+use Rattle.plan_tables.specs.declared.devices.Settings.TheVariants.{Counter, Accrual, Sequence, Timer, Bank, Flipper}
+use Rattle.plan_tables.specs.declared.devices.Settings.TheVariants.{Autofire, BallDevice, BallSave, Multiball}
 
 -- at most 16 ball switches
 pub record IsBallDeviceWithin (d : BallSettings) : Type 0 where

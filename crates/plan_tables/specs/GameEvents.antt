@@ -1,7 +1,12 @@
 -- The events of the game, in their order.
 use Rattle.std.specs.Prelude.{ℕ, List, [], ◌∷◌}
-use Rattle.plan_tables.specs.declared.entries.GameEvent.{GameEvent}
-use Rattle.plan_tables.specs.declared.entries.GameEvent.TheVariants.{SwStart, GameWillStart, GameStarting, PlayerAdded, GameStarted, PlayerTurnWillStart, PlayerTurnStarting, PlayerTurnStarted, BallWillStart, BallStarting, BallStarted, BallDrain, BallWillEnd, BallEnding, BallEnded, PlayerTurnWillEnd, PlayerTurnEnding, PlayerTurnEnded, GameWillEnd, GameEnding, GameEnded}
+use Rattle.plan_tables.specs.declared.entries.GameEvent.{GameEvent, TheVariants.{PlayerTurnWillEnd, PlayerTurnEnding}}
+use Rattle.plan_tables.specs.declared.entries.GameEvent.TheVariants.{SwStart, GameWillStart, GameStarting, PlayerAdded}
+use Rattle.plan_tables.specs.declared.entries.GameEvent.TheVariants.{GameStarted, PlayerTurnWillStart, GameEnded}
+use Rattle.plan_tables.specs.declared.entries.GameEvent.TheVariants.{PlayerTurnStarting, PlayerTurnStarted}
+use Rattle.plan_tables.specs.declared.entries.GameEvent.TheVariants.{BallWillStart, BallStarting, BallStarted}
+use Rattle.plan_tables.specs.declared.entries.GameEvent.TheVariants.{BallDrain, BallWillEnd, BallEnding, BallEnded}
+use Rattle.plan_tables.specs.declared.entries.GameEvent.TheVariants.{PlayerTurnEnded, GameWillEnd, GameEnding}
 
 abbrev pub game_events : List GameEvent
 game_events =

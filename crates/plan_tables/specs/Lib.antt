@@ -8,4 +8,4 @@ pub mod BallRows
 pub mod Due
 -- what the fields of a plan hold: only the maker of plans needs these
 pub mod NamesKept
-pub mod Inside
+pub mod PlanFields

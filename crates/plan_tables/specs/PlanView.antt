@@ -1,6 +1,8 @@
 -- A plan, apart from where it lies in memory.
-use Rattle.std.specs.Prelude.{ℕ, suc, ◌+◌, ◌==◌, List, [], ◌∷◌, ◌++◌, Bool, true, false, ◌&&◌, Option, Some, None, is_some, if◌then◌else◌, length, map, filter, find, slice_get, slice_index_or, position, option_map, unwrap_or}
-use Rattle.std.specs.{Option.option_map_or, List.{range_with_len, flat_map, list_any}, Str.bytes_eq}
+use Rattle.std.specs.Prelude.{ℕ, suc, ◌+◌, ◌==◌, List, [], ◌∷◌, ◌++◌, Bool, true, false, ◌&&◌, Option, Some, None}
+use Rattle.std.specs.Prelude.{is_some, if◌then◌else◌, length, map, filter, find, slice_get, slice_index_or, position}
+use Rattle.std.specs.{Prelude.{option_map, unwrap_or}, Option.option_map_or, Str.bytes_eq}
+use Rattle.std.specs.List.{range_with_len, flat_map, list_any}
 use Rattle.machine_settings.specs.declared.words.Contact.TheVariants.{NormallyOpen}
 use Rattle.plan_tables.specs.declared.entries.{EventId.EventId, Listener.Listener, Target.{Target, TheVariants.Run}}
 use Rattle.plan_tables.specs.declared.entries.{SwitchId.SwitchId, BindingId.BindingId}
@@ -37,7 +39,15 @@ switch_posts active s = if active then s.active else s.inactive
 
 -- in place of a switch if there is none
 abbrev pub no_switch : PlanSwitch
-no_switch = record { name = []; kind = record { contact = NormallyOpen; quick = false }; listeners = []; confirms_playfield = false; active = []; inactive = [] }
+no_switch =
+    record {
+      name = [];
+      kind = record { contact = NormallyOpen; quick = false };
+      listeners = [];
+      confirms_playfield = false;
+      active = [];
+      inactive = [];
+    }
 
 -- what a device is told when the switch to which it listens becomes active, or inactive
 abbrev pub act_of_listener : Bool → Listener → Act
@@ -50,7 +60,11 @@ pub record PlanCoil : Type 0 where
 
 -- in place of a coil if there is none: no pulse and no hold is within its limits
 abbrev pub no_coil : PlanCoil
-no_coil = record { name = []; limits = record { max_pulse_ms = 0; max_pulse_power = 0; max_hold_power = 0; may_hold = false } }
+no_coil =
+    record {
+      name = [];
+      limits = record { max_pulse_ms = 0; max_pulse_power = 0; max_hold_power = 0; may_hold = false };
+    }
 
 -- a mode, with its name
 pub record PlanMode : Type 0 where
@@ -69,7 +83,14 @@ no_mode = record {
     priority = 0;
     game = false;
     holds_ball_end = false;
-    events = record { will_start = no_event; starting = no_event; started = no_event; stopping = no_event; stopped = no_event };
+    events =
+        record {
+          will_start = no_event;
+          starting = no_event;
+          started = no_event;
+          stopping = no_event;
+          stopped = no_event;
+        };
   };
 }
 
@@ -217,7 +238,14 @@ actions_at plan l = slice_index_or plan.lists l.0 []
 
 -- in place of a binding if there is none
 abbrev pub no_binding : Binding
-no_binding = record { event = record { 0 = 0 }; owner = Machine; priority = 0; condition = None; target = Run (record { 0 = 0 }) }
+no_binding =
+    record {
+      event = record { 0 = 0 };
+      owner = Machine;
+      priority = 0;
+      condition = None;
+      target = Run (record { 0 = 0 });
+    }
 
 -- a binding by its place
 abbrev pub binding_at : PlanView → BindingId → Binding
@@ -228,7 +256,12 @@ abbrev pub no_row : DeviceRow
 no_row = record {
   number = record { 0 = 0 };
   owner = Machine;
-  settings = Accrual (record { block = record { enabled = false; reset_on_complete = false; disable_on_complete = false; persist = false }; steps = 0 });
+  settings =
+      Accrual
+      (record {
+        block = record { enabled = false; reset_on_complete = false; disable_on_complete = false; persist = false };
+        steps = 0;
+      });
 }
 
 -- a device's row, by its number
@@ -345,7 +378,8 @@ actions_of_row plan owner r =
 
 -- all actions of an owner
 abbrev pub actions_of : PlanView → Owner → List Action
-actions_of plan owner = flat_map (actions_of_binding plan owner) plan.bindings ++ flat_map (actions_of_row plan owner) (row_numbers plan)
+actions_of plan owner = flat_map (actions_of_binding plan owner) plan.bindings
+    ++ flat_map (actions_of_row plan owner) (row_numbers plan)
 
 -- whether an action enables the coil
 abbrev pub is_enable_of : CoilId → Action → Bool
@@ -362,4 +396,5 @@ bound_to plan e = filter (λ b. b.event.0 == e.0) plan.bindings
 
 -- the places of what is bound to the event, in plan order
 abbrev pub places_of : PlanView → EventId → List BindingId
-places_of plan e = map (λ n. record { 0 = n }) (filter (λ n. (binding_at plan (record { 0 = n })).event.0 == e.0) (range_with_len 0 (length plan.bindings)))
+places_of plan e = map (λ n. record { 0 = n })
+    (filter (λ n. (binding_at plan (record { 0 = n })).event.0 == e.0) (range_with_len 0 (length plan.bindings)))

@@ -1,18 +1,19 @@
 -- What holds of every plan: each number in it is that of an entry, no two entries of a table have one name, and no
 -- table is above its limit.
 use Rattle.std.specs.{Prelude.{ℕ, ◌+◌, ◌≡◌, ◌<◌, ◌≤◌, ◌≢◌, true, Option, IsSome, IfSome, length}, List.{All, AllPairs}}
-use Rattle.plan_tables.specs.declared.entries.{EventId.EventId, Listener.Listener}
+use Rattle.plan_tables.specs.declared.entries.{EventId.EventId, Listener.Listener, Binding.Binding, Condition.Condition}
 use Rattle.plan_tables.specs.declared.entries.Owner.{Owner, TheVariants.{Machine, Mode}}
-use Rattle.plan_tables.specs.declared.entries.{Action.Action, ModeId.ModeId, Work.Work, Binding.Binding}
-use Rattle.plan_tables.specs.declared.entries.Action.TheVariants.{Post, Pulse, Enable, Disable, Change, Enter, Leave, Lose, Arrive, Request, AddBalls}
-use Rattle.plan_tables.specs.declared.entries.{Condition.Condition, GameEvent.GameEvent}
-use Rattle.plan_tables.specs.declared.entries.{GameRules.GameRules, ModeEvent.ModeEvent}
+use Rattle.plan_tables.specs.declared.entries.Action.{Action, TheVariants.{Lose, Arrive, Request, AddBalls}}
+use Rattle.plan_tables.specs.declared.entries.{ModeId.ModeId, Work.Work, ModeEvent.ModeEvent}
+use Rattle.plan_tables.specs.declared.entries.Action.TheVariants.{Post, Pulse, Enable, Disable, Change, Enter, Leave}
+use Rattle.plan_tables.specs.declared.entries.{GameEvent.GameEvent, GameRules.GameRules}
 use Rattle.plan_tables.specs.declared.entries.Target.{Target, TheVariants.{Run, Start, Stop, Act}}
 use Rattle.plan_tables.specs.declared.entries.Work.TheVariants as work_kinds
 use Rattle.plan_tables.specs.declared.{devices.{BallTarget.BallTarget, RowId.RowId}, table.Table.Table}
 use Rattle.plan_tables.specs.declared.devices.BallTarget.TheVariants as targets
 use Rattle.plan_tables.specs.{Devices.{IsWithinLimits, list_count}, Limits.entry_names}
-use Rattle.plan_tables.specs.PlanView.{PlanMode, PlanSwitch, PlanCoil, PlanView, game_event, list_of_row, mode_event, row_at, target_of, work_of}
+use Rattle.plan_tables.specs.PlanView.{PlanMode, PlanSwitch, PlanCoil, PlanView, game_event, list_of_row, mode_event}
+use Rattle.plan_tables.specs.PlanView.{row_at, target_of, work_of}
 
 abbrev pub IsEventWithin : ℕ → EventId → Type 0
 IsEventWithin events e = e.0 < events
@@ -35,7 +36,8 @@ IsActionWithin plan (Pulse coil ms power) = coil.0 < length plan.coils
 IsActionWithin plan (Enable coil power) = coil.0 < length plan.coils
 IsActionWithin plan (Disable coil) = coil.0 < length plan.coils
 IsActionWithin plan (Change v action n e) = (v.0 < length plan.variables) × (e.0 < length plan.events)
-IsActionWithin plan (Enter r e drain) = (r.0 < length plan.rows) × (e.0 < length plan.events) × (drain ≡ true → HasGame plan)
+IsActionWithin plan (Enter r e drain) = (r.0 < length plan.rows) × (e.0 < length plan.events)
+    × (drain ≡ true → HasGame plan)
 IsActionWithin plan (Leave r) = r.0 < length plan.rows
 IsActionWithin plan (Lose r) = r.0 < length plan.rows
 IsActionWithin plan (Arrive r) = r.0 < length plan.rows
@@ -57,7 +59,8 @@ abbrev pub IsConditionWithin : PlanView → Option Condition → Type 0
 IsConditionWithin plan condition = IfSome condition (λ c. c.variable.0 < length plan.variables)
 
 abbrev pub IsBindingWithin : PlanView → Binding → Type 0
-IsBindingWithin plan b = (b.event.0 < length plan.events) × IsOwnerWithin plan b.owner × IsTargetWithin plan b.target × IsConditionWithin plan b.condition
+IsBindingWithin plan b = (b.event.0 < length plan.events) × IsOwnerWithin plan b.owner × IsTargetWithin plan b.target
+    × IsConditionWithin plan b.condition
 
 abbrev pub IsSwitchWithin : ℕ → PlanSwitch → Type 0
 IsSwitchWithin events s = All (IsEventWithin events) s.active × All (IsEventWithin events) s.inactive
@@ -129,6 +132,7 @@ pub record IsValid (plan : PlanView) : Type 0 where
   pub names : (t : Table) → AllPairs (λ x y. x ≢ y) (entry_names plan t)
   pub entries : HasEntries plan
   -- each mode has five events of its own
-  pub works : (m : ModeId) (which : ModeEvent) → m.0 < length plan.modes → work_of plan (mode_event plan m which) ≡ work_kinds.Mode m which
+  pub works : (m : ModeId) (which : ModeEvent) → m.0 < length plan.modes
+      → work_of plan (mode_event plan m which) ≡ work_kinds.Mode m which
   -- and the game has 21 events of its own
   pub game_works : (which : GameEvent) → HasGame plan → work_of plan (game_event plan which) ≡ work_kinds.Game which

@@ -196,14 +196,14 @@ pub enum Act {
     Count,
     /// A step of an accrual or a sequence is done, by its number from 0.
     Step(usize),
-    /// The device acts from now on.
+    /// The device is enabled.
     Enable,
-    /// The device does not act from now on.
+    /// The device is disabled.
     Disable,
     /// A counter or a timer goes back to its start value, an accrual or a sequence to no step done, and each shot of a
-    /// bank to its first state. Whether it acts stays.
+    /// bank to its first state. It stays enabled or disabled, as it was.
     Reset,
-    /// A logic block is reset, and acts from now on. A timer runs anew from its start value.
+    /// A logic block is reset, and is enabled. A timer runs anew from its start value.
     Restart,
     /// A timer runs, or a multiball starts.
     Start,

@@ -38,7 +38,7 @@ impl NameSets {
     ghost use Rattle.std.specs.Prelude.{◌≡◌, ◌≤◌, length};
     ghost use Rattle.plan_tables.specs.Limits.{limit_of};
     ghost use Rattle.plan_tables.specs.NamesKept.{names_of};
-    ghost use Rattle.plan_tables.specs.Inside.{name_sets_view};
+    ghost use Rattle.plan_tables.specs.PlanFields.{name_sets_view};
 
     /// The names of a table.
     pub fn of(&self, table: Table) -> &NameSet

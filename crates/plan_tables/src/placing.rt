@@ -5,7 +5,8 @@ ghost use Rattle.std.specs.Prelude.{◌≡◌, ◌<◌, ◌≤◌, ◌+◌, [], 
 ghost use Rattle.std.specs.List.{All, position};
 ghost use Rattle.std.specs.Option.{option_map};
 ghost use Rattle.plan_tables.specs.PlanView.{PlanView, is_trough, target_in};
-ghost use Rattle.plan_tables.specs.Inside.{HasPlaces, HasModeBindings, HasModeRows, HasFeeders, added, lists_view, mode_place, target_place};
+ghost use Rattle.plan_tables.specs.PlanFields.{HasPlaces, HasModeBindings, HasModeRows, HasFeeders, add_to_list};
+ghost use Rattle.plan_tables.specs.PlanFields.{lists_view, mode_place, target_place};
 
 use crate::devices::{BallTarget, DeviceRow, RowId};
 use crate::entries::{Binding, BindingId, Owner};
@@ -19,7 +20,8 @@ pub(crate) fn places_by_event(
 ) -> Result<Vec<Vec<BindingId>>, AllocError>
     requires events { All (λ b. b.event.0 < events) bindings.now }
     requires bindings { length bindings.now ≤ 16384 }
-    ensures { IfOk result (λ places. (plan : PlanView) → length plan.events ≡ events → plan.bindings ≡ bindings.now → HasPlaces plan places.items) }
+    ensures { IfOk result (λ places. (plan : PlanView) → length plan.events ≡ events → plan.bindings ≡ bindings.now
+        → HasPlaces plan places.items) }
 {
     let mut places = empty_lists(alloc, events)?;
     for (place, binding) in bindings.iter().enumerate() {
@@ -36,7 +38,8 @@ pub(crate) fn bindings_by_mode(
 ) -> Result<Vec<Vec<BindingId>>, AllocError>
     requires modes { All (λ b. IfSome (mode_place b.owner) (λ place. place < modes)) bindings.now }
     requires bindings { length bindings.now ≤ 16384 }
-    ensures { IfOk result (λ lists. (plan : PlanView) → length plan.modes ≡ modes → plan.bindings ≡ bindings.now → HasModeBindings plan lists.items) }
+    ensures { IfOk result (λ lists. (plan : PlanView) → length plan.modes ≡ modes → plan.bindings ≡ bindings.now
+        → HasModeBindings plan lists.items) }
 {
     let mut lists = empty_lists(alloc, modes)?;
     for (place, binding) in bindings.iter().enumerate() {
@@ -57,7 +60,8 @@ pub(crate) fn rows_by_mode(
 ) -> Result<Vec<Vec<RowId>>, AllocError>
     requires modes { All (λ row. IfSome (mode_place row.owner) (λ place. place < modes)) rows.now }
     requires rows { length rows.now ≤ 1024 }
-    ensures { IfOk result (λ lists. (plan : PlanView) → length plan.modes ≡ modes → plan.rows ≡ rows.now → HasModeRows plan lists.items) }
+    ensures { IfOk result (λ lists. (plan : PlanView) → length plan.modes ≡ modes → plan.rows ≡ rows.now
+        → HasModeRows plan lists.items) }
 {
     let mut lists = empty_lists(alloc, modes)?;
     for (number, row) in rows.iter().enumerate() {
@@ -81,7 +85,8 @@ pub(crate) fn feeders_by_target(
     alloc: Global,
     rows: &[DeviceRow],
 ) -> Result<Vec<Vec<RowId>>, AllocError>
-    requires targets { All (λ row. IfSome (option_map target_place (target_in row.settings)) (λ place. place < length rows.now + 1)) rows.now }
+    requires targets { All (λ row. IfSome (option_map target_place (target_in row.settings))
+        (λ place. place < length rows.now + 1)) rows.now }
     requires rows { length rows.now ≤ 1024 }
     ensures { IfOk result (λ lists. (plan : PlanView) → plan.rows ≡ rows.now → HasFeeders plan lists.items) }
 {
@@ -115,7 +120,7 @@ pub(crate) fn target_place(target: BallTarget) -> usize
 /// Adds an item to the list at a place, if there is a place.
 fn add<T: Drop>(lists: &mut Vec<Vec<T>>, place: Option<usize>, item: T) -> Result<(), AllocError>
     requires { IfSome place (λ place. place < length lists.old.items) }
-    ensures { OnOk result (lists_view lists.new.items ≡ added (lists_view lists.old.items) place item) }
+    ensures { OnOk result (lists_view lists.new.items ≡ add_to_list (lists_view lists.old.items) place item) }
 {
     if let Some(place) = place {
         lists[place].push(item)?;

@@ -62,19 +62,28 @@ impl Model for Plan {
 
     ghost use Rattle.std.specs.Prelude.{◌≡◌, length};
     ghost use Rattle.plan_tables.specs.declared.table.Table.TheVariants.{Switches, Coils};
-    ghost use Rattle.plan_tables.specs.Inside.{name_sets_view, plan_view, HasFeeders, HasModeBindings, HasModeRows, HasPlaces, HasWorks};
+    ghost use Rattle.plan_tables.specs.PlanFields.{name_sets_view, plan_view, HasFeeders, HasModeBindings, HasModeRows};
+    ghost use Rattle.plan_tables.specs.PlanFields.{HasPlaces, HasWorks};
     ghost use Rattle.plan_tables.specs.Valid.{IsValid};
 
     ghost view = { plan_view };
 
-    ghost invariant = { λ p. IsValid (plan_view p) × HasPlaces (plan_view p) p.places.items × HasWorks (plan_view p) p.works.items × (length p.tables.switches.items ≡ length (name_sets_view p.tables.names Switches)) × (length p.tables.coils.items ≡ length (name_sets_view p.tables.names Coils)) × HasModeBindings (plan_view p) p.mode_bindings.items × HasModeRows (plan_view p) p.mode_rows.items × HasFeeders (plan_view p) p.feeders.items };
+    ghost invariant = { λ p. IsValid (plan_view p) × HasPlaces (plan_view p) p.places.items
+        × HasWorks (plan_view p) p.works.items
+        × (length p.tables.switches.items ≡ length (name_sets_view p.tables.names Switches))
+        × (length p.tables.coils.items ≡ length (name_sets_view p.tables.names Coils))
+        × HasModeBindings (plan_view p) p.mode_bindings.items × HasModeRows (plan_view p) p.mode_rows.items
+        × HasFeeders (plan_view p) p.feeders.items };
 }
 
 impl Plan {
     ghost use Rattle.std.specs.Prelude.{◌≡◌, ◌<◌, length, slice_get, Contains, IfSome, IfNone, IfOk};
-    ghost use Rattle.plan_tables.specs.PlanView.{name_of_event, event_named, game_event, name_of_variable, variable_named, mode_at, may_hold_ball_end, switch_at, switch_named, listeners_of, posts_of, coil_at, coil_named, actions_at, places_of, row_at, rows_of, feeders_of, list_of_row, first_trough, work_of};
+    ghost use Rattle.plan_tables.specs.PlanView.{name_of_event, event_named, game_event, name_of_variable};
+    ghost use Rattle.plan_tables.specs.PlanView.{variable_named, mode_at, may_hold_ball_end, switch_at, switch_named};
+    ghost use Rattle.plan_tables.specs.PlanView.{listeners_of, posts_of, coil_at, coil_named, actions_at, places_of};
+    ghost use Rattle.plan_tables.specs.PlanView.{row_at, rows_of, feeders_of, list_of_row, first_trough, work_of};
     ghost use Rattle.plan_tables.specs.declared.table.Table.TheVariants.{Switches, Coils};
-    ghost use Rattle.plan_tables.specs.Inside.{name_sets_view, tables_view};
+    ghost use Rattle.plan_tables.specs.PlanFields.{name_sets_view, tables_view};
     ghost use Rattle.std.specs.List.{All};
     ghost use Rattle.plan_tables.specs.declared.entries.Owner.TheVariants as owners;
     ghost use Rattle.plan_tables.specs.Owned.{bindings_of_owner};

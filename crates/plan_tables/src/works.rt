@@ -4,7 +4,7 @@ ghost use Rattle.std.specs.Prelude.{◌≡◌, ◌==◌, ◌<◌, ◌≤◌, len
 ghost use Rattle.std.specs.List.{range_with_len};
 ghost use Rattle.plan_tables.specs.GameEvents.{game_events};
 ghost use Rattle.plan_tables.specs.PlanView.{PlanView, game_work};
-ghost use Rattle.plan_tables.specs.Inside.{mode_entry_view, HasWorks, AreModeWorks, AreWorksFrom};
+ghost use Rattle.plan_tables.specs.PlanFields.{mode_entry_view, HasWorks, AreModeWorks, AreWorksFrom};
 
 use crate::entries::{
     EventId, GAME_EVENTS, GameEvent, GameRules, ModeEntry, ModeEvent, ModeEvents, ModeId, Work,
@@ -20,7 +20,8 @@ pub(crate) fn works_by_event(
 ) -> Result<Vec<Work>, AllocError>
     requires events { events ≤ 4096 }
     requires modes { length modes.now ≤ 64 }
-    ensures { IfOk result (λ works. (plan : PlanView) → length plan.events ≡ events → plan.modes ≡ map mode_entry_view modes.now → plan.game ≡ game → HasWorks plan works.items) }
+    ensures { IfOk result (λ works. (plan : PlanView) → length plan.events ≡ events
+        → plan.modes ≡ map mode_entry_view modes.now → plan.game ≡ game → HasWorks plan works.items) }
 {
     let mut works = works_of_game(alloc, events, game)?;
     set_works_of_modes(&mut works, modes);
@@ -34,7 +35,8 @@ fn works_of_game(
     game: Option<GameRules>,
 ) -> Result<Vec<Work>, AllocError>
     requires { events ≤ 4096 }
-    ensures { IfOk result (λ works. works.items ≡ map (λ e. game_work game (record { 0 = e })) (range_with_len 0 events)) }
+    ensures { IfOk result (λ works. works.items
+        ≡ map (λ e. game_work game (record { 0 = e })) (range_with_len 0 events)) }
 {
     let mut works = Vec::with_capacity(alloc, events)?;
     for event in 0..events {

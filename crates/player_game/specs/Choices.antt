@@ -1,7 +1,13 @@
 -- What the events of the game can post, whatever the state of the game.
 use Rattle.std.specs.Prelude.{◌≡◌, ℕ, ◌≤◌, Bool, true, false, Some, List, [], ◌∷◌, length, Contains}
-use Rattle.plan_tables.specs.{PlanView.PlanView, declared.entries.{GameEvent.GameEvent, GameRules.GameRules}}
-use Rattle.plan_tables.specs.declared.entries.GameEvent.TheVariants.{SwStart, GameWillStart, GameStarting, PlayerAdded, GameStarted, PlayerTurnWillStart, PlayerTurnStarting, PlayerTurnStarted, BallWillStart, BallStarting, BallStarted, BallDrain, BallWillEnd, BallEnding, BallEnded, PlayerTurnWillEnd, PlayerTurnEnding, PlayerTurnEnded, GameWillEnd, GameEnding, GameEnded}
+use Rattle.plan_tables.specs.{PlanView.PlanView, declared.entries.GameRules.GameRules}
+use Rattle.plan_tables.specs.declared.entries.GameEvent.{GameEvent, TheVariants.{PlayerTurnWillEnd, PlayerTurnEnding}}
+use Rattle.plan_tables.specs.declared.entries.GameEvent.TheVariants.{SwStart, GameWillStart, GameStarting, PlayerAdded}
+use Rattle.plan_tables.specs.declared.entries.GameEvent.TheVariants.{GameStarted, PlayerTurnWillStart, GameEnded}
+use Rattle.plan_tables.specs.declared.entries.GameEvent.TheVariants.{PlayerTurnStarting, PlayerTurnStarted}
+use Rattle.plan_tables.specs.declared.entries.GameEvent.TheVariants.{BallWillStart, BallStarting, BallStarted}
+use Rattle.plan_tables.specs.declared.entries.GameEvent.TheVariants.{BallDrain, BallWillEnd, BallEnding, BallEnded}
+use Rattle.plan_tables.specs.declared.entries.GameEvent.TheVariants.{PlayerTurnEnded, GameWillEnd, GameEnding}
 use Rattle.player_game.specs.{Players.{PlayersState, most_players}, GameStep.{GameState, game_step}}
 
 -- the events that it posts, by each way that it can go

@@ -1,11 +1,12 @@
 -- The players of a game: their variables, and whose turn it is.
-use Rattle.std.specs.Prelude.{ℕ, ◌+◌, ◌-◌, ◌==◌, nat_lt, nat_le, Bool, true, false, not, ◌&&◌, ◌||◌, if◌then◌else◌, ℤ, pos, ◌+ℤ◌, Option, None, Some, List, [], ◌∷◌, ◌++◌, length, replicate, slice_index_or, slice_set, codes}
-use Rattle.std.specs.{Ordering.int_eq, Option.option_map_or}
+use Rattle.std.specs.Prelude.{ℕ, ◌+◌, ◌-◌, ◌==◌, nat_lt, nat_le, Bool, true, false, not, ◌&&◌, ◌||◌, if◌then◌else◌, ℤ}
+use Rattle.std.specs.Prelude.{pos, ◌+ℤ◌, Option, None, Some, List, [], ◌∷◌, ◌++◌, length, replicate, slice_index_or}
+use Rattle.std.specs.{Prelude.{slice_set, codes}, Ordering.int_eq, Option.option_map_or}
 use Rattle.mpf_values.specs.Comparing.{compares}
 use Rattle.plan_tables.specs.PlanView.{PlanView, variable_named}
 use Rattle.plan_tables.specs.declared.entries.{VariableId.VariableId, Condition.Condition, GameRules.GameRules}
 use Rattle.machine_settings.specs.declared.words.VariableAction.{VariableAction, TheVariants.{Add, Set}}
-use Rattle.device_objects.specs.Values.{clamped}
+use Rattle.device_objects.specs.Values.{clamp_value}
 
 -- which ball a player is at, from 1 on and 0 before the first; and the value of each variable, by number
 pub record PlayerState : Type 0 where
@@ -85,9 +86,9 @@ is_met plan s (Some c) = not (s.current == 0) && compares c.comparison (value_no
 -- ---- changes
 
 -- what an action makes of a value
-abbrev pub acted : VariableAction → ℤ → ℤ → ℤ
-acted Add number value = clamped (value +ℤ number)
-acted Set number value = clamped number
+abbrev pub act_on : VariableAction → ℤ → ℤ → ℤ
+act_on Add number value = clamp_value (value +ℤ number)
+act_on Set number value = clamp_value number
 
 -- whether an action may change the variable: there is a current player, and it is not one of the two that the game sets
 abbrev pub may_change : PlanView → PlayersState → VariableId → Bool
@@ -100,14 +101,17 @@ if_new old new = if int_eq old new then None else Some new
 -- what becomes of the variable: its new value, if an action changes it
 abbrev pub changed_to : PlanView → VariableId → VariableAction → ℤ → PlayersState → Option ℤ
 changed_to plan v action number s =
-    if may_change plan s v then if_new (value_now plan s v) (acted action number (value_now plan s v)) else None
+    if may_change plan s v then if_new (value_now plan s v) (act_on action number (value_now plan s v)) else None
 
 abbrev pub with_value : VariableId → ℤ → PlayerState → PlayerState
 with_value v value p = record p { values = slice_set p.values v.0 value }
 
 -- the current player is changed so
 abbrev pub with_current : PlanView → (PlayerState → PlayerState) → PlayersState → PlayersState
-with_current plan change s = record s { players = slice_set s.players (s.current - 1) (change (player_at plan s s.current)) }
+with_current plan change s = record s {
+  players = slice_set s.players (s.current - 1)
+      (change (player_at plan s s.current));
+}
 
 abbrev pub after_change : PlanView → VariableId → Option ℤ → PlayersState → PlayersState
 after_change plan v None s = s
@@ -116,21 +120,22 @@ after_change plan v (Some value) s = with_current plan (with_value v value) s
 -- ---- turns
 
 -- the player of this number becomes the current one; none, if there is no such player
-abbrev pub turned : ℕ → PlayersState → PlayersState
-turned n s = record s { current = if nat_le n (length s.players) then n else 0 }
+abbrev pub make_current : ℕ → PlayersState → PlayersState
+make_current n s = record s { current = if nat_le n (length s.players) then n else 0 }
 
 -- one player more, if there can be one
-abbrev pub added : PlanView → PlayersState → PlayersState
-added plan s =
-    if nat_lt (length s.players) (most_players plan.game) then record s { players = s.players ++ new_player plan ∷ [] } else s
+abbrev pub add_player : PlanView → PlayersState → PlayersState
+add_player plan s =
+    if nat_lt (length s.players) (most_players plan.game) then record s { players = s.players ++ new_player plan ∷ [] }
+    else s
 
 -- the next player, after the last the first
 abbrev pub next_turn : PlayersState → PlayersState
-next_turn s = turned (if s.current == length s.players then 1 else s.current + 1) s
+next_turn s = make_current (if s.current == length s.players then 1 else s.current + 1) s
 
 -- the current player's next ball
 abbrev pub with_next_ball : PlayerState → PlayerState
-with_next_ball p = record p { ball = clamped (p.ball +ℤ pos 1) }
+with_next_ball p = record p { ball = clamp_value (p.ball +ℤ pos 1) }
 
 abbrev pub next_ball : PlanView → PlayersState → PlayersState
 next_ball plan s = if s.current == 0 then s else with_current plan with_next_ball s

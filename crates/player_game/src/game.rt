@@ -2,7 +2,7 @@
 
 ghost use Rattle.std.specs.Prelude.{◌≡◌, false, [], ◌∷◌};
 ghost use Rattle.player_game.specs.GameStep.{GameState, is_ball_on, is_none, is_over, turn_ended};
-ghost use Rattle.player_game.specs.Players.{added, next_ball, turned};
+ghost use Rattle.player_game.specs.Players.{add_player, next_ball, make_current};
 
 use crate::players::Players;
 use arrayvec::ArrayVec;
@@ -111,13 +111,24 @@ impl Model for Game {
 
     ghost Value = { GameView };
 
-    ghost view = { λ g. record { rules = g.rules; state = record { phase = g.phase; begun = g.begun; balls = g.balls; holders = g.holders } } };
+    ghost view = { λ g.
+        record {
+          rules = g.rules;
+          state = record {
+            phase = g.phase;
+            begun = g.begun;
+            balls = g.balls;
+            holders = g.holders;
+          };
+        } };
 }
 
 impl Game {
     ghost use Rattle.std.specs.Prelude.{◌≡◌, ◌<◌, true, false, [], ◌∷◌};
-    ghost use Rattle.player_game.specs.GameStep.{ball_ending, ball_started, can_begin, can_join, drained, ended, ends_ball, game_step, held, in_play, is_held, missing, more_balls, no_game, released, started};
-    ghost use Rattle.player_game.specs.Players.{PlayersState, turned};
+    ghost use Rattle.player_game.specs.GameStep.{ball_ending, ball_started, can_begin, can_join, drain, end_game};
+    ghost use Rattle.player_game.specs.GameStep.{ends_ball, game_step, hold, in_play, is_held, missing, more_balls};
+    ghost use Rattle.player_game.specs.GameStep.{no_game, release, start_game};
+    ghost use Rattle.player_game.specs.Players.{PlayersState, make_current};
 
     /// The game of a plan. No game goes on, and none has begun.
     pub fn new(plan: &Plan) -> Game
@@ -188,11 +199,17 @@ impl Game {
     /// are at home. Reports what follows. Without a game nothing changes, and nothing follows.
     #[tactic(auto, unfolding(crate::specs::GameStep::game_step))]
     pub fn work(&mut self, event: GameEvent, players: &mut Players<'_>, home: u64) -> GameWork
-        ensures game { self.new ≡ record self.old { state = (game_step self.old.rules players.old.plan event home self.old.state players.old.state).game } }
-        ensures players { players.new ≡ record players.old { state = (game_step self.old.rules players.old.plan event home self.old.state players.old.state).players } }
-        ensures posts { result.posts.items ≡ (game_step self.old.rules players.old.plan event home self.old.state players.old.state).posts }
-        ensures requests { result.requests ≡ (game_step self.old.rules players.old.plan event home self.old.state players.old.state).requests }
-        ensures finals { result.finals ≡ (game_step self.old.rules players.old.plan event home self.old.state players.old.state).finals }
+        ensures game { self.new ≡ record self.old
+            { state = (game_step self.old.rules players.old.plan event home self.old.state players.old.state).game } }
+        ensures players { players.new ≡ record players.old {
+          state = (game_step self.old.rules players.old.plan event home self.old.state players.old.state).players;
+        } }
+        ensures posts { result.posts.items
+            ≡ (game_step self.old.rules players.old.plan event home self.old.state players.old.state).posts }
+        ensures requests { result.requests
+            ≡ (game_step self.old.rules players.old.plan event home self.old.state players.old.state).requests }
+        ensures finals { result.finals ≡ (game_step self.old.rules players.old.plan event home self.old.state
+            players.old.state).finals }
     {
         let Some(rules) = self.rules else {
             return GameWork::nothing();
@@ -227,9 +244,12 @@ impl Game {
 
     /// The start button: a game begins, or a player joins, or nothing happens.
     fn start(&mut self, rules: GameRules, players: &mut Players<'_>, home: u64) -> GameWork
-        ensures game { self.new ≡ record self.old { state = (started rules players.old.plan home self.old.state players.old.state).game } }
-        ensures players { players.new ≡ record players.old { state = (started rules players.old.plan home self.old.state players.old.state).players } }
-        ensures posts { result.posts.items ≡ (started rules players.old.plan home self.old.state players.old.state).posts }
+        ensures game { self.new ≡ record self.old
+            { state = (start_game rules players.old.plan home self.old.state players.old.state).game } }
+        ensures players { players.new ≡ record players.old
+            { state = (start_game rules players.old.plan home self.old.state players.old.state).players } }
+        ensures posts { result.posts.items
+            ≡ (start_game rules players.old.plan home self.old.state players.old.state).posts }
         ensures requests { result.requests ≡ false }
         ensures finals { result.finals ≡ false }
     {
@@ -278,8 +298,9 @@ impl Game {
 
     /// A ball is lost: the last one ends the turn.
     fn drain(&mut self) -> GameWork
-        ensures game { (players : PlayersState) → self.new ≡ record self.old { state = (drained self.old.state players).game } }
-        ensures posts { (players : PlayersState) → result.posts.items ≡ (drained self.old.state players).posts }
+        ensures game { (players : PlayersState)
+            → self.new ≡ record self.old { state = (drain self.old.state players).game } }
+        ensures posts { (players : PlayersState) → result.posts.items ≡ (drain self.old.state players).posts }
         ensures requests { result.requests ≡ false }
         ensures finals { result.finals ≡ false }
     {
@@ -317,7 +338,7 @@ impl Game {
     /// `Plan::may_hold_ball_end` holds.
     pub fn hold(&mut self, mode: ModeId)
         requires { mode.0 < 64 }
-        ensures { self.new ≡ record self.old { state = held mode self.old.state } }
+        ensures { self.new ≡ record self.old { state = hold mode self.old.state } }
     {
         self.holders[mode.0 as usize] = true;
     }
@@ -326,19 +347,19 @@ impl Game {
     /// posted: the mode held the end of the ball, and no other mode does.
     pub fn release(&mut self, mode: ModeId) -> bool
         requires { mode.0 < 64 }
-        ensures released { self.new ≡ record self.old { state = released mode self.old.state } }
+        ensures released { self.new ≡ record self.old { state = release mode self.old.state } }
         ensures ends { result ≡ ends_ball mode self.old.state }
     {
         let number = mode.0 as usize;
-        let held = self.holders[number];
+        let is_holder = self.holders[number];
         self.holders[number] = false;
-        held && !self.is_held()
+        is_holder && !self.is_held()
     }
 
     /// The game ends, and the scores are told.
     fn end(&mut self, players: &mut Players<'_>) -> GameWork
-        ensures game { self.new ≡ record self.old { state = ended self.old.state } }
-        ensures players { players.new ≡ record players.old { state = turned 0 players.old.state } }
+        ensures game { self.new ≡ record self.old { state = end_game self.old.state } }
+        ensures players { players.new ≡ record players.old { state = make_current 0 players.old.state } }
         ensures posts { result.posts.items ≡ [] }
         ensures requests { result.requests ≡ false }
         ensures finals { result.finals ≡ true }
@@ -354,7 +375,7 @@ impl Game {
 
 /// There is one player more, if there can be.
 fn add(players: &mut Players<'_>) -> GameWork
-    ensures players { players.new ≡ record players.old { state = added players.old.plan players.old.state } }
+    ensures players { players.new ≡ record players.old { state = add_player players.old.plan players.old.state } }
     ensures posts { result.posts.items ≡ [] }
     ensures requests { result.requests ≡ false }
     ensures finals { result.finals ≡ false }
@@ -365,7 +386,7 @@ fn add(players: &mut Players<'_>) -> GameWork
 
 /// The first player's turn is to start.
 fn turn_first(players: &mut Players<'_>) -> GameWork
-    ensures players { players.new ≡ record players.old { state = turned 1 players.old.state } }
+    ensures players { players.new ≡ record players.old { state = make_current 1 players.old.state } }
     ensures posts { result.posts.items ≡ GameEvent.PlayerTurnWillStart ∷ [] }
     ensures requests { result.requests ≡ false }
     ensures finals { result.finals ≡ false }
@@ -387,8 +408,10 @@ fn go_on(players: &mut Players<'_>) -> GameWork
 
 /// The turn has ended: the game is over, or the next player's turn is to start.
 fn end_turn(rules: GameRules, players: &mut Players<'_>) -> GameWork
-    ensures players { (game : GameState) → players.new ≡ record players.old { state = (turn_ended rules players.old.plan game players.old.state).players } }
-    ensures posts { (game : GameState) → result.posts.items ≡ (turn_ended rules players.old.plan game players.old.state).posts }
+    ensures players { (game : GameState) → players.new
+        ≡ record players.old { state = (turn_ended rules players.old.plan game players.old.state).players } }
+    ensures posts { (game : GameState) → result.posts.items
+        ≡ (turn_ended rules players.old.plan game players.old.state).posts }
     ensures requests { result.requests ≡ false }
     ensures finals { result.finals ≡ false }
 {

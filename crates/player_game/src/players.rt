@@ -1,11 +1,11 @@
 //! The players of a game.
 
 ghost use Rattle.std.specs.Prelude.{◌≡◌, ◌≤◌};
-ghost use Rattle.player_game.specs.Players.{acted, most_players};
+ghost use Rattle.player_game.specs.Players.{act_on, most_players};
 
 use crate::slot::Slot;
 use crate::special::Special;
-use device_objects::values::clamped;
+use device_objects::values::clamp_value;
 use machine_settings::VariableAction;
 use plan_tables::{Condition, Plan, VariableId};
 use std::alloc::{AllocError, Global};
@@ -43,7 +43,9 @@ impl<'p> Model for Players<'p> {
 impl<'p> Players<'p> {
     ghost use Rattle.std.specs.Prelude.{◌≡◌, ◌<◌, ◌≤◌, nat_lt, length, IfOk, IsSome};
     ghost use Rattle.plan_tables.specs.Valid.{IsConditionWithin};
-    ghost use Rattle.player_game.specs.Players.{added, after_change, ball_now, changed_to, is_met, most_players, next_ball, no_players, score_of, turned, value_now, value_of, with_current, with_value};
+    ghost use Rattle.player_game.specs.Players.{add_player, after_change, ball_now, changed_to, is_met, most_players};
+    ghost use Rattle.player_game.specs.Players.{next_ball, no_players, score_of, make_current, value_now, value_of};
+    ghost use Rattle.player_game.specs.Players.{with_current, with_value};
     ghost use Rattle.player_game.specs.Choices.{AreFew};
 
     /// No players.
@@ -81,7 +83,7 @@ impl<'p> Players<'p> {
     /// Adds a player, whose variables are 0, if there can be one player more. Reports whether
     /// there can be. If not, nothing has changed.
     pub fn add(&mut self) -> bool
-        ensures state { self.new ≡ record self.old { state = added self.old.plan self.old.state } }
+        ensures state { self.new ≡ record self.old { state = add_player self.old.plan self.old.state } }
         ensures added { result ≡ nat_lt (length self.old.state.players) (most_players self.old.plan.game) }
         ensures few { AreFew self.new.plan self.new.state }
     {
@@ -104,7 +106,7 @@ impl<'p> Players<'p> {
 
     /// The player of this number becomes the current one. If there is no such player, none is.
     pub fn turn(&mut self, player: usize)
-        ensures state { self.new ≡ record self.old { state = turned player self.old.state } }
+        ensures state { self.new ≡ record self.old { state = make_current player self.old.state } }
         ensures few { AreFew self.new.plan self.new.state }
     {
         self.current = if player <= self.count { player } else { 0 };
@@ -143,10 +145,11 @@ impl<'p> Players<'p> {
     ) -> Option<i64>
         requires { variable.0 < length self.old.plan.variables }
         ensures value { result ≡ changed_to self.old.plan variable action number self.old.state }
-        ensures state { self.new ≡ record self.old { state = after_change self.old.plan variable result self.old.state } }
+        ensures state { self.new ≡ record self.old
+            { state = after_change self.old.plan variable result self.old.state } }
         ensures few { AreFew self.new.plan self.new.state }
     {
-        let value = self.changed(variable, action, number)?;
+        let value = self.changed_value(variable, action, number)?;
         self.put(variable, value);
         Some(value)
     }
@@ -155,7 +158,8 @@ impl<'p> Players<'p> {
     fn put(&mut self, variable: VariableId, value: i64)
         requires some { 1 ≤ self.old.state.current }
         requires variable { variable.0 < length self.old.plan.variables }
-        ensures state { self.new ≡ record self.old { state = with_current self.old.plan (with_value variable value) self.old.state } }
+        ensures state { self.new ≡ record self.old
+            { state = with_current self.old.plan (with_value variable value) self.old.state } }
         ensures few { AreFew self.new.plan self.new.state }
     {
         let slot = &mut self.slots[self.current - 1];
@@ -163,7 +167,12 @@ impl<'p> Players<'p> {
     }
 
     /// What a variable of the current player becomes, if it becomes another value.
-    fn changed(&self, variable: VariableId, action: VariableAction, number: i64) -> Option<i64>
+    fn changed_value(
+        &self,
+        variable: VariableId,
+        action: VariableAction,
+        number: i64,
+    ) -> Option<i64>
         requires { variable.0 < length self.now.plan.variables }
         ensures value { result ≡ changed_to self.now.plan variable action number self.now.state }
         ensures current { IsSome result → 1 ≤ self.now.state.current }
@@ -173,7 +182,7 @@ impl<'p> Players<'p> {
             return None;
         }
         let old = self.value(self.current, variable);
-        let new = acted(action, number, old);
+        let new = act_on(action, number, old);
         if new == old { None } else { Some(new) }
     }
 
@@ -256,11 +265,11 @@ fn most_players(plan: &Plan) -> usize
 }
 
 /// What an action makes of a value.
-fn acted(action: VariableAction, number: i64, value: i64) -> i64
-    ensures { result ≡ acted action number value }
+fn act_on(action: VariableAction, number: i64, value: i64) -> i64
+    ensures { result ≡ act_on action number value }
 {
     match action {
-        VariableAction::Add => clamped(i128::from(value) + i128::from(number)),
-        VariableAction::Set => clamped(i128::from(number)),
+        VariableAction::Add => clamp_value(i128::from(value) + i128::from(number)),
+        VariableAction::Set => clamp_value(i128::from(number)),
     }
 }

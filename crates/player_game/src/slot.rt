@@ -1,6 +1,6 @@
 //! The place of one player.
 
-use device_objects::values::clamped;
+use device_objects::values::clamp_value;
 use plan_tables::VariableId;
 use std::alloc::{AllocError, Global};
 use std::marker::Model;
@@ -69,6 +69,6 @@ impl Slot {
     pub(crate) fn next_ball(&mut self)
         ensures { self.new ≡ with_next_ball self.old }
     {
-        self.ball = clamped(i128::from(self.ball) + 1);
+        self.ball = clamp_value(i128::from(self.ball) + 1);
     }
 }

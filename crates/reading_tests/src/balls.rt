@@ -2,7 +2,7 @@
 
 use crate::pen::Pen;
 use mpf_config::Section;
-use mpf_sections::{BallDevice, as_ball_device};
+use mpf_sections::{BallDeviceEntry, as_ball_device};
 use mpf_tables::tables::BALL_DEVICES_NAME;
 
 /// Texts with one section, and its entries or their fault.
@@ -68,7 +68,7 @@ pub(crate) const BALLS: &str = "\
 @¶modes: m¶@m¶ball_devices:¶ => error 4 UnknownSection modes/m/config/m.yaml 2 ball_devices¶
 ";
 
-fn show_ball_device(pen: &mut Pen, device: BallDevice<'_>) {
+fn show_ball_device(pen: &mut Pen, device: BallDeviceEntry<'_>) {
     pen.entry(device.name);
     pen.listed(device.switches);
     pen.name_at(device.eject_coil);

@@ -190,8 +190,8 @@ fn show_switches(pen: &mut Pen, section: &Section) {
         pen.shown(row.debounce);
         pen.put(";");
         pen.listed(row.tags);
-        pen.listed(row.activated);
-        pen.listed(row.deactivated);
+        pen.listed(row.activation_events);
+        pen.listed(row.deactivation_events);
         pen.put("\n");
     }
 }

@@ -1,7 +1,9 @@
 //! Coils, coil players, flippers and autofire coils of bundles, by the names of their settings.
 
 use crate::pen::Pen;
-use mpf_config::{Keyed, Section, as_autofire, as_coil, as_coil_item, as_coil_player, as_flipper};
+use mpf_config::{
+    KeyedValues, Section, as_autofire, as_coil, as_coil_item, as_coil_player, as_flipper,
+};
 use mpf_sections::Rule;
 use mpf_tables::tables::{AUTOFIRE_COILS_NAME, COIL_PLAYER_NAME, COILS_NAME, FLIPPERS_NAME};
 
@@ -35,7 +37,7 @@ fn show_coils(pen: &mut Pen, section: &Section) {
     }
 }
 
-fn show_items(pen: &mut Pen, items: &[Keyed]) {
+fn show_items(pen: &mut Pen, items: &[KeyedValues]) {
     for keyed in items {
         let item = as_coil_item(keyed);
         pen.put(" ");

@@ -2,12 +2,12 @@
 
 use crate::cases::assert_text;
 use crate::pen::Pen;
-use config_faults::{ConfigFault, Fault, FaultKind};
+use config_faults::{BundleFault, BundleFaultKind, ConfigFault};
 use mpf_values::{BadValue, ListFault};
 use std::alloc::Global;
 use std::fmt::Display;
 use yaml_subset::YamlFault;
-use yaml_subset::fault::{Fault as YamlTextFault, FaultKind as YamlKind};
+use yaml_subset::fault::{TextFault as YamlTextFault, TextFaultKind as YamlKind};
 
 /// Adds what an error says.
 fn say<E: Display + Drop>(pen: &mut Pen, error: E) {
@@ -41,8 +41,8 @@ fn say_value_faults(pen: &mut Pen) {
 }
 
 /// A fault of this kind at line 4.
-fn fault_of(alloc: Global, kind: FaultKind) -> Fault {
-    Fault {
+fn fault_of(alloc: Global, kind: BundleFaultKind) -> BundleFault {
+    BundleFault {
         kind,
         text: Vec::new(alloc),
         line: 4,
@@ -52,20 +52,20 @@ fn fault_of(alloc: Global, kind: FaultKind) -> Fault {
 
 fn say_config_faults(pen: &mut Pen) {
     for kind in [
-        FaultKind::Bundle,
-        FaultKind::Version,
-        FaultKind::Yaml(YamlKind::Tab),
-        FaultKind::UnknownSection,
-        FaultKind::UnknownSetting,
-        FaultKind::BadValue,
-        FaultKind::Missing,
-        FaultKind::Duplicate,
-        FaultKind::Limit,
+        BundleFaultKind::Bundle,
+        BundleFaultKind::Version,
+        BundleFaultKind::Yaml(YamlKind::Tab),
+        BundleFaultKind::UnknownSection,
+        BundleFaultKind::UnknownSetting,
+        BundleFaultKind::BadValue,
+        BundleFaultKind::Missing,
+        BundleFaultKind::Duplicate,
+        BundleFaultKind::Limit,
     ] {
         let fault = fault_of(pen.alloc, kind);
         say(pen, fault);
     }
-    let missing = fault_of(pen.alloc, FaultKind::Missing);
+    let missing = fault_of(pen.alloc, BundleFaultKind::Missing);
     say(pen, ConfigFault::Bundle(missing));
     say(pen, ConfigFault::NoMemory);
 }

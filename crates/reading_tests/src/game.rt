@@ -2,7 +2,7 @@
 
 use crate::pen::Pen;
 use mpf_config::{
-    Content, GAME_NAME, Keyed, MACHINE_SECTION_NAME, Section, as_game, as_variable_item,
+    Content, GAME_NAME, KeyedValues, MACHINE_SECTION_NAME, Section, as_game, as_variable_item,
     as_variable_player, min_balls,
 };
 use mpf_tables::tables::VARIABLE_PLAYER_NAME;
@@ -26,7 +26,7 @@ pub(crate) const GAMES: &str = "\
 @¶modes: m¶@m¶variable_player:¶  x: {«1025 a№: 1, »}¶ => error 9 Limit modes/m/config/m.yaml 3 x¶
 ";
 
-fn show_items(pen: &mut Pen, items: &[Keyed]) {
+fn show_items(pen: &mut Pen, items: &[KeyedValues]) {
     for keyed in items {
         let item = as_variable_item(keyed);
         pen.entry(item.variable);

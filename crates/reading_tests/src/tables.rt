@@ -8,10 +8,10 @@ use config_faults::ConfigFault;
 use mpf_sections::as_handled;
 use mpf_tables::{TextKind, shape_of};
 use section_tables::rows::{Entry, Player};
-use section_tables::table::{Barred, PlayerKinds, Setting, Shape, Without};
+use section_tables::table::{BarredNames, PlayerKinds, Setting, Shape, Without};
 use section_tables::{entries, entry, name_list, players};
 use setting_values::kinds::{Absent, Bounds, Field, Kind, Others, Scalar};
-use setting_values::values::{Fields, Keyed, Plain, Value};
+use setting_values::values::{Fields, KeyedValues, Plain, Value};
 use yaml_subset::{Key, Tree};
 
 macro_rules! setting {
@@ -508,7 +508,7 @@ fn show_maps(pen: &mut Pen, maps: &[Fields]) {
     }
 }
 
-fn show_keyed(pen: &mut Pen, keyed: &[Keyed]) {
+fn show_keyed(pen: &mut Pen, keyed: &[KeyedValues]) {
     for one in keyed {
         pen.name(&one.name);
         show_plains(pen, &one.values);
@@ -588,7 +588,7 @@ fn show_entry_by(pen: &mut Pen, table: &[Setting], pair: &(Key, Tree)) {
     }
 }
 
-fn show_entries_by(pen: &mut Pen, barred: Barred, table: &[Setting], pair: &(Key, Tree)) {
+fn show_entries_by(pen: &mut Pen, barred: BarredNames, table: &[Setting], pair: &(Key, Tree)) {
     match entries(pen.alloc, barred, table, b"t", pair) {
         Ok(rows) => show_entries(pen, &rows),
         Err(fault) => show_fault(pen, &fault),

@@ -56,8 +56,10 @@ pub fn device_of(row: &DeviceRow) -> Option<RowDevice>
 ///
 /// `AllocError`: memory ran out.
 pub fn devices_of(alloc: Global, rows: &[DeviceRow]) -> Result<Vec<RowDevice>, AllocError>
-    ensures rows { IfOk result (λ devices. All (λ row. HasDevice row.settings) rows.now → map ⟦<RowDevice as Device>⟧.row_of devices.items ≡ rows.now) }
-    ensures first { IfOk result (λ devices. All (λ row. HasDevice row.settings) rows.now → map ⟦<RowDevice as Device>⟧.state_of devices.items ≡ map (λ row. first_state row.settings) rows.now) }
+    ensures rows { IfOk result (λ devices. All (λ row. HasDevice row.settings) rows.now
+        → map ⟦<RowDevice as Device>⟧.row_of devices.items ≡ rows.now) }
+    ensures first { IfOk result (λ devices. All (λ row. HasDevice row.settings) rows.now
+        → map ⟦<RowDevice as Device>⟧.state_of devices.items ≡ map (λ row. first_state row.settings) rows.now) }
 {
     let mut devices = Vec::with_capacity(alloc, rows.len())?;
     for row in rows {

@@ -3,7 +3,7 @@ use Rattle.std.proofs.Common.{◌≡◌, ◌==◌, ℕ, true, List, length, [], 
 use Rattle.std.{specs.List.{All, flat_map}, proofs.lemmas.{Bool.eqb-true, List.append-nil}}
 use Rattle.section_tables.specs.Shapes.{Setting}
 use Rattle.mpf_tables.specs.SectionTables as tables
-use Rattle.mpf_sections.specs.{Rows.{Written, Switch, BlockEvents, Counter, StepBlock}, Typed.place_of}
+use Rattle.mpf_sections.specs.{Rows.{WrittenName, Switch, BlockEvents, CounterEntry, StepBlock}, Typed.place_of}
 use Rattle.row_faults.specs.AsWritten.{put_by, ordered_by, written_before, in_order, as_written}
 use Rattle.row_faults.specs.Reserved.{switch_posts, block_posts, counter_posts, step_posts}
 use Rattle.row_faults.proofs.{None.flat_map-none, ByLine.{ordered-all, ordered-seen}}
@@ -21,30 +21,36 @@ module _ {X : Type 0} (table : List Setting) (order : List ℕ) (parts : List (L
   unfolding in_order
   written-none e =
       let none : ℕ × List X → Type 0 = λ part. part.1 ≡ [] in
-      All-from_map none placed parts (ordered-all before none (map placed parts) (flat_map-none (λ (part : ℕ × List X). part.1) (ordered_by before (map placed parts)) e))
+      All-from_map none placed parts (ordered-all before none (map placed parts)
+      (flat_map-none (λ (part : ℕ × List X). part.1) (ordered_by before (map placed parts)) e))
 
   pub written-all : (P : X → Type 0) → All P (as_written table order parts) → All (λ part. All P part.1) parts
   unfolding in_order
   written-all P h =
       let all : ℕ × List X → Type 0 = λ part. All P part.1 in
-      All-from_map all placed parts (ordered-all before all (map placed parts) (All-from_flat_map P (λ (part : ℕ × List X). part.1) (ordered_by before (map placed parts)) h))
+      All-from_map all placed parts (ordered-all before all (map placed parts)
+      (All-from_flat_map P (λ (part : ℕ × List X). part.1) (ordered_by before (map placed parts)) h))
 
 -- what is of all posts of a switch or of a block is of those of each setting
-module _ (P : Written → Type 0) where
-  abbrev no_posts : List ℕ × List Written
+module _ (P : WrittenName → Type 0) where
+  abbrev no_posts : List ℕ × List WrittenName
   no_posts = ([], [])
 
-  pub switch-posts : (s : Switch) → All P (switch_posts s) → All P s.activated × All P s.deactivated
+  pub switch-posts : (s : Switch) → All P (switch_posts s) → All P s.activation_events × All P s.deactivation_events
   switch-posts s h =
-      let each = written-all tables.switches s.order ((codes "events_when_activated", s.activated) ∷ (codes "events_when_deactivated", s.deactivated) ∷ []) P h in
+      let each = written-all tables.switches s.order
+      ((codes "events_when_activated", s.activation_events)
+      ∷ (codes "events_when_deactivated", s.deactivation_events) ∷ []) P h in
       (each 0 no_posts (omega arith), each 1 no_posts (omega arith))
 
-  block-posts : (table : List Setting) (order : List ℕ) (b : BlockEvents) → All P (block_posts table order b) → All P b.hit × All P b.complete
+  block-posts : (table : List Setting) (order : List ℕ) (b : BlockEvents) → All P (block_posts table order b)
+      → All P b.hit × All P b.complete
   block-posts table order b h =
-      let each = written-all table order ((codes "events_when_hit", b.hit) ∷ (codes "events_when_complete", b.complete) ∷ []) P h in
+      let each = written-all table order ((codes "events_when_hit", b.hit) ∷ (codes "events_when_complete", b.complete)
+      ∷ []) P h in
       (each 0 no_posts (omega arith), each 1 no_posts (omega arith))
 
-  pub counter-posts : (c : Counter) → All P (counter_posts c) → All P c.block.hit × All P c.block.complete
+  pub counter-posts : (c : CounterEntry) → All P (counter_posts c) → All P c.block.hit × All P c.block.complete
   counter-posts c h = block-posts tables.counters c.order c.block h
 
   pub step-posts : (s : StepBlock) → All P (step_posts s) → All P s.block.hit × All P s.block.complete
@@ -55,11 +61,14 @@ module _ {A X : Type 0} (see : A → List X) (order : List ℕ) where
   abbrev seen : ℕ × A → ℕ × List X
   seen part = (part.0, see part.1)
 
-  seen-each : (parts : List (ℕ × A)) → flat_map (λ (part : ℕ × A). see part.1) parts ≡ flat_map (λ (part : ℕ × List X). part.1) (map seen parts)
+  seen-each : (parts : List (ℕ × A)) → flat_map (λ (part : ℕ × A). see part.1) parts
+      ≡ flat_map (λ (part : ℕ × List X). part.1) (map seen parts)
   seen-each [] = refl
   seen-each (p ∷ ps) = ap (λ (xs : List X). see p.1 ++ xs) (seen-each ps)
 
-  pub seen-in_order : (parts : List (ℕ × A)) → flat_map (λ part. see part.1) (ordered_by (λ part. written_before order part.0) parts) ≡ in_order order (map (λ part. (part.0, see part.1)) parts)
+  pub seen-in_order : (parts : List (ℕ × A))
+      → flat_map (λ part. see part.1) (ordered_by (λ part. written_before order part.0) parts)
+      ≡ in_order order (map (λ part. (part.0, see part.1)) parts)
   unfolding in_order
   seen-in_order parts =
       let before : ℕ × List X → ℕ = λ part. written_before order part.0 in
@@ -83,13 +92,17 @@ eqb-none : (order : List ℕ) → length order == 0 ≡ true → order ≡ []
 eqb-none [] e = refl
 eqb-none (x ∷ xs) e = absurd (omega (arith, eqb-true (length (x ∷ xs)) 0 e))
 
-pub seen-unwritten : {A X : Type 0} (see : A → List X) (order : List ℕ) (parts : List (ℕ × A)) → length order == 0 ≡ true → flat_map (λ part. see part.1) parts ≡ in_order order (map (λ part. (part.0, see part.1)) parts)
+pub seen-unwritten : {A X : Type 0} (see : A → List X) (order : List ℕ) (parts : List (ℕ × A))
+    → length order == 0 ≡ true → flat_map (λ part. see part.1) parts
+    ≡ in_order order (map (λ part. (part.0, see part.1)) parts)
 seen-unwritten see order parts none =
     ap (flat_map (λ part. see part.1)) (sym (ordered-unwritten parts))
     ∙ seen-in_order see [] parts
     ∙ ap (λ (places : List ℕ). in_order places (map (λ part. (part.0, see part.1)) parts)) (sym (eqb-none order none))
 
 -- two of them
-pub two-unwritten : {X : Type 0} (order : List ℕ) (p q : ℕ) (xs ys : List X) → length order == 0 ≡ true → in_order order ((p, xs) ∷ (q, ys) ∷ []) ≡ xs ++ ys
+pub two-unwritten : {X : Type 0} (order : List ℕ) (p q : ℕ) (xs ys : List X) → length order == 0 ≡ true
+    → in_order order ((p, xs) ∷ (q, ys) ∷ []) ≡ xs ++ ys
 two-unwritten {X = X} order p q xs ys none =
-    sym (seen-unwritten (λ (zs : List X). zs) order ((p, xs) ∷ (q, ys) ∷ []) none) ∙ ap (λ (zs : List X). xs ++ zs) (append-nil ys)
+    sym (seen-unwritten (λ (zs : List X). zs) order ((p, xs) ∷ (q, ys) ∷ []) none)
+    ∙ ap (λ (zs : List X). xs ++ zs) (append-nil ys)

@@ -1,7 +1,8 @@
 -- Lists without items, and the faults that they are made of.
-use Rattle.std.proofs.Common.{rules, ◌≡◌, ℕ, nat_lt, Bool, true, false, if◌then◌else◌, List, [], ◌∷◌, ◌++◌, map, refl, sym, ◌∙◌, inl, inr}
-use Rattle.std.{specs.List.{All, filter, flat_map}, proofs.lemmas.{Bool.cases_Bool, List.Elements.{All-nil, All-cons}}}
-use Rattle.mpf_sections.specs.Rows.{Written}
+use Rattle.std.proofs.Common.{rules, ◌≡◌, ℕ, nat_lt, Bool, true, false, if◌then◌else◌, List, [], ◌∷◌, ◌++◌, map, refl}
+use Rattle.std.proofs.{Common.{sym, ◌∙◌, inl, inr}, lemmas.{Bool.cases_Bool, List.Elements.{All-nil, All-cons}}}
+use Rattle.std.specs.List.{All, filter, flat_map}
+use Rattle.mpf_sections.specs.Rows.{WrittenName}
 use Rattle.row_faults.specs.{declared.fault.RowFaultKind.RowFaultKind, CoilFaults.fault_if, RowFaults.listed_once}
 use Rattle.row_faults.specs.{FaultView.RowFaultView, AsWritten.{put_by, ordered_by}}
 
@@ -9,7 +10,8 @@ pub filled : {X : Type 0} (x : X) (xs : List X) → x ∷ xs ≡ [] → ⊥
 filled x xs e = cc
 
 -- tests that find nothing
-pub fault_if-none : (wrong : Bool) (kind : RowFaultKind) (text : List ℕ) (w : Written) → fault_if wrong kind text w ≡ [] → wrong ≡ false
+pub fault_if-none : (wrong : Bool) (kind : RowFaultKind) (text : List ℕ) (w : WrittenName)
+    → fault_if wrong kind text w ≡ [] → wrong ≡ false
 fault_if-none x1 kind text w e = search rules
 
 pub map-none : {X Y : Type 0} (f : X → Y) (xs : List X) → map f xs ≡ [] → xs ≡ []
@@ -22,7 +24,8 @@ append-none (x ∷ xs) ys e = absurd (filled x (xs ++ ys) e)
 
 pub flat_map-none : {X Y : Type 0} (f : X → List Y) (xs : List X) → flat_map f xs ≡ [] → All (λ x. f x ≡ []) xs
 flat_map-none f [] e = All-nil (λ x. f x ≡ [])
-flat_map-none f (x ∷ xs) e = let both = append-none (f x) (flat_map f xs) e in All-cons (λ x. f x ≡ []) x xs both.0 (flat_map-none f xs both.1)
+flat_map-none f (x ∷ xs) e = let both = append-none (f x) (flat_map f xs) e
+    in All-cons (λ x. f x ≡ []) x xs both.0 (flat_map-none f xs both.1)
 
 pub filter-none : {X : Type 0} (p : X → Bool) (xs : List X) → filter p xs ≡ [] → All (λ x. p x ≡ false) xs
 filter-none p [] e = All-nil (λ x. p x ≡ false)

@@ -1,6 +1,6 @@
 -- Going on from place to place.
-use Rattle.std.proofs.Common.{◌≡◌, ℕ, zero, suc, ◌+◌, ◌<◌, ◌≤◌, List, length, map, get_or, refl, sym, ap, ◌∙◌, ⊎_elim, arith}
-use Rattle.std.proofs.{lemmas.{Bool.cases_lt, Simd.map-map}, Math.ListN.get_or-eq_default}
+use Rattle.std.proofs.Common.{◌≡◌, ℕ, zero, suc, ◌+◌, ◌<◌, ◌≤◌, List, length, map, get_or, refl, sym, ap, ◌∙◌, ⊎_elim}
+use Rattle.std.proofs.{Common.arith, lemmas.{Bool.cases_lt, Simd.map-map}, Math.ListN.get_or-eq_default}
 use Rattle.std.proofs.lemmas.List as lists
 use Rattle.row_faults.specs.Numbers.{after}
 
@@ -22,12 +22,14 @@ module _ (targets : List ℕ) where
   ends-are k n =
       ⊎_elim (λ (less : n < length targets). lists.get_or-map (after targets k) targets n n n less)
       (λ (le : length targets ≤ n).
-      let long : length (map (after targets k) targets) ≤ n = omega (arith, le, lists.length-map targets (after targets k)) in
+      let long : length (map (after targets k) targets) ≤ n =
+      omega (arith, le, lists.length-map targets (after targets k)) in
       get_or-eq_default (map (after targets k) targets) n long ∙ sym (after-beyond (suc k) n le))
       (cases_lt n (length targets))
 
   -- half of the times, and then as many and one more
-  pub twice-is : (h : ℕ) (half twice : List ℕ) → half ≡ map (after targets h) targets → twice ≡ map (λ n. get_or half n n) half → twice ≡ map (after targets (suc (h + h))) targets
+  pub twice-is : (h : ℕ) (half twice : List ℕ) → half ≡ map (after targets h) targets
+      → twice ≡ map (λ n. get_or half n n) half → twice ≡ map (after targets (suc (h + h))) targets
   twice-is h half twice first then =
       let same : h + suc h ≡ suc (h + h) = omega arith in
       then
@@ -38,7 +40,8 @@ module _ (targets : List ℕ) where
       ∙ ap (λ k. map (after targets k) targets) same
 
   -- and once more
-  pub once-more : (k : ℕ) (ends more : List ℕ) → ends ≡ map (after targets k) targets → more ≡ map (λ n. get_or targets n n) ends → more ≡ map (after targets (suc k)) targets
+  pub once-more : (k : ℕ) (ends more : List ℕ) → ends ≡ map (after targets k) targets
+      → more ≡ map (λ n. get_or targets n n) ends → more ≡ map (after targets (suc k)) targets
   once-more k ends more first then =
       let same : k + 1 ≡ suc k = omega arith in
       then

@@ -6,7 +6,8 @@ use Rattle.row_faults.specs.{FaultView.RowFaultView, FaultText.row_fault_number}
 abbrev pub is_in_order : RowFaultView → List RowFaultView → Bool
 is_in_order f [] = true
 is_in_order f (g ∷ gs) =
-    nat_le f.line g.line && ((nat_lt f.line g.line || nat_le (row_fault_number f.kind) (row_fault_number g.kind)) && bytes_eq f.text g.text)
+    nat_le f.line g.line && ((nat_lt f.line g.line || nat_le (row_fault_number f.kind) (row_fault_number g.kind))
+    && bytes_eq f.text g.text)
 
 -- whether a fault is on an earlier line than another, or has a lower number
 abbrev pub is_before : RowFaultView → RowFaultView → Bool

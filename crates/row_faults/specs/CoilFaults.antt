@@ -1,31 +1,31 @@
 -- What is wrong with coils, and with what is said of them elsewhere. Here `machine` is the sections of the machine
 -- text, which define the coils and the switches, and `text` is the name of the text.
-use Rattle.std.specs.Prelude.{ℕ, nat_lt, Bool, true, false, not, ◌&&◌, ◌||◌, List, [], ◌∷◌, ◌++◌, Option, Some, None, codes}
-use Rattle.std.specs.{List.flat_map, Option.is_none}
+use Rattle.std.specs.Prelude.{ℕ, nat_lt, Bool, true, false, not, ◌&&◌, ◌||◌, List, [], ◌∷◌, ◌++◌, Option, Some, None}
+use Rattle.std.specs.{Prelude.codes, List.flat_map, Option.is_none}
 use Rattle.mpf_tables.specs.SectionTables as tables
 use Rattle.mpf_sections.specs.declared.words.CoilAction.{CoilAction, TheVariants.{Pulse, Enable, Disable}}
-use Rattle.mpf_sections.specs.Rows.{Written, Coil, CoilItem, CoilPlayer, Flipper, Autofire, SectionRows}
+use Rattle.mpf_sections.specs.Rows.{WrittenName, Coil, CoilItem, CoilPlayer, FlipperEntry, AutofireEntry, SectionRows}
 use Rattle.mpf_sections.specs.CoilRules.{CoilRule, flipper, autofire}
 use Rattle.machine_definitions.specs.Definitions.{coil_called, has_switch}
 use Rattle.row_faults.specs.{declared.fault.RowFaultKind.RowFaultKind, FaultView.RowFaultView, AsWritten.as_written}
 use Rattle.row_faults.specs.declared.fault.RowFaultKind.TheVariants.{Name, PulseLimit, PowerLimit, HoldNotAllowed}
 
 -- a fault of this kind at a name
-abbrev pub fault_at : RowFaultKind → List ℕ → Written → RowFaultView
+abbrev pub fault_at : RowFaultKind → List ℕ → WrittenName → RowFaultView
 fault_at kind text w = record { kind = kind; text = text; line = w.line; name = w.text }
 
 -- it, if something is wrong
-abbrev pub fault_if : Bool → RowFaultKind → List ℕ → Written → List RowFaultView
+abbrev pub fault_if : Bool → RowFaultKind → List ℕ → WrittenName → List RowFaultView
 fault_if true kind text w = fault_at kind text w ∷ []
 fault_if false kind text w = []
 
 -- ---- names
 
 -- a name of a coil, or of a switch, that no entry defines
-abbrev pub coil_name_faults : List SectionRows → List ℕ → Written → List RowFaultView
+abbrev pub coil_name_faults : List SectionRows → List ℕ → WrittenName → List RowFaultView
 coil_name_faults machine text w = fault_if (is_none (coil_called machine w.text)) Name text w
 
-abbrev pub switch_name_faults : List SectionRows → List ℕ → Written → List RowFaultView
+abbrev pub switch_name_faults : List SectionRows → List ℕ → WrittenName → List RowFaultView
 switch_name_faults machine text w = fault_if (not (has_switch machine w.text)) Name text w
 
 -- ---- entries of `coils`
@@ -53,7 +53,8 @@ abbrev pub item_faults_by : List ℕ → CoilItem → Option Coil → List RowFa
 item_faults_by text i None = fault_at Name text i.coil ∷ []
 item_faults_by text i (Some c) =
     fault_if (is_above i.pulse_ms c.max_pulse_ms) PulseLimit text i.coil
-    ++ fault_if (is_above i.pulse_power c.max_pulse_power || is_above i.hold_power c.max_hold_power) PowerLimit text i.coil
+    ++ fault_if (is_above i.pulse_power c.max_pulse_power || is_above i.hold_power c.max_hold_power) PowerLimit text
+    i.coil
     ++ fault_if (is_enable i.action && not c.may_hold) HoldNotAllowed text i.coil
 
 abbrev pub item_faults : List SectionRows → List ℕ → CoilItem → List RowFaultView
@@ -65,17 +66,18 @@ coil_player_faults machine text p = flat_map (item_faults machine text) p.items
 -- ---- coil rules
 
 -- a coil that is to be held and may not be is at fault at the line of the entry that holds it
-abbrev pub hold_faults_by : List ℕ → ℕ → Written → Option Coil → List RowFaultView
+abbrev pub hold_faults_by : List ℕ → ℕ → WrittenName → Option Coil → List RowFaultView
 hold_faults_by text line w None = fault_at Name text w ∷ []
-hold_faults_by text line w (Some c) = fault_if (not c.may_hold) HoldNotAllowed text (record { line = line; text = w.text })
+hold_faults_by text line w (Some c) = fault_if (not c.may_hold) HoldNotAllowed text
+    (record { line = line; text = w.text })
 
 -- what is wrong with the coil that an entry at this line holds, if it holds one
-abbrev pub hold_faults : List SectionRows → List ℕ → ℕ → Option Written → List RowFaultView
+abbrev pub hold_faults : List SectionRows → List ℕ → ℕ → Option WrittenName → List RowFaultView
 hold_faults machine text line None = []
 hold_faults machine text line (Some w) = hold_faults_by text line w (coil_called machine w.text)
 
 -- what is wrong with the settings of an entry, in the order in which they are written
-abbrev pub flipper_faults : List SectionRows → List ℕ → Flipper → List RowFaultView
+abbrev pub flipper_faults : List SectionRows → List ℕ → FlipperEntry → List RowFaultView
 flipper_faults machine text f =
     as_written tables.flippers f.rule.order
     ((codes "main_coil", coil_name_faults machine text f.main_coil)
@@ -83,9 +85,11 @@ flipper_faults machine text f =
     ∷ (codes "activation_switch", switch_name_faults machine text f.rule.switch)
     ∷ [])
 
-abbrev pub autofire_faults : List SectionRows → List ℕ → Autofire → List RowFaultView
+abbrev pub autofire_faults : List SectionRows → List ℕ → AutofireEntry → List RowFaultView
 autofire_faults machine text a =
-    as_written tables.autofire_coils a.rule.order ((codes "coil", coil_name_faults machine text a.coil) ∷ (codes "switch", switch_name_faults machine text a.rule.switch) ∷ [])
+    as_written tables.autofire_coils a.rule.order
+    ((codes "coil", coil_name_faults machine text a.coil)
+    ∷ (codes "switch", switch_name_faults machine text a.rule.switch) ∷ [])
 
 -- what is wrong with a coil rule, if the entry is one
 abbrev pub rule_faults : List SectionRows → List ℕ → Option CoilRule → List RowFaultView

@@ -1,38 +1,45 @@
 -- The faults of sections and entries as the code has them, and what its lists and sets gain.
-use Rattle.std.specs.Prelude.{◌≡◌, ◌⊎◌, ◌||◌, ℕ, Bool, List, [], ◌++◌, length, map, filter, codes, Option, Some, option_map}
-use Rattle.std.specs.{List.{flat_map, list_any}, Str.bytes_eq, Borrow.Bor, Global.{Vec, Global}, BTreeSet.BTreeSet}
-use Rattle.std.specs.{HashMap.HashMap, HashSet.HashSet, declared.borrow.CowSlice.CowSlice}
+use Rattle.std.specs.Prelude.{◌≡◌, ◌⊎◌, ◌||◌, ℕ, Bool, List, [], ◌++◌, length, map, filter, codes, Option, Some}
+use Rattle.std.specs.{Prelude.option_map, BTreeSet.BTreeSet, declared.borrow.CowSlice.CowSlice}
+use Rattle.std.specs.{List.{flat_map, list_any}, HashMap.HashMap, HashSet.HashSet}
+use Rattle.std.specs.{Str.bytes_eq, Borrow.Bor, Global.{Vec, Global}}
 use Rattle.yaml_subset.specs.Keys.{is_among, copies_view}
 use Rattle.setting_values.specs.declared.values.Name.{Name}
 use Rattle.section_tables.specs.declared.rows.Entry as entry_rows
-use Rattle.setting_values.specs.declared.values.Keyed as keyed_rows
+use Rattle.setting_values.specs.declared.values.KeyedValues as keyed_rows
 use Rattle.mpf_sections.specs.declared.{section.Section.Section, typed.NameAt.NameAt}
 use Rattle.mpf_sections.specs.declared.coils.Coil as typed_coils
 use Rattle.mpf_sections.specs.declared.coils.CoilItem as typed_coil_items
-use Rattle.mpf_sections.specs.declared.coil_rules.Flipper as typed_flippers
-use Rattle.mpf_sections.specs.declared.coil_rules.Autofire as typed_autofires
-use Rattle.mpf_sections.specs.declared.balls.BallDevice as typed_balls
+use Rattle.mpf_sections.specs.declared.coil_rules.FlipperEntry as typed_flippers
+use Rattle.mpf_sections.specs.declared.coil_rules.AutofireEntry as typed_autofires
+use Rattle.mpf_sections.specs.declared.balls.BallDeviceEntry as typed_balls
 use Rattle.mpf_sections.specs.declared.game.VariableItem as typed_variable_items
 use Rattle.mpf_sections.specs.declared.shots.Shot as typed_shots
 use Rattle.mpf_sections.specs.declared.shots.ShotGroup as typed_groups
-use Rattle.mpf_sections.specs.{Rows.{Written, BallDevice, ShotGroup}, TypedGame.variable_item_of}
+use Rattle.mpf_sections.specs.{Rows.{WrittenName, BallDeviceEntry, ShotGroup}, TypedGame.variable_item_of}
 use Rattle.mpf_sections.specs.TypedShots.{shot_of, shots_in, shot_groups_in}
 use Rattle.mpf_sections.specs.Typed.{step_block_of, entries_in, switches_in, event_players_in, counters_in, timers_in}
 use Rattle.mpf_sections.specs.TypedCoils.{coils_in, coil_item_of, coil_players_in}
 use Rattle.mpf_sections.specs.{CoilRules.coil_rule_of, TypedBalls.ball_devices_in}
-use Rattle.mpf_sections.specs.View.{name_view, name_at_view, entry_view, keyed_view, content_view, section_view, coil_view, coil_item_view, flipper_view, autofire_view, ball_device_view, variable_item_view, shot_view, shot_group_view}
+use Rattle.mpf_sections.specs.View.{name_view, name_at_view, entry_view, keyed_view, content_view, section_view}
+use Rattle.mpf_sections.specs.View.{coil_view, coil_item_view, flipper_view, autofire_view, ball_device_view}
+use Rattle.mpf_sections.specs.View.{variable_item_view, shot_view, shot_group_view}
 use Rattle.mpf_config.specs.{declared.config.ModeText.ModeText, Rows.Rows, View.mode_view}
 use Rattle.machine_definitions.specs.{Definitions.ball_devices_of, Found.{is_found, section_rows}}
-use Rattle.row_faults.specs.declared.{fault.{RowFault.RowFault, RowFaultKind.RowFaultKind}, as_written.Named.Named}
-use Rattle.row_faults.specs.declared.fault.RowFaultKind.TheVariants.{Name as a_name, PulseLimit, PowerLimit, HoldNotAllowed, TimerAtEnd, BallRoute}
-use Rattle.row_faults.specs.{FaultView.RowFaultView, Named.named_faults}
+use Rattle.row_faults.specs.declared.fault.{RowFault.RowFault, RowFaultKind.RowFaultKind}
+use Rattle.row_faults.specs.{declared.as_written.NamedThing.NamedThing, FaultView.RowFaultView, Named.named_faults}
+use Rattle.row_faults.specs.declared.fault.RowFaultKind.TheVariants.{Name as a_name, PulseLimit, PowerLimit}
+use Rattle.row_faults.specs.declared.fault.RowFaultKind.TheVariants.{HoldNotAllowed, TimerAtEnd, BallRoute}
 use Rattle.row_faults.specs.{FaultText.row_fault_line, AsWritten.{ordered_by, in_order}}
 use Rattle.row_faults.specs.Reserved.{events_of_modes, switch_posts, player_posts, counter_posts, step_posts, posts_in}
 use Rattle.row_faults.specs.VariableFaults.{variable_item_faults, variable_faults}
-use Rattle.row_faults.specs.CoilFaults.{fault_if, coil_name_faults, switch_name_faults, coil_faults, item_faults_by, item_faults, coil_player_faults, hold_faults_by, hold_faults, flipper_faults, autofire_faults, rule_faults}
-use Rattle.row_faults.specs.ShotFaults.{shot_switch_faults, profile_faults, shot_faults, Listed, listed_with, listed_by, listed_in, listed_of, is_own_shot, is_misplaced, taken_after}
+use Rattle.row_faults.specs.CoilFaults.{fault_if, coil_name_faults, switch_name_faults, coil_faults, item_faults_by}
+use Rattle.row_faults.specs.CoilFaults.{item_faults, coil_player_faults, hold_faults_by, hold_faults, flipper_faults}
+use Rattle.row_faults.specs.{CoilFaults.{autofire_faults, rule_faults}, RowFaults.{text_faults, mode_faults}}
+use Rattle.row_faults.specs.ShotFaults.{shot_switch_faults, profile_faults, shot_faults, ListedShot, listed_with}
+use Rattle.row_faults.specs.ShotFaults.{listed_by, listed_in, listed_of, is_own_shot, is_misplaced, taken_after}
 use Rattle.row_faults.specs.BallFaults.{eject_coil_faults, target_faults, ball_device_faults, route_faults}
-use Rattle.row_faults.specs.RowFaults.{starts_at_end, timer_fault, coil_faults_in, section_faults, written_faults, text_faults, mode_faults}
+use Rattle.row_faults.specs.RowFaults.{starts_at_end, timer_fault, coil_faults_in, section_faults, written_faults}
 use Rattle.row_faults.specs.{Numbers.{number_found, number_of}, Collected.{FaultsView, group_faults}}
 use Rattle.row_faults.specs.View.{row_fault_view, row_faults_view, events_view, devices_view}
 
@@ -57,7 +64,7 @@ faults_of_coil f c = coil_faults f.text (coil_view c)
 abbrev pub faults_of_coil_players : FaultsView → Section → List RowFaultView
 faults_of_coil_players f s = flat_map (coil_player_faults f.rows.machine f.text) (coil_players_in (section_view s))
 
-abbrev pub faults_of_coil_items : FaultsView → List keyed_rows.Keyed → List RowFaultView
+abbrev pub faults_of_coil_items : FaultsView → List keyed_rows.KeyedValues → List RowFaultView
 faults_of_coil_items f items = flat_map (item_faults f.rows.machine f.text) (map coil_item_of (map keyed_view items))
 
 -- of an item, and of one by the limits of its coil
@@ -69,12 +76,13 @@ faults_by_limits f item c = item_faults_by f.text (coil_item_view item) (Some (c
 
 -- of the coil rules of a section, and of this entry of a section of this name
 abbrev pub faults_of_rules : FaultsView → Section → List RowFaultView
-faults_of_rules f s = flat_map (λ e. rule_faults f.rows.machine f.text (coil_rule_of s.name.items e)) (entries_in (content_view s.content))
+faults_of_rules f s = flat_map (λ e. rule_faults f.rows.machine f.text (coil_rule_of s.name.items e))
+    (entries_in (content_view s.content))
 
 abbrev pub faults_of_rule : FaultsView → List ℕ → entry_rows.Entry → List RowFaultView
 faults_of_rule f section entry = rule_faults f.rows.machine f.text (coil_rule_of section (entry_view entry))
 
-abbrev pub faults_of_flipper : FaultsView → typed_flippers.Flipper → List RowFaultView
+abbrev pub faults_of_flipper : FaultsView → typed_flippers.FlipperEntry → List RowFaultView
 faults_of_flipper f flipper = flipper_faults f.rows.machine f.text (flipper_view flipper)
 
 -- of the coil that an entry at this line holds, if it holds one; of the coil of this name
@@ -84,7 +92,7 @@ faults_of_hold_coil f line hold = hold_faults f.rows.machine f.text line (option
 abbrev pub faults_by_hold_limits : FaultsView → ℕ → NameAt → Option typed_coils.Coil → List RowFaultView
 faults_by_hold_limits f line hold c = hold_faults_by f.text line (name_at_view hold) (option_map coil_view c)
 
-abbrev pub faults_of_autofire : FaultsView → typed_autofires.Autofire → List RowFaultView
+abbrev pub faults_of_autofire : FaultsView → typed_autofires.AutofireEntry → List RowFaultView
 faults_of_autofire f a = autofire_faults f.rows.machine f.text (autofire_view a)
 
 -- ---- ball devices
@@ -92,7 +100,7 @@ faults_of_autofire f a = autofire_faults f.rows.machine f.text (autofire_view a)
 abbrev pub faults_of_ball_devices : FaultsView → Section → List RowFaultView
 faults_of_ball_devices f s = flat_map (ball_device_faults f.rows.machine f.text) (ball_devices_in (section_view s))
 
-abbrev pub faults_of_ball_device : FaultsView → typed_balls.BallDevice → List RowFaultView
+abbrev pub faults_of_ball_device : FaultsView → typed_balls.BallDeviceEntry → List RowFaultView
 faults_of_ball_device f b = ball_device_faults f.rows.machine f.text (ball_device_view b)
 
 abbrev pub faults_of_switch_names : FaultsView → List Name → List RowFaultView
@@ -113,20 +121,23 @@ abbrev pub texts_of : List Name → List (List ℕ)
 texts_of ns = map (λ w. w.text) (map name_view ns)
 
 -- a list of ball devices has grown by these
-abbrev pub GainsDeviceList : Vec typed_balls.BallDevice → Vec typed_balls.BallDevice → List BallDevice → Type 0
+abbrev pub GainsDeviceList : Vec typed_balls.BallDeviceEntry → Vec typed_balls.BallDeviceEntry → List BallDeviceEntry
+    → Type 0
 GainsDeviceList old new more = devices_view new.items ≡ devices_view old.items ++ more
 
 -- the numbers of their targets
-abbrev pub numbers_of_targets : {S : Type 0} → HashMap (Bor (List ℕ)) ℕ S → List typed_balls.BallDevice → List ℕ
-numbers_of_targets numbers devices = map (λ d. number_of (number_found numbers) (length devices) d.target.text) (devices_view devices)
+abbrev pub numbers_of_targets : {S : Type 0} → HashMap (Bor (List ℕ)) ℕ S → List typed_balls.BallDeviceEntry → List ℕ
+numbers_of_targets numbers devices = map (λ d. number_of (number_found numbers) (length devices) d.target.text)
+    (devices_view devices)
 
 -- ---- variables
 
 abbrev pub faults_of_variables : FaultsView → Section → List RowFaultView
 faults_of_variables f s = variable_faults f.modes f.text (section_view s)
 
-abbrev pub faults_of_variable_items : FaultsView → List keyed_rows.Keyed → List RowFaultView
-faults_of_variable_items f items = flat_map (variable_item_faults f.modes f.text) (map variable_item_of (map keyed_view items))
+abbrev pub faults_of_variable_items : FaultsView → List keyed_rows.KeyedValues → List RowFaultView
+faults_of_variable_items f items = flat_map (variable_item_faults f.modes f.text)
+    (map variable_item_of (map keyed_view items))
 
 abbrev pub faults_of_variable_item : FaultsView → typed_variable_items.VariableItem → List RowFaultView
 faults_of_variable_item f item = variable_item_faults f.modes f.text (variable_item_view item)
@@ -146,29 +157,33 @@ abbrev pub faults_of_shot_switch : FaultsView → Option NameAt → List RowFaul
 faults_of_shot_switch f switch = shot_switch_faults f.rows.machine f.text (option_map name_at_view switch)
 
 -- what the groups of sections list, of one section, and one group; and these names, if a group lists this shot first
-abbrev pub listed_by_sections : Rows → List Section → List Listed
+abbrev pub listed_by_sections : Rows → List Section → List ListedShot
 listed_by_sections rows sections = listed_of rows (section_rows sections)
 
-abbrev pub listed_by_section : Rows → Section → List Listed
+abbrev pub listed_by_section : Rows → Section → List ListedShot
 listed_by_section rows s = listed_in rows (section_view s)
 
-abbrev pub listed_by_group : Rows → typed_groups.ShotGroup → List Listed
+abbrev pub listed_by_group : Rows → typed_groups.ShotGroup → List ListedShot
 listed_by_group rows g = listed_by rows (shot_group_view g)
 
-abbrev pub names_listed : Option typed_shots.Shot → List Name → List Listed
+abbrev pub names_listed : Option typed_shots.Shot → List Name → List ListedShot
 names_listed first ns = listed_with (option_map shot_view first) (map name_view ns)
 
 -- the faults of what is listed, if the text defines its own shots and others are taken
-abbrev pub faults_of_listed : {S : Type 0} → FaultsView → HashSet (Bor (List ℕ)) S → HashSet (Bor (List ℕ)) S → List Listed → List RowFaultView
-faults_of_listed f own taken listed = group_faults f (is_found own) (is_found taken) listed
+abbrev pub faults_of_listed : {S : Type 0} → FaultsView → HashSet (Bor (List ℕ)) S → HashSet (Bor (List ℕ)) S
+    → List ListedShot → List RowFaultView
+faults_of_listed f own before group_names = group_faults f (is_found own) (is_found before) group_names
 
 -- the shots that are listed are taken too
-abbrev pub Takes : {S : Type 0} → HashSet (Bor (List ℕ)) S → HashSet (Bor (List ℕ)) S → List Listed → Type 0
-Takes old new listed = is_found new ≡ taken_after (is_found old) listed
+abbrev pub Takes : {S : Type 0} → HashSet (Bor (List ℕ)) S → HashSet (Bor (List ℕ)) S → List ListedShot → Type 0
+Takes old new group_names = is_found new ≡ taken_after (is_found old) group_names
 
 -- whether a group may not list the shot of this name
-abbrev pub is_misplaced_name : {S : Type 0} → FaultsView → HashSet (Bor (List ℕ)) S → HashSet (Bor (List ℕ)) S → Option typed_shots.Shot → ℕ → List ℕ → Bool
-is_misplaced_name f own taken first line name = is_misplaced f.rows (is_found own) (is_found taken) (record { first = option_map shot_view first; shot = record { line = line; text = name } })
+abbrev pub is_misplaced_name : {S : Type 0} → FaultsView → HashSet (Bor (List ℕ)) S → HashSet (Bor (List ℕ)) S
+    → Option typed_shots.Shot → ℕ → List ℕ → Bool
+is_misplaced_name f own before first line name =
+    is_misplaced f.rows (is_found own) (is_found before)
+    (record { first = option_map shot_view first; shot = record { line = line; text = name } })
 
 -- by each name is found whether the sections define a shot of this name; whether one of these entries does
 abbrev pub HasOwnShots : {S : Type 0} → List Section → HashSet (Bor (List ℕ)) S → Type 0
@@ -188,29 +203,29 @@ defines_shot entries name = list_any (λ s. bytes_eq name s.name.text) (map shot
 -- ---- posts of reserved events
 
 -- what a section posts; what of it switches post, event players, counters, and these accruals or sequences
-abbrev pub posts_by_section : Section → List Written
+abbrev pub posts_by_section : Section → List WrittenName
 posts_by_section s = posts_in (section_view s)
 
-abbrev pub posts_of_switches : Section → List Written
+abbrev pub posts_of_switches : Section → List WrittenName
 posts_of_switches s = flat_map switch_posts (switches_in (section_view s))
 
-abbrev pub posts_of_players : Section → List Written
+abbrev pub posts_of_players : Section → List WrittenName
 posts_of_players s = flat_map player_posts (event_players_in (section_view s))
 
-abbrev pub posts_of_counters : Section → List Written
+abbrev pub posts_of_counters : Section → List WrittenName
 posts_of_counters s = flat_map counter_posts (counters_in (section_view s))
 
-abbrev pub posts_of_steps : List entry_rows.Entry → List Written
+abbrev pub posts_of_steps : List entry_rows.Entry → List WrittenName
 posts_of_steps entries = flat_map step_posts (map step_block_of (map entry_view entries))
 
 -- what the settings of an entry post, as they are written, and as they are given; and these names
-abbrev pub posts_in_order : List ℕ → List (ℕ × Bor (List Name)) → List Written
+abbrev pub posts_in_order : List ℕ → List (ℕ × Bor (List Name)) → List WrittenName
 posts_in_order order parts = in_order order (map (λ part. (part.0, map name_view part.1.now)) parts)
 
-abbrev pub posts_of_parts : List (ℕ × Bor (List Name)) → List Written
+abbrev pub posts_of_parts : List (ℕ × Bor (List Name)) → List WrittenName
 posts_of_parts parts = flat_map (λ part. map name_view part.1.now) parts
 
-abbrev pub posts_of_names : List Name → List Written
+abbrev pub posts_of_names : List Name → List WrittenName
 posts_of_names ns = map name_view ns
 
 -- a set has these events
@@ -231,10 +246,10 @@ events_of_texts texts = events_of_modes (map (λ m. m.name) (map mode_view texts
 -- ---- entries, sections and texts
 
 -- what the settings of an entry name, as they are written, and as they are given
-abbrev pub faults_in_order : FaultsView → List ℕ → List (ℕ × Named) → List RowFaultView
+abbrev pub faults_in_order : FaultsView → List ℕ → List (ℕ × NamedThing) → List RowFaultView
 faults_in_order f order parts = in_order order (map (λ part. (part.0, named_faults f.rows f.text part.1)) parts)
 
-abbrev pub faults_of_parts : FaultsView → List (ℕ × Named) → List RowFaultView
+abbrev pub faults_of_parts : FaultsView → List (ℕ × NamedThing) → List RowFaultView
 faults_of_parts f parts = flat_map (λ part. named_faults f.rows f.text part.1) parts
 
 -- a fault of this name, if something is wrong
@@ -244,17 +259,24 @@ fault_where f wrong kind name = fault_if wrong kind f.text (name_at_view name)
 abbrev pub faults_of_timers : FaultsView → Section → List RowFaultView
 faults_of_timers f s = map (timer_fault f.text) (filter starts_at_end (timers_in (section_view s)))
 
-abbrev pub faults_of_section : {S : Type 0} → FaultsView → HashSet (Bor (List ℕ)) S → HashSet (Bor (List ℕ)) S → Section → List RowFaultView
-faults_of_section f own taken s = section_faults f.modes f.rows (is_found own) (is_found taken) f.text (section_view s)
+abbrev pub faults_of_section : {S : Type 0} → FaultsView → HashSet (Bor (List ℕ)) S → HashSet (Bor (List ℕ)) S → Section
+    → List RowFaultView
+faults_of_section f own before s = section_faults f.modes f.rows (is_found own) (is_found before) f.text
+    (section_view s)
 
-abbrev pub faults_of_sections : {S : Type 0} → FaultsView → HashSet (Bor (List ℕ)) S → HashSet (Bor (List ℕ)) S → List Section → List RowFaultView
-faults_of_sections f own taken sections = written_faults f.modes f.rows (is_found own) (is_found taken) f.text (section_rows sections)
+abbrev pub faults_of_sections : {S : Type 0} → FaultsView → HashSet (Bor (List ℕ)) S → HashSet (Bor (List ℕ)) S
+    → List Section → List RowFaultView
+faults_of_sections f own before sections =
+    written_faults f.modes f.rows (is_found own) (is_found before) f.text (section_rows sections)
 
-abbrev pub faults_of_text : {S : Type 0} → BTreeSet (Vec ℕ) → Rows → HashSet (Bor (List ℕ)) S → List ℕ → List Section → List RowFaultView
-faults_of_text modes rows taken text sections = text_faults (events_view modes) rows (is_found taken) text (section_rows sections)
+abbrev pub faults_of_text : {S : Type 0} → BTreeSet (Vec ℕ) → Rows → HashSet (Bor (List ℕ)) S → List ℕ → List Section
+    → List RowFaultView
+faults_of_text modes rows before text sections =
+    text_faults (events_view modes) rows (is_found before) text (section_rows sections)
 
-abbrev pub faults_of_modes : {S : Type 0} → BTreeSet (Vec ℕ) → Rows → HashSet (Bor (List ℕ)) S → List ModeText → List RowFaultView
-faults_of_modes modes rows taken texts = mode_faults (events_view modes) rows (is_found taken) (map mode_view texts)
+abbrev pub faults_of_modes : {S : Type 0} → BTreeSet (Vec ℕ) → Rows → HashSet (Bor (List ℕ)) S → List ModeText
+    → List RowFaultView
+faults_of_modes modes rows before texts = mode_faults (events_view modes) rows (is_found before) (map mode_view texts)
 
 -- a list of faults has grown by these
 abbrev pub GainsFaults : Vec RowFault → Vec RowFault → List RowFaultView → Type 0

@@ -1,11 +1,12 @@
 -- What holds of rows without faults: nothing that they say of a coil goes past its limits; the coils, switches, shots,
 -- profiles and ball devices of which they speak are defined; the balls of each ball device come to the playfield; and
 -- each ball switch is of one ball device, once. Here `machine` is the sections of the machine text.
-use Rattle.std.specs.Prelude.{◌≡◌, ◌≢◌, ℕ, ◌≤◌, true, false, ◌||◌, Option, None, Some, IfSome, IsSome, is_some, List, unwrap_or}
-use Rattle.std.specs.List.{All, AllPairs, flat_map}
+use Rattle.std.specs.Prelude.{◌≡◌, ◌≢◌, ℕ, ◌≤◌, true, false, ◌||◌, Option, None, Some, IfSome, IsSome, is_some, List}
+use Rattle.std.specs.{Prelude.unwrap_or, List.{All, AllPairs, flat_map}}
 use Rattle.mpf_sections.specs.declared.words.CoilAction.{CoilAction, TheVariants.{Pulse, Enable, Disable}}
-use Rattle.mpf_sections.specs.Rows.{Coil, CoilItem, CoilPlayer, Flipper, Autofire, VariableItem, Shot, ShotGroup, BallDevice, SectionRows}
-use Rattle.mpf_sections.specs.{Typed.entries_in, TypedGame.variable_players_in, TypedBalls.{is_trough, ball_devices_in}}
+use Rattle.mpf_sections.specs.Rows.{Coil, CoilItem, CoilPlayer, FlipperEntry, AutofireEntry, VariableItem, Shot}
+use Rattle.mpf_sections.specs.{Rows.{ShotGroup, BallDeviceEntry, SectionRows}, TypedBalls.{is_trough, ball_devices_in}}
+use Rattle.mpf_sections.specs.{Typed.entries_in, TypedGame.variable_players_in}
 use Rattle.mpf_sections.specs.{TypedCoils.{coils_in, coil_players_in}, TypedShots.{shots_in, shot_groups_in}}
 use Rattle.mpf_sections.specs.CoilRules.{CoilRule, flipper, autofire, coil_rule_of}
 use Rattle.mpf_config.specs.Rows.{Rows}
@@ -24,7 +25,7 @@ pub record IsPulseWithin (c : Coil) (ms power : ℕ) : Type 0 where
 
 -- the coil may be held with this power
 pub record IsHoldWithin (c : Coil) (power : ℕ) : Type 0 where
-  pub allowed : c.may_hold ≡ true
+  pub may_hold : c.may_hold ≡ true
   pub greatest : power ≤ c.max_hold_power
 
 -- what the coil's own entry says if nothing else is said
@@ -35,7 +36,7 @@ pub record IsCoilSound (c : Coil) : Type 0 where
 -- a coil of this name is defined, and this holds of it
 pub record IsCoilSuch (machine : List SectionRows) (name : List ℕ) (P : Coil → Type 0) : Type 0 where
   pub coil : Coil
-  pub called : coil_called machine name ≡ Some coil
+  pub by_name : coil_called machine name ≡ Some coil
   pub such : P coil
 
 -- ---- rows
@@ -53,12 +54,12 @@ abbrev pub IsCoilPlayerSound : List SectionRows → CoilPlayer → Type 0
 IsCoilPlayerSound machine p = All (IsItemSound machine) p.items
 
 -- A coil that holds the flipper up may be held. If there is none, the main coil is held if it may be, and else pulsed.
-pub record IsFlipperSound (machine : List SectionRows) (f : Flipper) : Type 0 where
+pub record IsFlipperSound (machine : List SectionRows) (f : FlipperEntry) : Type 0 where
   pub main_coil : IsCoilSuch machine f.main_coil.text IsCoilSound
   pub hold_coil : IfSome f.hold_coil (λ w. IsCoilSuch machine w.text (λ c. IsHoldWithin c c.hold_power))
   pub switch : has_switch machine f.rule.switch.text ≡ true
 
-pub record IsAutofireSound (machine : List SectionRows) (a : Autofire) : Type 0 where
+pub record IsAutofireSound (machine : List SectionRows) (a : AutofireEntry) : Type 0 where
   pub coil : IsCoilSuch machine a.coil.text IsCoilSound
   pub switch : has_switch machine a.rule.switch.text ≡ true
 
@@ -79,7 +80,7 @@ IsShotGroupSound rows g = All (λ w. IsSome (shot_called rows w.text)) g.shots
 
 -- the ball switches of a ball device are defined, and so is its eject coil, if it has one; its target is the playfield,
 -- or a ball device that is defined
-pub record IsBallDeviceSound (machine : List SectionRows) (d : BallDevice) : Type 0 where
+pub record IsBallDeviceSound (machine : List SectionRows) (d : BallDeviceEntry) : Type 0 where
   pub switches : All (λ w. has_switch machine w.text ≡ true) d.switches
   pub eject_coil : IfSome d.eject_coil (λ w. IsCoilSuch machine w.text IsCoilSound)
   pub target : is_place machine d.target.text ≡ true
@@ -96,13 +97,13 @@ pub record IsSectionSound (rows : Rows) (s : SectionRows) : Type 0 where
 
 -- The balls that a ball device ejects come to the playfield. It has a coil that ejects them, or they leave by
 -- themselves; a trough has a coil.
-pub record IsRouted (devices : List BallDevice) (d : BallDevice) : Type 0 where
+pub record IsRouted (devices : List BallDeviceEntry) (d : BallDeviceEntry) : Type 0 where
   pub leads : leads_to_playfield devices d ≡ true
   pub ejects : (is_some d.eject_coil || d.ejects.mechanical) ≡ true
   pub trough : is_trough d ≡ true → IsSome d.eject_coil
 
 -- This holds of each ball device, and each ball switch is of one ball device, once.
-pub record AreRouted (devices : List BallDevice) : Type 0 where
+pub record AreRouted (devices : List BallDeviceEntry) : Type 0 where
   pub each : All (IsRouted devices) devices
   pub switches : AllPairs (λ v w. v ≢ w) (flat_map switch_names devices)
 

@@ -1,7 +1,7 @@
 -- What contracts see of faults.
 use Rattle.std.specs.{Prelude.{ℕ, List, ◌++◌, map, codes}, BTreeSet.BTreeSet, Global.Vec, Rc.rc_slice_items}
-use Rattle.mpf_sections.specs.declared.balls.BallDevice as typed_balls
-use Rattle.mpf_sections.specs.{Rows.BallDevice, View.ball_device_view}
+use Rattle.mpf_sections.specs.declared.balls.BallDeviceEntry as typed_balls
+use Rattle.mpf_sections.specs.{Rows.BallDeviceEntry, View.ball_device_view}
 use Rattle.row_faults.specs.{declared.fault.RowFault.RowFault, FaultView.RowFaultView}
 
 abbrev pub row_fault_view : RowFault → RowFaultView
@@ -15,5 +15,5 @@ abbrev pub events_view : BTreeSet (Vec ℕ) → List (List ℕ)
 events_view set = map (λ rest. codes "mode_" ++ rest.items) set.keys
 
 -- ball devices, apart from where they lie in memory
-abbrev pub devices_view : List typed_balls.BallDevice → List BallDevice
+abbrev pub devices_view : List typed_balls.BallDeviceEntry → List BallDeviceEntry
 devices_view devices = map ball_device_view devices

@@ -15,7 +15,7 @@ use std::alloc::{AllocError, Global};
 
 /// What a setting of an entry names.
 #[derive(Clone, Copy)]
-pub(crate) enum Named<'a> {
+pub(crate) enum NamedThing<'a> {
     /// A coil, if it names one.
     Coil(Option<NameAt<'a>>),
     /// The coil that an entry at this line holds, if it names one.
@@ -52,11 +52,12 @@ pub(crate) fn as_written<T: Copy>(
     order: &[usize],
     parts: &[(usize, T)],
 ) -> Result<Vec<(usize, T)>, AllocError>
-    ensures { IfOk result (λ sorted. sorted.items ≡ ordered_by (λ part. written_before order.now part.0) parts.now) }
+    ensures { IfOk result (λ order_written. order_written.items
+        ≡ ordered_by (λ part. written_before order.now part.0) parts.now) }
 {
-    let mut sorted = Vec::from_slice(alloc, parts)?;
-    sorted.sort_by_key(|part| written_before(order, part.0))?;
-    Ok(sorted)
+    let mut order_written = Vec::from_slice(alloc, parts)?;
+    order_written.sort_by_key(|part| written_before(order, part.0))?;
+    Ok(order_written)
 }
 
 /// Adds what is wrong with the names that settings have, in the order in which the settings are
@@ -64,7 +65,7 @@ pub(crate) fn as_written<T: Copy>(
 pub(crate) fn add_as_written(
     faults: &mut Faults<'_, '_>,
     order: &[usize],
-    parts: &[(usize, Named<'_>)],
+    parts: &[(usize, NamedThing<'_>)],
 ) -> Result<(), AllocError>
     ensures { OnOk result (Gains faults.old faults.new (faults_in_order faults.old order.now parts.now)) }
 {
@@ -72,12 +73,15 @@ pub(crate) fn add_as_written(
         add_parts(faults, parts)?;
         return Ok(());
     }
-    let sorted = as_written(faults.alloc, order, parts)?;
-    add_parts(faults, &sorted)?;
+    let order_written = as_written(faults.alloc, order, parts)?;
+    add_parts(faults, &order_written)?;
     Ok(())
 }
 
-fn add_parts(faults: &mut Faults<'_, '_>, parts: &[(usize, Named<'_>)]) -> Result<(), AllocError>
+fn add_parts(
+    faults: &mut Faults<'_, '_>,
+    parts: &[(usize, NamedThing<'_>)],
+) -> Result<(), AllocError>
     ensures { OnOk result (Gains faults.old faults.new (faults_of_parts faults.old parts.now)) }
 {
     for part in parts {
@@ -87,15 +91,15 @@ fn add_parts(faults: &mut Faults<'_, '_>, parts: &[(usize, Named<'_>)]) -> Resul
 }
 
 /// Adds what is wrong with what a setting names.
-fn add_named(faults: &mut Faults<'_, '_>, named: Named<'_>) -> Result<(), AllocError>
-    ensures { OnOk result (Gains faults.old faults.new (named_faults faults.old.rows faults.old.text named.entry)) }
+fn add_named(faults: &mut Faults<'_, '_>, thing: NamedThing<'_>) -> Result<(), AllocError>
+    ensures { OnOk result (Gains faults.old faults.new (named_faults faults.old.rows faults.old.text thing.entry)) }
 {
-    match named {
-        Named::Coil(coil) => add_named_coil(faults, coil),
-        Named::HoldCoil(line, coil) => add_hold_coil(faults, line, coil),
-        Named::Switch(switch) => add_named_switch(faults, switch),
-        Named::Switches(switches) => add_switches(faults, switches),
-        Named::Profile(profile) => add_profile(faults, profile),
-        Named::Target(target) => add_target(faults, target),
+    match thing {
+        NamedThing::Coil(coil) => add_named_coil(faults, coil),
+        NamedThing::HoldCoil(line, coil) => add_hold_coil(faults, line, coil),
+        NamedThing::Switch(switch) => add_named_switch(faults, switch),
+        NamedThing::Switches(switches) => add_switches(faults, switches),
+        NamedThing::Profile(profile) => add_profile(faults, profile),
+        NamedThing::Target(target) => add_target(faults, target),
     }
 }

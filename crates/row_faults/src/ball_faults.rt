@@ -3,16 +3,17 @@
 ghost use Rattle.std.specs.Prelude.{◌≡◌, OnOk};
 ghost use Rattle.row_faults.specs.BallFaults.{is_place};
 ghost use Rattle.row_faults.specs.Collected.{Gains};
-ghost use Rattle.row_faults.specs.FaultsOf.{faults_of_ball_device, faults_of_ball_devices, faults_of_eject_coil, faults_of_switch_names, faults_of_target};
+ghost use Rattle.row_faults.specs.FaultsOf.{faults_of_ball_device, faults_of_ball_devices, faults_of_eject_coil};
+ghost use Rattle.row_faults.specs.FaultsOf.{faults_of_switch_names, faults_of_target};
 
-use crate::as_written::{Named, add_as_written};
+use crate::as_written::{NamedThing, add_as_written};
 use crate::coil_faults::{add_coil_name, add_switch_name};
 use crate::collector::{Faults, add_if, at};
 use crate::fault::RowFaultKind;
 use machine_definitions::Definitions;
 use mpf_config::{Name, NameAt, Section};
 use mpf_sections::balls::{BALL_SWITCHES, EJECT_COIL, EJECT_TARGETS};
-use mpf_sections::{BallDevice, as_ball_device};
+use mpf_sections::{BallDeviceEntry, as_ball_device};
 use mpf_tables::tables::{BALL_DEVICES_NAME, PLAYFIELD};
 use std::alloc::AllocError;
 
@@ -32,13 +33,16 @@ pub(crate) fn add_ball_devices(
 }
 
 /// Adds the faults of the names in a ball device.
-fn add_ball_device(faults: &mut Faults<'_, '_>, device: BallDevice<'_>) -> Result<(), AllocError>
+fn add_ball_device(
+    faults: &mut Faults<'_, '_>,
+    device: BallDeviceEntry<'_>,
+) -> Result<(), AllocError>
     ensures { OnOk result (Gains faults.old faults.new (faults_of_ball_device faults.old device.entry)) }
 {
     let parts = [
-        (BALL_SWITCHES, Named::Switches(device.switches)),
-        (EJECT_COIL, Named::Coil(device.eject_coil)),
-        (EJECT_TARGETS, Named::Target(device.target)),
+        (BALL_SWITCHES, NamedThing::Switches(device.switches)),
+        (EJECT_COIL, NamedThing::Coil(device.eject_coil)),
+        (EJECT_TARGETS, NamedThing::Target(device.target)),
     ];
     add_as_written(faults, device.order, &parts)
 }

@@ -3,14 +3,18 @@
 ghost use Rattle.std.specs.Prelude.{◌≡◌, ◌||◌, ◌&&◌, not, nat_lt, OnOk};
 ghost use Rattle.row_faults.specs.CoilFaults.{is_above, is_enable};
 ghost use Rattle.row_faults.specs.Collected.{Gains};
-ghost use Rattle.row_faults.specs.FaultsOf.{faults_by_limits, faults_of_autofire, faults_of_coil, faults_of_coil_item, faults_of_coil_items, faults_of_coil_name, faults_of_coil_players, faults_of_coils, faults_about_coils, faults_of_flipper, faults_of_rule, faults_of_rules, faults_by_hold_limits, faults_of_hold_coil, faults_of_switch_name};
+ghost use Rattle.row_faults.specs.FaultsOf.{faults_by_limits, faults_of_autofire, faults_of_coil, faults_of_coil_item};
+ghost use Rattle.row_faults.specs.FaultsOf.{faults_of_coil_items, faults_of_coil_name, faults_of_coil_players};
+ghost use Rattle.row_faults.specs.FaultsOf.{faults_of_coils, faults_about_coils, faults_of_flipper, faults_of_rule};
+ghost use Rattle.row_faults.specs.FaultsOf.{faults_of_rules, faults_by_hold_limits, faults_of_hold_coil};
+ghost use Rattle.row_faults.specs.FaultsOf.{faults_of_switch_name};
 
-use crate::as_written::{Named, add_as_written};
+use crate::as_written::{NamedThing, add_as_written};
 use crate::collector::{Faults, add_if, at};
 use crate::fault::RowFaultKind;
 use mpf_config::{
-    Autofire, Coil, CoilAction, CoilItem, Entry, Flipper, Keyed, NameAt, Section, as_coil,
-    as_coil_item, as_coil_player,
+    AutofireEntry, Coil, CoilAction, CoilItem, Entry, FlipperEntry, KeyedValues, NameAt, Section,
+    as_coil, as_coil_item, as_coil_player,
 };
 use mpf_sections::coil_rules::{ACTIVATION_SWITCH, COIL, HOLD_COIL, MAIN_COIL, SWITCH};
 use mpf_sections::{CoilRule, as_coil_rule};
@@ -77,7 +81,8 @@ fn add_coil(faults: &mut Faults<'_, '_>, coil: Coil<'_>) -> Result<(), AllocErro
 
 /// Whether a power of the coil's own is above the greatest one.
 fn is_strong(coil: Coil<'_>) -> bool
-    ensures { result ≡ (nat_lt coil.entry.max_pulse_power coil.entry.pulse_power || nat_lt coil.entry.max_hold_power coil.entry.hold_power) }
+    ensures { result ≡ (nat_lt coil.entry.max_pulse_power coil.entry.pulse_power
+        || nat_lt coil.entry.max_hold_power coil.entry.hold_power) }
 {
     coil.max_pulse_power < coil.pulse_power || coil.max_hold_power < coil.hold_power
 }
@@ -97,7 +102,7 @@ fn add_coil_players(faults: &mut Faults<'_, '_>, section: &Section) -> Result<()
 }
 
 /// Adds the faults of what coils do in an entry.
-fn add_items(faults: &mut Faults<'_, '_>, items: &[Keyed]) -> Result<(), AllocError>
+fn add_items(faults: &mut Faults<'_, '_>, items: &[KeyedValues]) -> Result<(), AllocError>
     ensures { OnOk result (Gains faults.old faults.new (faults_of_coil_items faults.old items.now)) }
 {
     for item in items {
@@ -132,25 +137,25 @@ fn add_limits(
     add_if(faults, long, RowFaultKind::PulseLimit, name)?;
     let strong = is_stronger_than(item, coil);
     add_if(faults, strong, RowFaultKind::PowerLimit, name)?;
-    let refused = may_not_hold(item.action, coil);
-    add_if(faults, refused, RowFaultKind::HoldNotAllowed, name)
+    let is_refused = may_not_hold(item.action, coil);
+    add_if(faults, is_refused, RowFaultKind::HoldNotAllowed, name)
 }
 
 /// Whether the milliseconds that are written are more than the longest pulse has.
-fn is_longer(written: Option<u32>, longest: u32) -> bool
-    ensures { result ≡ is_above written longest }
+fn is_longer(own_pulse: Option<u32>, longest: u32) -> bool
+    ensures { result ≡ is_above own_pulse longest }
 {
-    match written {
+    match own_pulse {
         Some(ms) => longest < ms,
         None => false,
     }
 }
 
 /// Whether a power that is written is above the greatest one.
-fn is_stronger(written: Option<u16>, greatest: u16) -> bool
-    ensures { result ≡ is_above written greatest }
+fn is_stronger(own_pulse: Option<u16>, greatest: u16) -> bool
+    ensures { result ≡ is_above own_pulse greatest }
 {
-    match written {
+    match own_pulse {
         Some(power) => greatest < power,
         None => false,
     }
@@ -158,7 +163,8 @@ fn is_stronger(written: Option<u16>, greatest: u16) -> bool
 
 /// Whether a power that is written is above the greatest one of the coil.
 fn is_stronger_than(item: CoilItem<'_>, coil: Coil<'_>) -> bool
-    ensures { result ≡ (is_above item.entry.pulse_power coil.entry.max_pulse_power || is_above item.entry.hold_power coil.entry.max_hold_power) }
+    ensures { result ≡ (is_above item.entry.pulse_power coil.entry.max_pulse_power
+        || is_above item.entry.hold_power coil.entry.max_hold_power) }
 {
     let pulse = is_stronger(item.pulse_power, coil.max_pulse_power);
     let hold = is_stronger(item.hold_power, coil.max_hold_power);
@@ -200,16 +206,19 @@ fn add_rule(faults: &mut Faults<'_, '_>, section: &[u8], entry: &Entry) -> Resul
 }
 
 /// Adds the faults of a flipper.
-fn add_flipper(faults: &mut Faults<'_, '_>, flipper: Flipper<'_>) -> Result<(), AllocError>
+fn add_flipper(faults: &mut Faults<'_, '_>, flipper: FlipperEntry<'_>) -> Result<(), AllocError>
     ensures { OnOk result (Gains faults.old faults.new (faults_of_flipper faults.old flipper.entry)) }
 {
     let parts = [
-        (MAIN_COIL, Named::Coil(Some(flipper.main_coil))),
+        (MAIN_COIL, NamedThing::Coil(Some(flipper.main_coil))),
         (
             HOLD_COIL,
-            Named::HoldCoil(flipper.rule.name.line, flipper.hold_coil),
+            NamedThing::HoldCoil(flipper.rule.name.line, flipper.hold_coil),
         ),
-        (ACTIVATION_SWITCH, Named::Switch(Some(flipper.rule.switch))),
+        (
+            ACTIVATION_SWITCH,
+            NamedThing::Switch(Some(flipper.rule.switch)),
+        ),
     ];
     add_as_written(faults, flipper.rule.order, &parts)
 }
@@ -242,24 +251,24 @@ fn add_hold(
 {
     match coil {
         Some(coil) => {
-            let refused = !coil.may_hold;
+            let is_refused = !coil.may_hold;
             let place = NameAt {
                 line,
                 text: hold.text,
             };
-            add_if(faults, refused, RowFaultKind::HoldNotAllowed, place)
+            add_if(faults, is_refused, RowFaultKind::HoldNotAllowed, place)
         }
         None => add_if(faults, true, RowFaultKind::Name, hold),
     }
 }
 
 /// Adds the faults of an autofire coil.
-fn add_autofire(faults: &mut Faults<'_, '_>, autofire: Autofire<'_>) -> Result<(), AllocError>
+fn add_autofire(faults: &mut Faults<'_, '_>, autofire: AutofireEntry<'_>) -> Result<(), AllocError>
     ensures { OnOk result (Gains faults.old faults.new (faults_of_autofire faults.old autofire.entry)) }
 {
     let parts = [
-        (COIL, Named::Coil(Some(autofire.coil))),
-        (SWITCH, Named::Switch(Some(autofire.rule.switch))),
+        (COIL, NamedThing::Coil(Some(autofire.coil))),
+        (SWITCH, NamedThing::Switch(Some(autofire.rule.switch))),
     ];
     add_as_written(faults, autofire.rule.order, &parts)
 }

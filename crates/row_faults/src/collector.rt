@@ -27,7 +27,7 @@ pub(crate) struct Faults<'k, 'd> {
     pub(crate) modes: &'k ModeEvents,
     /// The name of the text.
     pub(crate) text: &'k TextName,
-    pub(crate) found: Vec<RowFault>,
+    pub(crate) found_faults: Vec<RowFault>,
 }
 
 impl<'k, 'd> Model for Faults<'k, 'd> {
@@ -37,14 +37,20 @@ impl<'k, 'd> Model for Faults<'k, 'd> {
 
     ghost Value = { FaultsView };
 
-    ghost view = { λ f. record { rows = f.definitions.now; modes = events_view f.modes.now; text = rc_slice_items f.text.now.letters; found = row_faults_view f.found.items } };
+    ghost view = { λ f.
+        record {
+          rows = f.definitions.now;
+          modes = events_view f.modes.now;
+          text = rc_slice_items f.text.now.letters;
+          found_faults = row_faults_view f.found_faults.items;
+        } };
 }
 
 /// The faults that were found.
 pub(crate) fn found_in(faults: Faults<'_, '_>) -> Vec<RowFault>
-    ensures { row_faults_view result.items ≡ faults.entry.found }
+    ensures { row_faults_view result.items ≡ faults.entry.found_faults }
 {
-    faults.found
+    faults.found_faults
 }
 
 /// A name where it is written.
@@ -64,7 +70,8 @@ fn fault_at(
     text: &TextName,
     name: NameAt<'_>,
 ) -> Result<RowFault, AllocError>
-    ensures { IfOk result (λ fault. row_fault_view fault ≡ fault_at kind (rc_slice_items text.now.letters) (name_at_view name.entry)) }
+    ensures { IfOk result (λ fault. row_fault_view fault
+        ≡ fault_at kind (rc_slice_items text.now.letters) (name_at_view name.entry)) }
 {
     Ok(RowFault {
         kind,
@@ -95,6 +102,6 @@ fn add(faults: &mut Faults<'_, '_>, kind: RowFaultKind, name: NameAt<'_>) -> Res
     ensures { OnOk result (Gains faults.old faults.new (fault_where faults.old true kind name.entry)) }
 {
     let fault = fault_at(faults.alloc, kind, faults.text, name)?;
-    faults.found.push(fault)?;
+    faults.found_faults.push(fault)?;
     Ok(())
 }

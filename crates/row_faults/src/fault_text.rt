@@ -3,7 +3,7 @@
 ghost use Rattle.std.specs.Prelude.{◌≡◌, ◌++◌, ◌∷◌, [], OnOk};
 ghost use Rattle.std.specs.Fmt.{decimal};
 ghost use Rattle.std.specs.Io.KnownBytes.{Appends};
-ghost use Rattle.mpf_config.specs.FaultLine.{spaced};
+ghost use Rattle.mpf_config.specs.FaultLine.{with_blank};
 ghost use Rattle.row_faults.specs.FaultText.{row_title, row_fault_line};
 ghost use Rattle.row_faults.specs.FaultsOf.{title_text};
 ghost use Rattle.row_faults.specs.View.{row_fault_view};
@@ -18,7 +18,8 @@ use std::io::{self, Write};
 ///
 /// The writer's error. Any part of the line may have been written then.
 pub fn write_row_fault<W: Write>(fault: &RowFault, writer: &mut W) -> io::Result<()>
-    ensures { OnOk result (Appends (W.contents writer.old) (W.contents writer.new) (row_fault_line (row_fault_view fault.now))) }
+    ensures { OnOk result (Appends (W.contents writer.old) (W.contents writer.new)
+        (row_fault_line (row_fault_view fault.now))) }
 {
     // few pieces, since a report may have very many faults
     write_title(fault.kind, writer)?;
@@ -54,7 +55,8 @@ const DIGITS: usize = 10;
 
 /// Writes the number of a line, between spaces.
 fn write_number<W: Write>(line: u32, writer: &mut W) -> io::Result<()>
-    ensures { OnOk result (Appends (W.contents writer.old) (W.contents writer.new) (spaced (decimal line) ++ 32 ∷ [])) }
+    ensures { OnOk result (Appends (W.contents writer.old) (W.contents writer.new)
+        (with_blank (decimal line) ++ 32 ∷ [])) }
 {
     let mut room = [b' '; DIGITS + 1];
     let start = write_digits(line.into(), &mut room, DIGITS);

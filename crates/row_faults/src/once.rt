@@ -22,7 +22,7 @@ pub(crate) fn listed_once(
     hashing: KeyHashing,
     faults: Vec<RowFault>,
 ) -> Result<Vec<RowFault>, AllocError>
-    ensures { IfOk result (λ listed. row_faults_view listed.items ≡ listed_once [] (row_faults_view faults.items)) }
+    ensures { IfOk result (λ order. row_faults_view order.items ≡ listed_once [] (row_faults_view faults.items)) }
 {
     if are_apart(&faults) {
         return Ok(faults);
@@ -35,7 +35,7 @@ pub(crate) fn listed_once(
 
 /// Whether the faults are of one text, by line and number, and have different names if their lines
 /// and numbers are the same. No two of these print the same line. It may be so, and not be seen, if
-/// there are more than [`COMPARED`] of one line and number.
+/// there are more than [`COMPARE_LIMIT`] of one line and number.
 fn are_apart(faults: &[RowFault]) -> bool
     ensures value { result ≡ true → are_apart (row_faults_view faults.now) ≡ true }
     ensures lines { result ≡ true → HaveLines (row_faults_view faults.now) }
@@ -68,7 +68,7 @@ fn is_in_order(fault: &RowFault, after: &[RowFault]) -> bool
 }
 
 /// How many faults of one line and number are compared one by one. More of them are hashed.
-const COMPARED: usize = 32;
+const COMPARE_LIMIT: usize = 32;
 
 /// Whether none of these up to the next line or number has the name of the fault before them.
 fn is_apart(fault: &RowFault, after: &[RowFault]) -> bool
@@ -76,15 +76,15 @@ fn is_apart(fault: &RowFault, after: &[RowFault]) -> bool
 {
     let name: &[u8] = &fault.name;
     let mut rest = after;
-    let mut left = COMPARED;
+    let mut budget = COMPARE_LIMIT;
     while let [next, behind @ ..] = rest {
         if fault.line < next.line || fault.kind.number() < next.kind.number() {
             return true;
         }
-        if left == 0 || !differ(name, &next.name) {
+        if budget == 0 || !differ(name, &next.name) {
             return false;
         }
-        left -= 1;
+        budget -= 1;
         rest = behind;
     }
     true
@@ -136,14 +136,14 @@ fn first_of_each(
     faults: Vec<RowFault>,
 ) -> Result<Vec<RowFault>, AllocError>
     requires { ArePlain (row_faults_view faults.items) }
-    ensures { IfOk result (λ listed. row_faults_view listed.items ≡ listed_once [] (row_faults_view faults.items)) }
+    ensures { IfOk result (λ order. row_faults_view order.items ≡ listed_once [] (row_faults_view faults.items)) }
 {
     let each = each_once(alloc, hashing, faults)?;
-    let mut listed = Vec::with_capacity(alloc, each.len())?;
+    let mut order = Vec::with_capacity(alloc, each.len())?;
     for fault in each {
-        listed.push(fault)?;
+        order.push(fault)?;
     }
-    Ok(listed)
+    Ok(order)
 }
 
 /// The same, as a set.
@@ -168,19 +168,19 @@ fn first_of_each_line(
     hashing: KeyHashing,
     faults: Vec<RowFault>,
 ) -> Result<Vec<RowFault>, AllocError>
-    ensures { IfOk result (λ listed. row_faults_view listed.items ≡ listed_once [] (row_faults_view faults.items)) }
+    ensures { IfOk result (λ order. row_faults_view order.items ≡ listed_once [] (row_faults_view faults.items)) }
 {
     let mut lines = no_keys(alloc, hashing);
-    let mut listed = Vec::new(alloc);
+    let mut order = Vec::new(alloc);
     for fault in faults {
         let fresh = is_new(alloc, &mut lines, &fault)?;
         if fresh {
-            listed.push(fault)?;
+            order.push(fault)?;
         } else {
             drop(fault);
         }
     }
-    Ok(listed)
+    Ok(order)
 }
 
 /// Takes the line of a fault, and says whether it is new. If memory runs out, it may be taken or

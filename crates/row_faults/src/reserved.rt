@@ -6,7 +6,9 @@ ghost use Rattle.machine_definitions.specs.GameEvents.{reserved_game_events};
 ghost use Rattle.row_faults.specs.Collected.{Gains, post_faults};
 ghost use Rattle.row_faults.specs.Reserved.{mode_events, is_reserved_by};
 ghost use Rattle.row_faults.specs.View.{events_view};
-ghost use Rattle.row_faults.specs.FaultsOf.{GainsEvents, HasEvents, events_of_listed, events_of_texts, posts_by_section, posts_in_order, posts_of_counters, posts_of_names, posts_of_parts, posts_of_players, posts_of_steps, posts_of_switches};
+ghost use Rattle.row_faults.specs.FaultsOf.{GainsEvents, HasEvents, events_of_listed, events_of_texts};
+ghost use Rattle.row_faults.specs.FaultsOf.{posts_by_section, posts_in_order, posts_of_counters, posts_of_names};
+ghost use Rattle.row_faults.specs.FaultsOf.{posts_of_parts, posts_of_players, posts_of_steps, posts_of_switches};
 
 use crate::as_written::as_written;
 use crate::collector::{Faults, add_if, at};
@@ -16,7 +18,7 @@ use mpf_config::{
     Entry, ModeText, Name, Section, as_counter, as_event_player, as_step_block, as_switch,
 };
 use mpf_sections::blocks::{COUNTER_COMPLETE, COUNTER_HIT, STEPS_COMPLETE, STEPS_HIT};
-use mpf_sections::typed::{ACTIVATED, DEACTIVATED};
+use mpf_sections::typed::{ACTIVATION_EVENTS, DEACTIVATION_EVENTS};
 use mpf_tables::tables::{
     ACCRUALS_NAME, COUNTERS_NAME, EVENT_PLAYER_NAME, SEQUENCES_NAME, SWITCHES_NAME,
 };
@@ -136,8 +138,8 @@ fn add_switches(faults: &mut Faults<'_, '_>, section: &Section) -> Result<(), Al
     for entry in entries {
         let switch = as_switch(entry);
         let parts = [
-            (ACTIVATED, switch.activated),
-            (DEACTIVATED, switch.deactivated),
+            (ACTIVATION_EVENTS, switch.activation_events),
+            (DEACTIVATION_EVENTS, switch.deactivation_events),
         ];
         add_in_order(faults, switch.order, &parts)?;
     }
@@ -201,8 +203,8 @@ fn add_in_order(
         add_parts(faults, parts)?;
         return Ok(());
     }
-    let sorted = as_written(faults.alloc, order, parts)?;
-    add_parts(faults, &sorted)?;
+    let in_order = as_written(faults.alloc, order, parts)?;
+    add_parts(faults, &in_order)?;
     Ok(())
 }
 
@@ -220,8 +222,8 @@ fn add_names(faults: &mut Faults<'_, '_>, names: &[Name]) -> Result<(), AllocErr
     ensures { OnOk result (Gains faults.old faults.new (post_faults faults.old (posts_of_names names.now))) }
 {
     for name in names {
-        let reserved = is_reserved(faults.modes, &name.text);
-        add_if(faults, reserved, RowFaultKind::Name, at(name))?;
+        let is_reserved_name = is_reserved(faults.modes, &name.text);
+        add_if(faults, is_reserved_name, RowFaultKind::Name, at(name))?;
     }
     Ok(())
 }

@@ -16,7 +16,7 @@ use crate::targets::leads_of;
 use indexmap::IndexSet;
 use machine_definitions::by_name::Names;
 use mpf_config::{Entry, Name, Section};
-use mpf_sections::{BallDevice, as_ball_device};
+use mpf_sections::{BallDeviceEntry, as_ball_device};
 use mpf_tables::tables::BALL_DEVICES_NAME;
 use std::alloc::{AllocError, Global};
 
@@ -39,7 +39,7 @@ pub(crate) fn add_route_faults(
 fn ball_devices_of<'a>(
     alloc: Global,
     sections: &'a [Section],
-) -> Result<Vec<BallDevice<'a>>, AllocError>
+) -> Result<Vec<BallDeviceEntry<'a>>, AllocError>
     ensures { IfOk result (λ devices. devices_view devices.items ≡ ball_devices_of (section_rows sections.now)) }
 {
     let mut devices = Vec::new(alloc);
@@ -50,7 +50,7 @@ fn ball_devices_of<'a>(
 }
 
 fn add_entries<'a>(
-    devices: &mut Vec<BallDevice<'a>>,
+    devices: &mut Vec<BallDeviceEntry<'a>>,
     entries: &'a [Entry],
 ) -> Result<(), AllocError>
     ensures { OnOk result (GainsDeviceList devices.old devices.new (as_ball_devices entries.now)) }
@@ -65,15 +65,15 @@ fn add_entries<'a>(
 /// the playfield.
 fn add_faults(
     faults: &mut Faults<'_, '_>,
-    devices: &[BallDevice<'_>],
+    devices: &[BallDeviceEntry<'_>],
     leads: &[bool],
 ) -> Result<(), AllocError>
     requires { leads.now ≡ map (leads_to_playfield (devices_view devices.now)) (devices_view devices.now) }
     ensures { OnOk result (Gains faults.old faults.new (route_faults faults.old.text (devices_view devices.now))) }
 {
-    let mut taken = IndexSet::with_hasher(faults.alloc, faults.definitions.config().hashing);
+    let mut names_before = IndexSet::with_hasher(faults.alloc, faults.definitions.config().hashing);
     for (number, device) in devices.iter().enumerate() {
-        let again = take_switches(&mut taken, device.switches)?;
+        let again = take_switches(&mut names_before, device.switches)?;
         let wrong = is_wrong(leads[number], again, *device);
         let name = at(device.name);
         add_if(faults, wrong, RowFaultKind::BallRoute, name)?;
@@ -83,7 +83,7 @@ fn add_faults(
 
 /// Whether something is wrong with the way of balls through a ball device, whose balls come to the
 /// playfield or not, and of which a ball switch was taken or not.
-fn is_wrong(leads: bool, again: bool, device: BallDevice<'_>) -> bool
+fn is_wrong(leads: bool, again: bool, device: BallDeviceEntry<'_>) -> bool
     ensures { result ≡ (not leads || again || lacks_coil (ball_device_view device.entry)) }
 {
     !leads || again || lacks_coil(device)
@@ -91,20 +91,24 @@ fn is_wrong(leads: bool, again: bool, device: BallDevice<'_>) -> bool
 
 /// Takes the ball switches of a ball device, and says whether one was taken, or stands twice among
 /// them. If memory runs out, some may be taken.
-fn take_switches<'a>(taken: &mut Switches<'a>, switches: &'a [Name]) -> Result<bool, AllocError>
-    ensures again { IfOk result (λ again. again ≡ is_one_taken (texts_of switches.now) (is_found taken.old)) }
-    ensures taken { IfOk result (λ _. is_found taken.new ≡ all_taken (texts_of switches.now) (is_found taken.old)) }
+fn take_switches<'a>(
+    names_before: &mut Switches<'a>,
+    switches: &'a [Name],
+) -> Result<bool, AllocError>
+    ensures again { IfOk result (λ again. again ≡ is_one_taken (texts_of switches.now) (is_found names_before.old)) }
+    ensures taken { IfOk result (λ _. is_found names_before.new
+        ≡ all_taken (texts_of switches.now) (is_found names_before.old)) }
 {
     let mut again = false;
     for switch in switches {
-        let fresh = taken.insert(&switch.text)?;
+        let fresh = names_before.insert(&switch.text)?;
         again = again || !fresh;
     }
     Ok(again)
 }
 
 /// Whether a ball device lacks a coil that ejects its balls.
-fn lacks_coil(device: BallDevice<'_>) -> bool
+fn lacks_coil(device: BallDeviceEntry<'_>) -> bool
     ensures { result ≡ lacks_coil (ball_device_view device.entry) }
 {
     device.eject_coil.is_none() && (!device.ejects.mechanical || device.is_trough())

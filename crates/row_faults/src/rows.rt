@@ -7,7 +7,9 @@ ghost use Rattle.row_faults.specs.Collected.{Gains};
 ghost use Rattle.row_faults.specs.RowFaults.{starts_at_end, fault_line, fault_number, faults_by, row_faults};
 ghost use Rattle.row_faults.specs.Sound.{IsSound};
 ghost use Rattle.row_faults.specs.View.{events_view, row_faults_view};
-ghost use Rattle.row_faults.specs.FaultsOf.{GainsFaults, Sorts, Takes, faults_of_modes, faults_of_section, faults_of_sections, faults_of_text, faults_of_timers, listed_by_section, listed_by_sections};
+ghost use Rattle.row_faults.specs.FaultsOf.{GainsFaults, Sorts, Takes, faults_of_modes, faults_of_section};
+ghost use Rattle.row_faults.specs.FaultsOf.{faults_of_sections, faults_of_text, faults_of_timers, listed_by_section};
+ghost use Rattle.row_faults.specs.FaultsOf.{listed_by_sections};
 
 use crate::ball_faults::add_ball_devices;
 use crate::coil_faults::add_coil_faults;
@@ -22,7 +24,7 @@ use crate::variable_faults::add_variable_players;
 use indexmap::IndexSet;
 use machine_definitions::Definitions;
 use mpf_config::{
-    Config, MACHINE_NAME, ModeText, Section, Timer, as_timer, listed_modes, mode_text_name,
+    Config, MACHINE_NAME, ModeText, Section, TimerEntry, as_timer, listed_modes, mode_text_name,
 };
 use mpf_tables::tables::TIMERS_NAME;
 use std::alloc::{AllocError, Global};
@@ -59,13 +61,28 @@ fn faults_of_texts<'a>(
     config: &'a Config,
 ) -> Result<Vec<RowFault>, AllocError>
     requires { definitions.now ≡ rows_view config.now }
-    ensures { IfOk result (λ faults. row_faults_view faults.items ≡ faults_by (events_view modes.now) (rows_view config.now)) }
+    ensures { IfOk result (λ faults. row_faults_view faults.items
+        ≡ faults_by (events_view modes.now) (rows_view config.now)) }
 {
     let machine: &'a [Section] = config.machine.sections.as_slice();
     let texts: &'a [ModeText] = config.modes.as_slice();
-    let mut taken: Shots<'a> = IndexSet::with_hasher(alloc, config.hashing);
-    let mut faults = faults_of_text(alloc, &mut taken, modes, definitions, MACHINE_NAME, machine)?;
-    add_modes(alloc, &mut faults, &mut taken, modes, definitions, texts)?;
+    let mut shots_before: Shots<'a> = IndexSet::with_hasher(alloc, config.hashing);
+    let mut faults = faults_of_text(
+        alloc,
+        &mut shots_before,
+        modes,
+        definitions,
+        MACHINE_NAME,
+        machine,
+    )?;
+    add_modes(
+        alloc,
+        &mut faults,
+        &mut shots_before,
+        modes,
+        definitions,
+        texts,
+    )?;
     Ok(faults)
 }
 
@@ -74,16 +91,24 @@ fn faults_of_texts<'a>(
 fn add_modes<'a>(
     alloc: Global,
     faults: &mut Vec<RowFault>,
-    taken: &mut Shots<'a>,
+    shots_before: &mut Shots<'a>,
     modes: &ModeEvents,
     definitions: &Definitions<'_>,
     texts: &'a [ModeText],
 ) -> Result<(), AllocError>
-    ensures { OnOk result (GainsFaults faults.old faults.new (faults_of_modes modes.now definitions.now taken.old texts.now)) }
+    ensures { OnOk result (GainsFaults faults.old faults.new
+        (faults_of_modes modes.now definitions.now shots_before.old texts.now)) }
 {
     for text in texts {
         let name = mode_text_name(alloc, &text.name)?;
-        let own = faults_of_text(alloc, taken, modes, definitions, &name, &text.sections)?;
+        let own = faults_of_text(
+            alloc,
+            shots_before,
+            modes,
+            definitions,
+            &name,
+            &text.sections,
+        )?;
         add_all(faults, own)?;
     }
     Ok(())
@@ -108,14 +133,16 @@ fn add_all(faults: &mut Vec<RowFault>, own: Vec<RowFault>) -> Result<(), AllocEr
 /// shots that are taken. Takes those that its groups list.
 fn faults_of_text<'a>(
     alloc: Global,
-    taken: &mut Shots<'a>,
+    shots_before: &mut Shots<'a>,
     modes: &ModeEvents,
     definitions: &Definitions<'_>,
     text: &[u8],
     sections: &'a [Section],
 ) -> Result<Vec<RowFault>, AllocError>
-    ensures faults { IfOk result (λ faults. row_faults_view faults.items ≡ faults_of_text modes.now definitions.now taken.old text.now sections.now) }
-    ensures taken { IfOk result (λ _. Takes taken.old taken.new (listed_by_sections definitions.now sections.now)) }
+    ensures faults { IfOk result (λ faults. row_faults_view faults.items
+        ≡ faults_of_text modes.now definitions.now shots_before.old text.now sections.now) }
+    ensures taken { IfOk result (λ _. Takes shots_before.old shots_before.new
+        (listed_by_sections definitions.now sections.now)) }
 {
     let own = shots_for_groups(alloc, definitions.config().hashing, sections)?;
     let name = TextName::new(alloc, text)?;
@@ -124,14 +151,14 @@ fn faults_of_text<'a>(
         definitions,
         modes,
         text: &name,
-        found: Vec::new(alloc),
+        found_faults: Vec::new(alloc),
     };
-    add_sections(&mut faults, taken, &own, sections)?;
+    add_sections(&mut faults, shots_before, &own, sections)?;
     add_route_faults(&mut faults, sections)?;
-    let mut found = found_in(faults);
-    sort_by_number(&mut found)?;
-    sort_by_line(&mut found)?;
-    Ok(found)
+    let mut found_faults = found_in(faults);
+    sort_by_number(&mut found_faults)?;
+    sort_by_line(&mut found_faults)?;
+    Ok(found_faults)
 }
 
 /// By number, those of one number as they are.
@@ -160,15 +187,17 @@ fn sort_by_line(faults: &mut Vec<RowFault>) -> Result<(), AllocError>
 /// Adds the faults of these sections, as written. Here `own` are the shots that their text defines.
 fn add_sections<'a>(
     faults: &mut Faults<'_, '_>,
-    taken: &mut Shots<'a>,
+    shots_before: &mut Shots<'a>,
     own: &Shots<'_>,
     sections: &'a [Section],
 ) -> Result<(), AllocError>
-    ensures faults { OnOk result (Gains faults.old faults.new (faults_of_sections faults.old own.now taken.old sections.now)) }
-    ensures taken { OnOk result (Takes taken.old taken.new (listed_by_sections faults.old.rows sections.now)) }
+    ensures faults { OnOk result (Gains faults.old faults.new
+        (faults_of_sections faults.old own.now shots_before.old sections.now)) }
+    ensures taken { OnOk result (Takes shots_before.old shots_before.new
+        (listed_by_sections faults.old.rows sections.now)) }
 {
     for section in sections {
-        add_section(faults, taken, own, section)?;
+        add_section(faults, shots_before, own, section)?;
     }
     Ok(())
 }
@@ -176,19 +205,21 @@ fn add_sections<'a>(
 /// Adds the faults of a section, as written.
 fn add_section<'a>(
     faults: &mut Faults<'_, '_>,
-    taken: &mut Shots<'a>,
+    shots_before: &mut Shots<'a>,
     own: &Shots<'_>,
     section: &'a Section,
 ) -> Result<(), AllocError>
-    ensures faults { OnOk result (Gains faults.old faults.new (faults_of_section faults.old own.now taken.old section.now)) }
-    ensures taken { OnOk result (Takes taken.old taken.new (listed_by_section faults.old.rows section.now)) }
+    ensures faults { OnOk result (Gains faults.old faults.new
+        (faults_of_section faults.old own.now shots_before.old section.now)) }
+    ensures taken { OnOk result (Takes shots_before.old shots_before.new
+        (listed_by_section faults.old.rows section.now)) }
 {
     add_posts(faults, section)?;
     add_variable_players(faults, section)?;
     add_coil_faults(faults, section)?;
     add_ball_devices(faults, section)?;
     add_shots(faults, section)?;
-    add_groups(faults, taken, own, section)?;
+    add_groups(faults, shots_before, own, section)?;
     add_timers(faults, section)
 }
 
@@ -207,7 +238,7 @@ fn add_timers(faults: &mut Faults<'_, '_>, section: &Section) -> Result<(), Allo
 }
 
 /// Whether a timer is at its end before it runs.
-fn starts_at_end(timer: Timer<'_>) -> bool
+fn starts_at_end(timer: TimerEntry<'_>) -> bool
     ensures { result ≡ starts_at_end (timer_view timer.entry) }
 {
     let settings = timer.settings;

@@ -5,9 +5,12 @@ ghost use Rattle.mpf_sections.specs.View.{name_view, shot_view};
 ghost use Rattle.machine_definitions.specs.Found.{is_found, GainsNames};
 ghost use Rattle.row_faults.specs.Collected.{Gains};
 ghost use Rattle.row_faults.specs.ShotFaults.{first_shot, are_of_two_profiles};
-ghost use Rattle.row_faults.specs.FaultsOf.{HasOwnShots, HasShotsForGroups, Takes, faults_of_listed, faults_of_profile, faults_of_shot, faults_of_shot_switch, faults_of_shots, listed_by_group, defines_shot, groups_among, is_misplaced_name, names_listed, listed_by_section};
+ghost use Rattle.row_faults.specs.FaultsOf.{HasOwnShots, HasShotsForGroups, Takes, faults_of_listed, faults_of_profile};
+ghost use Rattle.row_faults.specs.FaultsOf.{faults_of_shot, faults_of_shot_switch, faults_of_shots, listed_by_group};
+ghost use Rattle.row_faults.specs.FaultsOf.{defines_shot, groups_among, is_misplaced_name, names_listed};
+ghost use Rattle.row_faults.specs.FaultsOf.{listed_by_section};
 
-use crate::as_written::{Named, add_as_written};
+use crate::as_written::{NamedThing, add_as_written};
 use crate::coil_faults::add_switch_name;
 use crate::collector::{Faults, add_if, at};
 use crate::fault::RowFaultKind;
@@ -46,8 +49,8 @@ fn add_shot(faults: &mut Faults<'_, '_>, shot: Shot<'_>) -> Result<(), AllocErro
         return add_profile(faults, shot.profile);
     }
     let parts = [
-        (SWITCH, Named::Switch(shot.switch)),
-        (PROFILE, Named::Profile(shot.profile)),
+        (SWITCH, NamedThing::Switch(shot.switch)),
+        (PROFILE, NamedThing::Profile(shot.profile)),
     ];
     add_as_written(faults, shot.order, &parts)
 }
@@ -83,16 +86,18 @@ pub(crate) fn add_named_switch(
 #[tactic(auto, unfolding(mpf_sections::specs::TypedShots::shot_groups_in))]
 pub(crate) fn add_groups<'a>(
     faults: &mut Faults<'_, '_>,
-    taken: &mut Shots<'a>,
+    shots_before: &mut Shots<'a>,
     own: &Shots<'_>,
     section: &'a Section,
 ) -> Result<(), AllocError>
-    ensures faults { OnOk result (Gains faults.old faults.new (faults_of_listed faults.old own.now taken.old (listed_by_section faults.old.rows section.now))) }
-    ensures taken { OnOk result (Takes taken.old taken.new (listed_by_section faults.old.rows section.now)) }
+    ensures faults { OnOk result (Gains faults.old faults.new
+        (faults_of_listed faults.old own.now shots_before.old (listed_by_section faults.old.rows section.now))) }
+    ensures taken { OnOk result (Takes shots_before.old shots_before.new
+        (listed_by_section faults.old.rows section.now)) }
 {
     let groups: &'a [Entry] = section.entries_of(SHOT_GROUPS_NAME);
     for group in groups {
-        add_group(faults, taken, own, as_shot_group(group))?;
+        add_group(faults, shots_before, own, as_shot_group(group))?;
     }
     Ok(())
 }
@@ -100,22 +105,24 @@ pub(crate) fn add_groups<'a>(
 /// The same of one group.
 fn add_group<'a>(
     faults: &mut Faults<'_, '_>,
-    taken: &mut Shots<'a>,
+    shots_before: &mut Shots<'a>,
     own: &Shots<'_>,
     group: ShotGroup<'a>,
 ) -> Result<(), AllocError>
-    ensures faults { OnOk result (Gains faults.old faults.new (faults_of_listed faults.old own.now taken.old (listed_by_group faults.old.rows group.entry))) }
-    ensures taken { OnOk result (Takes taken.old taken.new (listed_by_group faults.old.rows group.entry)) }
+    ensures faults { OnOk result (Gains faults.old faults.new
+        (faults_of_listed faults.old own.now shots_before.old (listed_by_group faults.old.rows group.entry))) }
+    ensures taken { OnOk result (Takes shots_before.old shots_before.new
+        (listed_by_group faults.old.rows group.entry)) }
 {
     let first = first_shot(faults.definitions, group.shots);
-    add_listed(faults, taken, own, first, group.shots)
+    add_listed(faults, shots_before, own, first, group.shots)
 }
 
 /// The shot that a group lists first, if it is defined.
-fn first_shot<'d>(definitions: &Definitions<'d>, listed: &[Name]) -> Option<Shot<'d>>
-    ensures { option_map shot_view result ≡ first_shot definitions.now (map name_view listed.now) }
+fn first_shot<'d>(definitions: &Definitions<'d>, group_names: &[Name]) -> Option<Shot<'d>>
+    ensures { option_map shot_view result ≡ first_shot definitions.now (map name_view group_names.now) }
 {
-    match listed.first() {
+    match group_names.first() {
         Some(name) => definitions.shot(&name.text),
         None => None,
     }
@@ -124,18 +131,19 @@ fn first_shot<'d>(definitions: &Definitions<'d>, listed: &[Name]) -> Option<Shot
 /// The same of shots that a group lists, of which this one is the first.
 fn add_listed<'a>(
     faults: &mut Faults<'_, '_>,
-    taken: &mut Shots<'a>,
+    shots_before: &mut Shots<'a>,
     own: &Shots<'_>,
     first: Option<Shot<'_>>,
-    listed: &'a [Name],
+    group_names: &'a [Name],
 ) -> Result<(), AllocError>
-    ensures faults { OnOk result (Gains faults.old faults.new (faults_of_listed faults.old own.now taken.old (names_listed first.entry listed.now))) }
-    ensures taken { OnOk result (Takes taken.old taken.new (names_listed first.entry listed.now)) }
+    ensures faults { OnOk result (Gains faults.old faults.new
+        (faults_of_listed faults.old own.now shots_before.old (names_listed first.entry group_names.now))) }
+    ensures taken { OnOk result (Takes shots_before.old shots_before.new (names_listed first.entry group_names.now)) }
 {
-    for name in listed {
-        let misplaced = is_misplaced(faults, taken, own, first, &name.text);
-        add_if(faults, misplaced, RowFaultKind::Name, at(name))?;
-        taken.insert(&name.text)?;
+    for name in group_names {
+        let is_fault = is_misplaced(faults, shots_before, own, first, &name.text);
+        add_if(faults, is_fault, RowFaultKind::Name, at(name))?;
+        shots_before.insert(&name.text)?;
     }
     Ok(())
 }
@@ -143,15 +151,15 @@ fn add_listed<'a>(
 /// Whether a group may not list the shot of this name.
 fn is_misplaced(
     faults: &Faults<'_, '_>,
-    taken: &Shots<'_>,
+    shots_before: &Shots<'_>,
     own: &Shots<'_>,
     first: Option<Shot<'_>>,
     name: &[u8],
 ) -> bool
-    ensures { (line : ℕ) → result ≡ is_misplaced_name faults.now own.now taken.now first.entry line name.now }
+    ensures { (line : ℕ) → result ≡ is_misplaced_name faults.now own.now shots_before.now first.entry line name.now }
 {
     !has_name(own, name)
-        || has_name(taken, name)
+        || has_name(shots_before, name)
         || are_of_two_profiles(first, faults.definitions.shot(name))
 }
 

@@ -11,7 +11,7 @@ ghost use Rattle.row_faults.specs.FaultsOf.{numbers_of_targets};
 
 use indexmap::IndexMap;
 use machine_definitions::by_name::ByName;
-use mpf_sections::BallDevice;
+use mpf_sections::BallDeviceEntry;
 use mpf_tables::tables::PLAYFIELD;
 use std::alloc::{AllocError, Global};
 use yaml_subset::keys::KeyHashing;
@@ -24,9 +24,10 @@ type Numbers<'a> = ByName<'a, usize>;
 pub(crate) fn leads_of(
     alloc: Global,
     hashing: KeyHashing,
-    devices: &[BallDevice<'_>],
+    devices: &[BallDeviceEntry<'_>],
 ) -> Result<Vec<bool>, AllocError>
-    ensures { IfOk result (λ leads. leads.items ≡ map (leads_to_playfield (devices_view devices.now)) (devices_view devices.now)) }
+    ensures { IfOk result (λ leads. leads.items
+        ≡ map (leads_to_playfield (devices_view devices.now)) (devices_view devices.now)) }
 {
     let numbers = numbers_of(alloc, hashing, devices)?;
     let targets = targets_of(alloc, &numbers, devices)?;
@@ -38,7 +39,7 @@ pub(crate) fn leads_of(
 fn numbers_of<'a>(
     alloc: Global,
     hashing: KeyHashing,
-    devices: &[BallDevice<'a>],
+    devices: &[BallDeviceEntry<'a>],
 ) -> Result<Numbers<'a>, AllocError>
     ensures { IfOk result (λ numbers. IsNumbered (devices_view devices.now) (number_found numbers)) }
 {
@@ -53,7 +54,7 @@ fn numbers_of<'a>(
 fn targets_of(
     alloc: Global,
     numbers: &Numbers<'_>,
-    devices: &[BallDevice<'_>],
+    devices: &[BallDeviceEntry<'_>],
 ) -> Result<Vec<usize>, AllocError>
     ensures { IfOk result (λ targets. targets.items ≡ numbers_of_targets numbers.now devices.now) }
 {

@@ -4,7 +4,7 @@ ghost use Rattle.std.specs.Prelude.{◌≡◌, not, IfOk, OnOk};
 ghost use Rattle.std.specs.List.{list_any};
 ghost use Rattle.std.specs.Rc.{rc_slice_items};
 ghost use Rattle.std.specs.Io.KnownBytes.{Appends};
-ghost use Rattle.mpf_config.specs.Escaped.{escaped};
+ghost use Rattle.mpf_config.specs.Escaped.{escape_bytes};
 ghost use Rattle.row_faults.specs.Plain.{is_mark, is_plain};
 
 use mpf_config::write_escaped;
@@ -62,7 +62,8 @@ impl TextName {
 
     /// Writes it as a report has it.
     pub(crate) fn write<W: Write>(&self, writer: &mut W) -> io::Result<()>
-        ensures { OnOk result (Appends (W.contents writer.old) (W.contents writer.new) (escaped (rc_slice_items self.now.letters))) }
+        ensures { OnOk result (Appends (W.contents writer.old) (W.contents writer.new)
+            (escape_bytes (rc_slice_items self.now.letters))) }
     {
         if self.plain {
             return writer.write_all(&self.letters);

@@ -9,7 +9,7 @@ ghost use Rattle.row_faults.specs.FaultsOf.{faults_of_variable_item, faults_of_v
 use crate::collector::{Faults, add_if, at};
 use crate::fault::RowFaultKind;
 use crate::reserved::{ModeEvents, is_reserved};
-use mpf_config::{Keyed, Section, VariableItem, as_variable_item, as_variable_player};
+use mpf_config::{KeyedValues, Section, VariableItem, as_variable_item, as_variable_player};
 use mpf_tables::tables::VARIABLE_PLAYER_NAME;
 use std::alloc::{AllocError, Global};
 
@@ -34,7 +34,7 @@ pub(crate) fn add_variable_players(
 }
 
 /// Adds the faults of the variables that an entry changes.
-fn add_items(faults: &mut Faults<'_, '_>, items: &[Keyed]) -> Result<(), AllocError>
+fn add_items(faults: &mut Faults<'_, '_>, items: &[KeyedValues]) -> Result<(), AllocError>
     ensures { OnOk result (Gains faults.old faults.new (faults_of_variable_items faults.old items.now)) }
 {
     for item in items {
@@ -47,14 +47,14 @@ fn add_items(faults: &mut Faults<'_, '_>, items: &[Keyed]) -> Result<(), AllocEr
 fn add_item(faults: &mut Faults<'_, '_>, item: VariableItem<'_>) -> Result<(), AllocError>
     ensures { OnOk result (Gains faults.old faults.new (faults_of_variable_item faults.old item.entry)) }
 {
-    let barred = is_barred(faults.alloc, faults.modes, &item.variable.text)?;
+    let is_barred_name = is_barred(faults.alloc, faults.modes, &item.variable.text)?;
     let name = at(item.variable);
-    add_if(faults, barred, RowFaultKind::Name, name)
+    add_if(faults, is_barred_name, RowFaultKind::Name, name)
 }
 
 /// Whether no row may change the variable of this name.
 fn is_barred(alloc: Global, modes: &ModeEvents, variable: &[u8]) -> Result<bool, AllocError>
-    ensures { IfOk result (λ barred. barred ≡ is_barred (events_view modes.now) variable.now) }
+    ensures { IfOk result (λ is_barred_name. is_barred_name ≡ is_barred (events_view modes.now) variable.now) }
 {
     if variable == BALL || variable == NUMBER {
         return Ok(true);

@@ -2,7 +2,7 @@
 use Rattle.std.specs.{Prelude.{◌≡◌, ℕ, List, [], ◌∷◌, Option, Some, None}, List.{AllZip, flat_map}}
 use Rattle.yaml_subset.specs.Node.{Node, Pair}
 use Rattle.mpf_values.specs.Names.{IsName}
-use Rattle.setting_values.specs.Values.{Written, Value, written_at}
+use Rattle.setting_values.specs.Values.{WrittenName, Value, written_at}
 use Rattle.section_tables.specs.{Rows.{Entry, Player}, Shapes.{Setting, PlayerKinds}, Keys.is_ignored}
 use Rattle.setting_values.specs.{Kinds.at_least, Below.pairs_below, KeyRules.found_in}
 use Rattle.section_tables.specs.Tables.{setting_key, setting_default, setting_lacks}
@@ -33,13 +33,15 @@ pub record IsEntry (longest : ℕ) (table : List Setting) (p : Pair) (e : Entry)
   pub order : e.order ≡ places_written table row.pairs
 
 -- the same, under another name than these
-pub record IsOtherEntry (longest : ℕ) (barred : List (List ℕ)) (table : List Setting) (p : Pair) (e : Entry) : Type 0 where
-  pub other : IsOneOf barred p.key → ⊥
+pub record IsOtherEntry (longest : ℕ) (barred_names : List (List ℕ)) (table : List Setting) (p : Pair) (e : Entry) :
+    Type 0 where
+  pub other : IsOneOf barred_names p.key → ⊥
   pub entry : IsEntry longest table p e
 
 -- the entries of a section with this table, none of which has one of these names
 abbrev pub AreEntries : ℕ → List (List ℕ) → List Setting → Pair → List Entry → Type 0
-AreEntries longest barred table p es = (pairs : List Pair) × (pairs_below p.value ≡ Some pairs) × AllZip (IsOtherEntry longest barred table) pairs es
+AreEntries longest barred_names table p es =
+    (pairs : List Pair) × (pairs_below p.value ≡ Some pairs) × AllZip (IsOtherEntry longest barred_names table) pairs es
 
 -- An entry of a player: what its key says, and its value.
 pub record IsPlayer (longest : ℕ) (kinds : PlayerKinds) (p : Pair) (row : Player) : Type 0 where
@@ -48,10 +50,11 @@ pub record IsPlayer (longest : ℕ) (kinds : PlayerKinds) (p : Pair) (row : Play
 
 -- the entries of a player
 abbrev pub ArePlayers : ℕ → PlayerKinds → Pair → List Player → Type 0
-ArePlayers longest kinds p rows = (pairs : List Pair) × (pairs_below p.value ≡ Some pairs) × AllZip (IsPlayer longest kinds) pairs rows
+ArePlayers longest kinds p rows = (pairs : List Pair) × (pairs_below p.value ≡ Some pairs)
+    × AllZip (IsPlayer longest kinds) pairs rows
 
 -- ---- lists of names
 
 -- the names that a section lists
-abbrev pub AreNamesListed : ℕ → Pair → List Written → Type 0
+abbrev pub AreNamesListed : ℕ → Pair → List WrittenName → Type 0
 AreNamesListed longest p ws = AreListed IsWritten (at_least 0) longest p.value ws

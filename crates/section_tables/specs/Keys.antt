@@ -4,7 +4,8 @@ use Rattle.std.specs.{Prelude.{ℕ, Bool, List, [], ◌∷◌, codes}, List.list
 -- the settings that every entry takes, and at whose values nothing looks if the section's table does not have them
 abbrev pub ignored_names : List (List ℕ)
 ignored_names =
-    codes "number" ∷ codes "tags" ∷ codes "label" ∷ codes "debug" ∷ codes "platform" ∷ codes "platform_settings" ∷ codes "console_log"
+    codes "number" ∷ codes "tags" ∷ codes "label" ∷ codes "debug" ∷ codes "platform" ∷ codes "platform_settings"
+    ∷ codes "console_log"
     ∷ codes "file_log" ∷ codes "x" ∷ codes "y" ∷ codes "z" ∷ []
 
 unfoldable pub is_ignored : List ℕ → Bool

@@ -9,4 +9,4 @@ pub mod View
 pub mod TableView
 pub mod Gives
 -- only contracts of private functions cite these
-pub mod Inside
+pub mod TableAnswers

@@ -38,7 +38,7 @@ pub record IsNamedKinds (kinds : PlayerKinds) : Type 0 where
   pub value : IsNamedKind kinds.value
 
 abbrev pub IsNamedShape : Shape → Type 0
-IsNamedShape (by_entries barred table) = IsNamedTable table
+IsNamedShape (by_entries barred_names table) = IsNamedTable table
 IsNamedShape (by_players kinds) = IsNamedKinds kinds
 IsNamedShape (by_entry table) = IsNamedTable table
 IsNamedShape by_names = Unit {0}
@@ -57,7 +57,7 @@ abbrev pub IsShortTable : ℕ → List Setting → Type 0
 IsShortTable longest = AllByRecursion (λ s. IsShortValue longest (setting_default s))
 
 abbrev pub IsShortShape : ℕ → Shape → Type 0
-IsShortShape longest (by_entries barred table) = IsShortTable longest table
+IsShortShape longest (by_entries barred_names table) = IsShortTable longest table
 IsShortShape longest (by_players kinds) = Unit {0}
 IsShortShape longest (by_entry table) = IsShortTable longest table
 IsShortShape longest by_names = Unit {0}

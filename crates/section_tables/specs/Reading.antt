@@ -3,12 +3,13 @@ use Rattle.std.specs.Prelude.{ℕ, if◌then◌else◌, List, Result, Ok}
 use Rattle.yaml_bytes.specs.Results.{◌>>=◌}
 use Rattle.yaml_subset.specs.Node.{Node, Pair}
 use Rattle.mpf_values.specs.Reading.{is_name}
-use Rattle.config_faults.specs.{declared.fault.FaultKind.TheVariants.BadValue, Faults.{RowsFault, Spot, refused}}
-use Rattle.setting_values.specs.{Values.{Written, Value, written_at}, Kinds.at_least, Below.pairs_below}
+use Rattle.config_faults.specs.{declared.fault.BundleFaultKind.TheVariants.BadValue, Faults.{RowsFault, Spot, refuse}}
+use Rattle.setting_values.specs.Values.{WrittenName, Value, written_at}
+use Rattle.setting_values.specs.{Kinds.at_least, Below.pairs_below, Reading.{row_at, value_at}}
 use Rattle.section_tables.specs.{Rows.{Entry, Player}, Keys.is_ignored}
 use Rattle.section_tables.specs.{Shapes.{Setting, PlayerKinds}, EntryOf.places_written}
 use Rattle.section_tables.specs.Tables.{setting_key, setting_default, setting_lacks}
-use Rattle.setting_values.specs.Reading.{key_spot, expect, each_read, is_one_of, scalar_of, written_in, listed_at, row_at, value_at}
+use Rattle.setting_values.specs.Reading.{key_spot, expect, each_read, is_one_of, scalar_of, written_in, listed_at}
 
 -- ---- settings
 
@@ -27,26 +28,30 @@ entry_at text table p =
     then
     (expect (key_spot text p) (pairs_below p.value) >>= λ pairs. values_at (key_spot text p) table pairs
     >>= λ row. Ok (record { name = written_at p.line p.key; values = row; order = places_written table pairs }))
-    else refused BadValue (key_spot text p)
+    else refuse BadValue (key_spot text p)
 
 -- the same, under another name than these
 unfoldable pub other_entry_at : List ℕ → List (List ℕ) → List Setting → Pair → Result Entry RowsFault
-other_entry_at text barred table p = if is_one_of barred p.key then refused BadValue (key_spot text p) else entry_at text table p
+other_entry_at text barred_names table p =
+    if is_one_of barred_names p.key then refuse BadValue (key_spot text p) else entry_at text table p
 
 -- the entries of a section with this table, none of which has one of these names
 unfoldable pub entries_at : List ℕ → List (List ℕ) → List Setting → Pair → Result (List Entry) RowsFault
-entries_at text barred table p = expect (key_spot text p) (pairs_below p.value) >>= λ pairs. each_read (other_entry_at text barred table) pairs
+entries_at text barred_names table p = expect (key_spot text p) (pairs_below p.value) >>= λ pairs. each_read
+    (other_entry_at text barred_names table) pairs
 
 -- an entry of a player
 unfoldable pub player_at : List ℕ → PlayerKinds → Pair → Result Player RowsFault
 player_at text kinds p =
-    expect (key_spot text p) (scalar_of kinds.key p.line p.key) >>= λ event. value_at kinds.value (key_spot text p) p.value
+    expect (key_spot text p) (scalar_of kinds.key p.line p.key) >>= λ event. value_at kinds.value (key_spot text p)
+    p.value
     >>= λ value. Ok (record { event = event; value = value })
 
 -- the entries of a player
 unfoldable pub players_at : List ℕ → PlayerKinds → Pair → Result (List Player) RowsFault
-players_at text kinds p = expect (key_spot text p) (pairs_below p.value) >>= λ pairs. each_read (player_at text kinds) pairs
+players_at text kinds p = expect (key_spot text p) (pairs_below p.value) >>= λ pairs. each_read (player_at text kinds)
+    pairs
 
 -- the names that a section lists, of which there may be so many
-unfoldable pub names_at : ℕ → List ℕ → Pair → Result (List Written) RowsFault
+unfoldable pub names_at : ℕ → List ℕ → Pair → Result (List WrittenName) RowsFault
 names_at most text p = listed_at written_in most (at_least 0) (key_spot text p) p.value

@@ -1,11 +1,11 @@
 -- The rows of sections, apart from where they lie in memory.
 use Rattle.std.specs.Prelude.{ℕ, List}
-use Rattle.setting_values.specs.Values.{Written, Plain, Value}
+use Rattle.setting_values.specs.Values.{WrittenName, Plain, Value}
 
 -- an entry: its name, the values of its settings in the order of the section's table, and the places in the table of
 -- the settings that are written, in the order in which they are written
 pub record Entry : Type 0 where
-  pub name : Written
+  pub name : WrittenName
   pub values : List Value
   pub order : List ℕ
 

@@ -1,6 +1,6 @@
 -- What a table says of its settings.
 use Rattle.std.specs.Prelude.{ℕ, Bool, true, false, List, Option, Some, None}
-use Rattle.setting_values.specs.{Values.{nothing, Value, one}, Kinds.{Absent, required, default}}
+use Rattle.setting_values.specs.{Values.{nothing, Value, one}, Kinds.{Absent, mandatory, default}}
 use Rattle.section_tables.specs.Shapes.{Setting}
 
 abbrev pub setting_key : Setting → List ℕ
@@ -8,7 +8,7 @@ setting_key s = s.key
 
 -- what holds if nothing is written; nothing if something has to be
 abbrev pub value_default : Absent Value → Value
-value_default required = one nothing
+value_default mandatory = one nothing
 value_default (default v) = v
 
 abbrev pub setting_default : Setting → Value
@@ -16,7 +16,7 @@ setting_default s = value_default s.absent
 
 -- whether nothing is written that has to be
 abbrev pub value_lacks : Absent Value → Value → Bool
-value_lacks required (one nothing) = true
+value_lacks mandatory (one nothing) = true
 value_lacks _ _ = false
 
 -- the same, when there may be no value

@@ -19,12 +19,13 @@ with_written row _ _ = row
 
 -- the values of an entry, in the order of the section's table
 unfoldable pub row_values : EntryRow → List values.Value
-row_values row = with_written row.bare.value.items row.order.items row.written.items
+row_values row = with_written row.bare.value.items row.order.items row.written_values.items
 
 -- ---- entries
 
 abbrev pub entry_view : entries.Entry → Entry
-entry_view e = record { name = name_view e.name; values = values_view (row_values e.row.value); order = e.row.value.order.items }
+entry_view e =
+    record { name = name_view e.name; values = values_view (row_values e.row.value); order = e.row.value.order.items }
 
 abbrev pub entries_view : Vec entries.Entry → List Entry
 entries_view xs = map entry_view xs.items

@@ -1,7 +1,7 @@
 //! What the entries of a section share.
 
 ghost use Rattle.std.specs.Prelude.{◌≡◌, IfOk};
-ghost use Rattle.section_tables.specs.Inside.{AreSettingDefaults, IsBareRow};
+ghost use Rattle.section_tables.specs.TableAnswers.{AreSettingDefaults, IsBareRow};
 
 use crate::rows::EntryRow;
 use crate::settings::{bare_row, first_lacking};
@@ -31,7 +31,7 @@ pub fn bare_of(alloc: Global, table: &[Setting]) -> Result<Bare<'_>, AllocError>
 {
     let values = Rc::new(alloc, bare_row(alloc, table)?)?;
     let row = EntryRow {
-        written: Vec::new(alloc),
+        written_values: Vec::new(alloc),
         order: Vec::new(alloc),
         bare: values.clone()?,
     };

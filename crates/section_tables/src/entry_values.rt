@@ -2,7 +2,7 @@
 
 ghost use Rattle.std.specs.Prelude.{◌≡◌, slice_get};
 ghost use Rattle.section_tables.specs.View.{entry_view, value_option_view};
-ghost use Rattle.section_tables.specs.Inside.{IsValueAt};
+ghost use Rattle.section_tables.specs.TableAnswers.{IsValueAt};
 
 use crate::rows::{Entry, EntryRow};
 use setting_values::values::Value;
@@ -19,7 +19,7 @@ impl EntryRow {
         while at > 0 {
             at -= 1;
             if self.order[at] == place {
-                return self.written.get(at);
+                return self.written_values.get(at);
             }
         }
         self.bare.get(place)

@@ -4,11 +4,11 @@ ghost use Rattle.std.specs.Prelude.{◌≡◌, ◌≢◌, ℕ, ◌<◌, List, If
 ghost use Rattle.section_tables.specs.Rows.{Player as Row};
 ghost use Rattle.section_tables.specs.View.{players_view};
 ghost use Rattle.section_tables.specs.Gives.{ArePlayersOf, read_players, GivesPlayers};
-ghost use Rattle.section_tables.specs.Inside.{GivesPlayer, read_player};
+ghost use Rattle.section_tables.specs.TableAnswers.{GivesPlayer, read_player};
 
 use crate::rows::Player;
 use crate::table::PlayerKinds;
-use config_faults::{ConfigFault, FaultKind, spot_of};
+use config_faults::{BundleFaultKind, ConfigFault, spot_of};
 use setting_values::{each, pairs, scalar, value};
 use std::alloc::Global;
 use yaml_subset::tree::{Key, Tree};
@@ -27,7 +27,7 @@ fn player(
     let key = &pair.0;
     let spot = spot_of(text, key);
     let Some(event) = scalar(alloc, kinds.key, key.line, &key.text)? else {
-        return Err(ConfigFault::Bundle(spot.fault(alloc, FaultKind::BadValue)?));
+        return Err(ConfigFault::Bundle(spot.fault(alloc, BundleFaultKind::BadValue)?));
     };
     let value = value(alloc, spot, kinds.value, &pair.1)?;
     Ok(Player { event, value })
@@ -69,10 +69,12 @@ pub fn players(
     ensures found { IfOk result (λ xs. ArePlayersOf 1024 kinds pair.now (players_view xs)) }
 
     // It has no others, however many items its lists may have.
-    ensures only { IfOk result (λ xs. (longest : ℕ) (rows : List Row) → ArePlayersOf longest kinds pair.now rows → rows ≡ players_view xs) }
+    ensures only { IfOk result (λ xs. (longest : ℕ) (rows : List Row) → ArePlayersOf longest kinds pair.now rows
+        → rows ≡ players_view xs) }
 
     // A player that is refused, but for want of memory, has entries only if a list is too long.
-    ensures refused { IfErr result (λ e. e ≢ ConfigFault.NoMemory → (longest : ℕ) (rows : List Row) → ArePlayersOf longest kinds pair.now rows → 1024 < longest) }
+    ensures refused { IfErr result (λ e. e ≢ ConfigFault.NoMemory → (longest : ℕ) (rows : List Row)
+        → ArePlayersOf longest kinds pair.now rows → 1024 < longest) }
 
     // Which fault it is, with its line and key, is what reading from the first entry gives.
     ensures exact { GivesPlayers result (read_players kinds text.now pair.now) }

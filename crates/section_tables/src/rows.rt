@@ -11,12 +11,12 @@ use std::rc::Rc;
 pub struct EntryRow {
     /// The values that are written, in the order in which they are written. A key that the table does
     /// not have gives none.
-    pub(crate) written: Vec<Value>,
+    pub(crate) written_values: Vec<Value>,
     /// Their places in the table.
     pub(crate) order: Vec<usize>,
     /// What holds if nothing is written: a value for each setting of the table.
     pub(crate) bare: Rc<Vec<Value>>,
-    ghost placed: { length order.items ≡ length written.items },
+    ghost has_places: { length order.items ≡ length written_values.items },
 }
 
 /// An entry of a section. The entries of a section in which nothing is written share one row.

@@ -3,18 +3,19 @@
 ghost use Rattle.std.specs.Prelude.{◌≡◌, ◌≢◌, ℕ, ◌<◌, List, [], IfOk, IfErr};
 ghost use Rattle.std.specs.Rc.{rc_value};
 ghost use Rattle.section_tables.specs.Rows.{Entry as Row};
-ghost use Rattle.setting_values.specs.Values.{Written};
+ghost use Rattle.setting_values.specs.Values.{WrittenName};
 ghost use Rattle.setting_values.specs.View.{names_view};
 ghost use Rattle.section_tables.specs.View.{entry_view, entries_view};
-ghost use Rattle.section_tables.specs.Gives.{IsEntryOf, AreEntriesOf, AreNamesOf, read_entry, read_entries, read_names, GivesEntry, GivesEntries};
+ghost use Rattle.section_tables.specs.Gives.{IsEntryOf, AreEntriesOf, AreNamesOf, read_entry, read_entries, read_names};
+ghost use Rattle.section_tables.specs.Gives.{GivesEntry, GivesEntries};
 ghost use Rattle.setting_values.specs.Gives.{GivesNames};
-ghost use Rattle.section_tables.specs.Inside.{GivesRow, read_row, places_of_pairs, read_other_entry};
+ghost use Rattle.section_tables.specs.TableAnswers.{GivesRow, read_row, places_of_pairs, read_other_entry};
 
 use crate::bare::{Bare, bare_of};
 use crate::rows::{Entry, EntryRow};
 use crate::settings::row_of;
-use crate::table::{Barred, Setting};
-use config_faults::{ConfigFault, FaultKind, Spot, spot_of};
+use crate::table::{BarredNames, Setting};
+use config_faults::{BundleFaultKind, ConfigFault, Spot, spot_of};
 use setting_values::kinds::Bounds;
 use setting_values::values::Name;
 use setting_values::{each, is_name, name_of, names, pairs, word_in};
@@ -46,7 +47,7 @@ fn shared_row(alloc: Global, spot: Spot<'_>, bare: &Bare) -> Result<Rc<EntryRow>
         None => Ok(bare.row.clone()?),
         Some(key) => {
             let missing = Spot { key, ..spot };
-            Err(ConfigFault::Bundle(missing.fault(alloc, FaultKind::Missing)?))
+            Err(ConfigFault::Bundle(missing.fault(alloc, BundleFaultKind::Missing)?))
         }
     }
 }
@@ -80,7 +81,7 @@ fn read_entry(
     let key = &pair.0;
     let spot = spot_of(text, key);
     if !is_name(&key.text) {
-        return Err(ConfigFault::Bundle(spot.fault(alloc, FaultKind::BadValue)?));
+        return Err(ConfigFault::Bundle(spot.fault(alloc, BundleFaultKind::BadValue)?));
     }
     let below = pairs(alloc, spot, &pair.1)?;
     let row = row(alloc, spot, bare, below.pairs)?;
@@ -92,18 +93,18 @@ fn read_entry(
 #[tactic(auto, unfolding(crate::specs::Reading::other_entry_at))]
 fn read_other_entry(
     alloc: Global,
-    barred: Barred,
+    barred_names: BarredNames,
     bare: &Bare,
     text: &[u8],
     pair: &(Key, Tree),
 ) -> Result<Entry, ConfigFault>
-    ensures { GivesEntry result (read_other_entry barred bare.now.table.now text.now pair.now) }
+    ensures { GivesEntry result (read_other_entry barred_names bare.now.table.now text.now pair.now) }
 {
     let key = &pair.0;
-    match word_in(barred.names, &key.text) {
+    match word_in(barred_names.names, &key.text) {
         None => read_entry(alloc, bare, text, pair),
         Some(_) => {
-            let fault = spot_of(text, key).fault(alloc, FaultKind::BadValue)?;
+            let fault = spot_of(text, key).fault(alloc, BundleFaultKind::BadValue)?;
             Err(ConfigFault::Bundle(fault))
         }
     }
@@ -114,20 +115,21 @@ fn read_other_entry(
 #[tactic(auto, unfolding(crate::specs::Reading::entries_at))]
 fn read_entries(
     alloc: Global,
-    barred: Barred,
+    barred_names: BarredNames,
     bare: &Bare,
     text: &[u8],
     pair: &(Key, Tree),
 ) -> Result<Vec<Entry>, ConfigFault>
-    ensures { GivesEntries result (read_entries barred bare.now.table.now text.now pair.now) }
+    ensures { GivesEntries result (read_entries barred_names bare.now.table.now text.now pair.now) }
 {
     let below = pairs(alloc, spot_of(text, &pair.0), &pair.1)?;
     each(
         alloc,
         below.pairs,
         |pair|
-            ensures { GivesEntry result (read_other_entry barred bare.entry.now.table.now text.entry.now pair.now) }
-        { read_other_entry(alloc, barred, bare, text, pair) },
+            ensures { GivesEntry result (read_other_entry barred_names bare.entry.now.table.now text.entry.now
+                pair.now) }
+        { read_other_entry(alloc, barred_names, bare, text, pair) },
     )
 }
 
@@ -168,10 +170,12 @@ pub fn entry(
     ensures found { IfOk result (λ x. IsEntryOf 1024 table.now pair.now (entry_view x)) }
 
     // The pair is no other, however many items its lists may have.
-    ensures only { IfOk result (λ x. (longest : ℕ) (e : Row) → IsEntryOf longest table.now pair.now e → e ≡ entry_view x) }
+    ensures only { IfOk result (λ x. (longest : ℕ) (e : Row) → IsEntryOf longest table.now pair.now e
+        → e ≡ entry_view x) }
 
     // A pair that is refused, but for want of memory, is an entry only if a list is too long.
-    ensures refused { IfErr result (λ e. e ≢ ConfigFault.NoMemory → (longest : ℕ) (row : Row) → IsEntryOf longest table.now pair.now row → 1024 < longest) }
+    ensures refused { IfErr result (λ e. e ≢ ConfigFault.NoMemory → (longest : ℕ) (row : Row)
+        → IsEntryOf longest table.now pair.now row → 1024 < longest) }
 
     // Which fault it is, with its line and key, is what reading from the first setting gives.
     ensures exact { GivesEntry result (read_entry table.now text.now pair.now) }
@@ -189,25 +193,27 @@ pub fn entry(
 /// is `BadValue` if its name is barred, and else as [`entry`] reports it.
 pub fn entries(
     alloc: Global,
-    barred: Barred,
+    barred_names: BarredNames,
     table: &[Setting],
     text: &[u8],
     pair: &(Key, Tree),
 ) -> Result<Vec<Entry>, ConfigFault>
     // What is answered are the entries of the section.
-    ensures found { IfOk result (λ xs. AreEntriesOf 1024 barred table.now pair.now (entries_view xs)) }
+    ensures found { IfOk result (λ xs. AreEntriesOf 1024 barred_names table.now pair.now (entries_view xs)) }
 
     // The section has no others, however many items its lists may have.
-    ensures only { IfOk result (λ xs. (longest : ℕ) (es : List Row) → AreEntriesOf longest barred table.now pair.now es → es ≡ entries_view xs) }
+    ensures only { IfOk result (λ xs. (longest : ℕ) (es : List Row)
+        → AreEntriesOf longest barred_names table.now pair.now es → es ≡ entries_view xs) }
 
     // A section that is refused, but for want of memory, has entries only if a list is too long.
-    ensures refused { IfErr result (λ e. e ≢ ConfigFault.NoMemory → (longest : ℕ) (es : List Row) → AreEntriesOf longest barred table.now pair.now es → 1024 < longest) }
+    ensures refused { IfErr result (λ e. e ≢ ConfigFault.NoMemory → (longest : ℕ) (es : List Row)
+        → AreEntriesOf longest barred_names table.now pair.now es → 1024 < longest) }
 
     // Which fault it is, with its line and key, is what reading from the first entry gives.
-    ensures exact { GivesEntries result (read_entries barred table.now text.now pair.now) }
+    ensures exact { GivesEntries result (read_entries barred_names table.now text.now pair.now) }
 {
     let bare = bare_of(alloc, table)?;
-    read_entries(alloc, barred, &bare, text, pair)
+    read_entries(alloc, barred_names, &bare, text, pair)
 }
 
 /// The names that a section lists, at most so many, in the text of this name, each with the line
@@ -227,10 +233,12 @@ pub fn name_list(
     ensures found { IfOk result (λ xs. AreNamesOf most pair.now (names_view xs)) }
 
     // The section lists no others, however many items it may have.
-    ensures only { IfOk result (λ xs. (longest : ℕ) (ws : List Written) → AreNamesOf longest pair.now ws → ws ≡ names_view xs) }
+    ensures only { IfOk result (λ xs. (longest : ℕ) (ws : List WrittenName) → AreNamesOf longest pair.now ws
+        → ws ≡ names_view xs) }
 
     // A section that is refused, but for want of memory, lists names only if the list is too long.
-    ensures refused { IfErr result (λ e. e ≢ ConfigFault.NoMemory → (longest : ℕ) (ws : List Written) → AreNamesOf longest pair.now ws → most < longest) }
+    ensures refused { IfErr result (λ e. e ≢ ConfigFault.NoMemory → (longest : ℕ) (ws : List WrittenName)
+        → AreNamesOf longest pair.now ws → most < longest) }
 
     // Which fault it is is what reading the list gives.
     ensures exact { GivesNames result (read_names most text.now pair.now) }

@@ -12,11 +12,13 @@ ghost use Rattle.section_tables.specs.Tables.{value_default, value_lacks, lacks_
 ghost use Rattle.section_tables.specs.TableView.{without_view};
 ghost use Rattle.setting_values.specs.View.{names_view, handlers_view, value_view};
 ghost use Rattle.section_tables.specs.View.{value_option_view, with_written, row_values};
-ghost use Rattle.section_tables.specs.Inside.{GivesRow, WritesValues, FindsSetting, AreSettingDefaults, lacking_setting, put_setting, overwrite_settings, read_row, GainsPlaces, place_of_key, places_of_pairs};
+ghost use Rattle.section_tables.specs.TableAnswers.{GivesRow, WritesValues, FindsSetting, AreSettingDefaults};
+ghost use Rattle.section_tables.specs.TableAnswers.{lacking_setting, put_setting, overwrite_settings, read_row};
+ghost use Rattle.section_tables.specs.TableAnswers.{GainsPlaces, place_of_key, places_of_pairs};
 
 use crate::rows::EntryRow;
 use crate::table::{Setting, Without};
-use config_faults::{ConfigFault, FaultKind, Spot, spot_of};
+use config_faults::{BundleFaultKind, ConfigFault, Spot, spot_of};
 use setting_values::values::{Handler, Name, NameText, Value};
 use setting_values::{default_plain, plain_lacks, value};
 use std::alloc::{AllocError, Global};
@@ -27,7 +29,7 @@ use yaml_subset::tree::{Key, Tree};
 
 /// The settings that every entry takes, and at whose values nothing looks if the section's
 /// table does not have them.
-const IGNORED: [&[u8]; 11] = [
+const IGNORED_SETTINGS: [&[u8]; 11] = [
     b"number",
     b"tags",
     b"label",
@@ -52,7 +54,7 @@ pub fn is_one_of(names: &[&[u8]], name: &[u8]) -> bool
 fn is_ignored(key: &[u8]) -> bool
     ensures { result ≡ is_ignored key.now }
 {
-    is_one_of(&IGNORED, key)
+    is_one_of(&IGNORED_SETTINGS, key)
 }
 
 // The place in a table of the setting with this key, and the setting.
@@ -171,22 +173,23 @@ fn put(
     spot: Spot<'_>,
     table: &[Setting],
     tree: &Tree,
-    written: &mut Vec<Value>,
+    written_values: &mut Vec<Value>,
     order: &mut Vec<usize>,
 ) -> Result<(), ConfigFault>
-    requires { length order.old.items ≡ length written.old.items }
+    requires { length order.old.items ≡ length written_values.old.items }
     ensures order { OnOk result (GainsPlaces order.old order.new (place_of_key table.now spot.entry.key.now)) }
-    ensures placed { OnOk result (length order.new.items ≡ length written.new.items) }
-    ensures row { (row : List Value) → WritesValues result row order.new written.new (put_setting spot.entry table.now tree.now (with_written row order.old.items written.old.items)) }
+    ensures has_places { OnOk result (length order.new.items ≡ length written_values.new.items) }
+    ensures row { (row : List Value) → WritesValues result row order.new written_values.new
+        (put_setting spot.entry table.now tree.now (with_written row order.old.items written_values.old.items)) }
 {
     let Some((at, setting)) = setting_of(table, spot.key) else {
         if is_ignored(spot.key) {
             return Ok(());
         }
-        return Err(ConfigFault::Bundle(spot.fault(alloc, FaultKind::UnknownSetting)?));
+        return Err(ConfigFault::Bundle(spot.fault(alloc, BundleFaultKind::UnknownSetting)?));
     };
     let value = value(alloc, spot, setting.kind, tree)?;
-    written.push(value)?;
+    written_values.push(value)?;
     order.push(at)?;
     Ok(())
 }
@@ -197,13 +200,14 @@ fn overwrite(
     text: &[u8],
     table: &[Setting],
     pairs: &[(Key, Tree)],
-    written: &mut Vec<Value>,
+    written_values: &mut Vec<Value>,
     order: &mut Vec<usize>,
 ) -> Result<(), ConfigFault>
-    requires { length order.old.items ≡ length written.old.items }
+    requires { length order.old.items ≡ length written_values.old.items }
     ensures order { OnOk result (GainsPlaces order.old order.new (places_of_pairs table.now pairs.now)) }
-    ensures placed { OnOk result (length order.new.items ≡ length written.new.items) }
-    ensures row { (row : List Value) → WritesValues result row order.new written.new (overwrite_settings text.now table.now pairs.now (with_written row order.old.items written.old.items)) }
+    ensures has_places { OnOk result (length order.new.items ≡ length written_values.new.items) }
+    ensures row { (row : List Value) → WritesValues result row order.new written_values.new
+        (overwrite_settings text.now table.now pairs.now (with_written row order.old.items written_values.old.items)) }
 {
     for pair in pairs {
         put(
@@ -211,7 +215,7 @@ fn overwrite(
             spot_of(text, &pair.0),
             table,
             &pair.1,
-            written,
+            written_values,
             order,
         )?;
     }
@@ -233,17 +237,24 @@ pub fn row_of(
     ensures order { IfOk result (λ row. row.order.items ≡ places_of_pairs table.now pairs.now) }
     ensures row { GivesRow (λ row. row) result (read_row spot.entry table.now pairs.now) }
 {
-    let mut written = Vec::with_capacity(alloc, pairs.len())?;
+    let mut written_values = Vec::with_capacity(alloc, pairs.len())?;
     let mut order = Vec::with_capacity(alloc, pairs.len())?;
-    overwrite(alloc, spot.text, table, pairs, &mut written, &mut order)?;
+    overwrite(
+        alloc,
+        spot.text,
+        table,
+        pairs,
+        &mut written_values,
+        &mut order,
+    )?;
     let row = EntryRow {
-        written,
+        written_values,
         order,
         bare: bare.clone()?,
     };
     if let Some(key) = first_lacking(table, &row) {
         let missing = Spot { key, ..spot };
-        return Err(ConfigFault::Bundle(missing.fault(alloc, FaultKind::Missing)?));
+        return Err(ConfigFault::Bundle(missing.fault(alloc, BundleFaultKind::Missing)?));
     }
     Ok(row)
 }

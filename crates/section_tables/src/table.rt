@@ -38,7 +38,7 @@ pub struct PlayerKinds {
 
 /// Names that no entry of a section may have.
 #[derive(Clone, Copy)]
-pub struct Barred {
+pub struct BarredNames {
     pub names: &'static [&'static [u8]],
 }
 
@@ -46,7 +46,7 @@ pub struct Barred {
 #[derive(Clone, Copy)]
 pub enum Shape {
     /// Entries, none of which has a barred name, each with the settings of this table.
-    Entries(Barred, &'static [Setting]),
+    Entries(BarredNames, &'static [Setting]),
     /// The entries of a player.
     Players(PlayerKinds),
     /// The section is one entry itself, with the settings of this table.

@@ -1,5 +1,6 @@
 -- Names of which none comes twice.
-use Rattle.std.proofs.Common.{rules, ◌≡◌, ◌≢◌, ℕ, ◌+◌, ◌-◌, ◌<◌, Bool, true, false, ◌&&◌, ◌||◌, not, List, [], ◌∷◌, length, map, take, drop, length-drop, get_or, refl, sym, ap, ◌∙◌, arith}
+use Rattle.std.proofs.Common.{rules, ◌≡◌, ◌≢◌, ℕ, ◌+◌, ◌-◌, ◌<◌, Bool, true, false, ◌&&◌, ◌||◌, not, List, [], ◌∷◌}
+use Rattle.std.proofs.Common.{length, map, take, drop, length-drop, get_or, refl, sym, ap, ◌∙◌, arith}
 use Rattle.std.specs.{List.{AllPairs, AllByRecursion, IsDistinct, list_any}, Str.bytes_eq}
 use Rattle.std.proofs.lemmas.List.{take_all, drop_more, Elements.All-from_recursion, Folds.list_any_none}
 use Rattle.std.proofs.lemmas.Map.Keys.{IsDistinct-head, IsDistinct-tail, IsDistinct-cons, IsDistinct-from_apart}
@@ -27,7 +28,8 @@ distinct (k ∷ ks) e =
 apart : (ks : List (List ℕ)) → IsDistinct bytes_eq ks → are_apart ks ≡ true
 apart [] h = refl
 apart (k ∷ ks) h =
-    let others = list_any_none (bytes_eq k) ks (All-from_recursion (λ other. bytes_eq k other ≡ false) ks (IsDistinct-head bytes_eq k ks h)) in
+    let others = list_any_none (bytes_eq k) ks
+    (All-from_recursion (λ other. bytes_eq k other ≡ false) ks (IsDistinct-head bytes_eq k ks h)) in
     rw (others, apart ks (IsDistinct-tail bytes_eq k ks h)) refl
 
 pub apart_sound : (ks : List (List ℕ)) → are_apart ks ≡ true → AllPairs (λ x y. x ≢ y) ks

@@ -1,6 +1,6 @@
 -- A name that is a list text is its only item.
-use Rattle.std.proofs.Common.{rules, ◌≡◌, ℕ, ◌<◌, nat_lt, cond, eqb, Bool, true, false, List, [], ◌∷◌, Some, None, Result, Ok, refl, sym, ap, subst, ◌∙◌, arith, append-nil}
-use Rattle.std.specs.List.{list_all}
+use Rattle.std.proofs.Common.{rules, ◌≡◌, ℕ, ◌<◌, nat_lt, cond, eqb, Bool, true, false, List, [], ◌∷◌, Some, None}
+use Rattle.std.{proofs.Common.{Result, Ok, refl, sym, ap, subst, ◌∙◌, arith, append-nil}, specs.List.list_all}
 use Rattle.std.proofs.lemmas.{Bool.{and_parts, or_from, eqb-true, ltb-true}, Option.{same_Some, none-some}}
 use Rattle.yaml_bytes.specs.Bytes.{is_blank}
 use Rattle.yaml_subset.specs.{Node.{Node, scalar}, View.{line_of, text_in}}
@@ -18,11 +18,13 @@ is_no : (other : ℕ) → is_name_byte other ≡ false → (b : ℕ) → is_name
 is_no other none b h = by (eqb b other) refl
   where
     by : (e : Bool) → eqb b other ≡ e → eqb b other ≡ false
-    by true e = absurd (let no : false ≡ true = sym none ∙ subst (λ c. is_name_byte c ≡ true) (eqb-true b other e) h in cc)
+    by true e = absurd (let no : false ≡ true = sym none ∙ subst (λ c. is_name_byte c ≡ true) (eqb-true b other e) h
+        in cc)
     by false e = e
 
 no_separator : (b : ℕ) → is_name_byte b ≡ true → is_separator b ≡ false
-no_separator b h = or_from (eqb b 44) (is_blank b) (is_no 44 refl b h) (or_from (eqb b 32) (eqb b 9) (is_no 32 refl b h) (is_no 9 refl b h))
+no_separator b h = or_from (eqb b 44) (is_blank b) (is_no 44 refl b h)
+    (or_from (eqb b 32) (eqb b 9) (is_no 32 refl b h) (is_no 9 refl b h))
 
 opens_none : (b : ℕ) → is_name_byte b ≡ true → open_after 0 b ≡ 0
 opens_none b h = rw (is_no 123 refl b h, is_no 125 refl b h) refl
@@ -40,7 +42,8 @@ unfolding items_of
 one_item x1 h = search (rules, and_parts, one_piece)
 
 -- a name is the event of this name, handled always
-pub name_is_event : (text : List ℕ) → is_name text ≡ true → event_at text ≡ Some (record { name = text; condition = None })
+pub name_is_event : (text : List ℕ) → is_name text ≡ true
+    → event_at text ≡ Some (record { name = text; condition = None })
 name_is_event text h =
     (event_computes text).complete (record { name = text; condition = None })
     (record { rest = []; parts = sym (append-nil text); is_name = IsName-from_is_name text h; is_under = refl })
@@ -59,31 +62,45 @@ not_long x1 d r e = search rules
 
 module _ {B : Type 0} (f : Spot → Item → Result B RowsFault) (spot : Spot) where
   one_items : (most : ℕ) (bounds : Bounds) (line : ℕ) (text : List ℕ) → is_name text ≡ true
-      → list_items_at most bounds spot (scalar line text) ≡ (count_at most bounds spot 1 >>= λ _. Ok (item_at line text ∷ []))
+      → list_items_at most bounds spot (scalar line text)
+      ≡ (count_at most bounds spot 1 >>= λ _. Ok (item_at line text ∷ []))
   unfolding list_items_at list_at
   one_items most bounds line text named = search (rules, not_long, nat_lt, never, one_item)
 
-  one_read : (item : Item) (y : B) → f spot item ≡ Ok y → (r : Result (Unit {0}) RowsFault) → (r >>= λ _. Ok (y ∷ [])) ≡ ((r >>= λ _. Ok (item ∷ [])) >>= each_read (f spot))
+  one_read : (item : Item) (y : B) → f spot item ≡ Ok y → (r : Result (Unit {0}) RowsFault)
+      → (r >>= λ _. Ok (y ∷ [])) ≡ ((r >>= λ _. Ok (item ∷ [])) >>= each_read (f spot))
   unfolding each_read
   one_read item y is x4 = search rules
 
   -- what a name is read as that is the text of a list
-  one_listed : (most : ℕ) (bounds : Bounds) (line : ℕ) (text : List ℕ) (y : B) → is_name text ≡ true → f spot (item_at line text) ≡ Ok y
+  one_listed : (most : ℕ) (bounds : Bounds) (line : ℕ) (text : List ℕ) (y : B) → is_name text ≡ true
+      → f spot (item_at line text) ≡ Ok y
       → (count_at most bounds spot 1 >>= λ _. Ok (y ∷ [])) ≡ listed_at f most bounds spot (scalar line text)
   one_listed most bounds line text y named is =
-      one_read (item_at line text) y is (count_at most bounds spot 1) ∙ sym (ap (λ (r : Result (List Item) RowsFault). r >>= each_read (f spot)) (one_items most bounds line text named))
+      one_read (item_at line text) y is (count_at most bounds spot 1)
+      ∙ sym (ap (λ (r : Result (List Item) RowsFault). r >>= each_read (f spot))
+      (one_items most bounds line text named))
 
-  pub one_name : (most : ℕ) (bounds : Bounds) (node : Node) (text : List ℕ) (y : B) → text_in node ≡ Some text → is_name text ≡ true → f spot (item_at (line_of node) text) ≡ Ok y
+  pub one_name : (most : ℕ) (bounds : Bounds) (node : Node) (text : List ℕ) (y : B) → text_in node ≡ Some text
+      → is_name text ≡ true → f spot (item_at (line_of node) text) ≡ Ok y
       → (count_at most bounds spot 1 >>= λ _. Ok (y ∷ [])) ≡ listed_at f most bounds spot node
   one_name most bounds x3 text y here named is = search (rules, same_Some, one_listed, none-some)
 
-pub one_written : (most : ℕ) (bounds : Bounds) (spot : Spot) (node : Node) (text : List ℕ) → text_in node ≡ Some text → is_name text ≡ true
-    → (count_at most bounds spot 1 >>= λ _. Ok (written_at (line_of node) text ∷ [])) ≡ listed_at written_in most bounds spot node
+pub one_written : (most : ℕ) (bounds : Bounds) (spot : Spot) (node : Node) (text : List ℕ) → text_in node ≡ Some text
+    → is_name text ≡ true
+    → (count_at most bounds spot 1 >>= λ _. Ok (written_at (line_of node) text ∷ []))
+    ≡ listed_at written_in most bounds spot node
 unfolding written_in
-one_written most bounds spot node text here named = one_name written_in spot most bounds node text (written_at (line_of node) text) here named (rw named refl)
+one_written most bounds spot node text here named =
+    one_name written_in spot most bounds node text (written_at (line_of node) text) here named (rw named refl)
 
-pub one_handled : (most : ℕ) (bounds : Bounds) (spot : Spot) (node : Node) (text : List ℕ) → text_in node ≡ Some text → is_name text ≡ true
-    → (count_at most bounds spot 1 >>= λ _. Ok (handled_at (line_of node) (record { name = text; condition = None }) ∷ [])) ≡ listed_at handled_in most bounds spot node
+pub one_handled : (most : ℕ) (bounds : Bounds) (spot : Spot) (node : Node) (text : List ℕ) → text_in node ≡ Some text
+    → is_name text ≡ true
+    → (count_at most bounds spot 1 >>= λ _. Ok
+    (handled_at (line_of node) (record { name = text; condition = None }) ∷ []))
+    ≡ listed_at handled_in most bounds spot node
 unfolding handled_in
 one_handled most bounds spot node text here named =
-    one_name handled_in spot most bounds node text (handled_at (line_of node) (record { name = text; condition = None })) here named (rw (name_is_event text named) refl)
+    one_name handled_in spot most bounds node text
+    (handled_at (line_of node) (record { name = text; condition = None })) here named
+    (rw (name_is_event text named) refl)

@@ -2,7 +2,7 @@
 use Rattle.std.specs.{Prelude.{ℕ, List, Result, ◌≡◌, Option}, Global.Vec}
 use Rattle.yaml_subset.specs.{declared.tree.Tree.Tree, Node.Pair, View.node_view}
 use Rattle.setting_values.specs.declared.{values.Name.Name, nodes.MapPairs.MapPairs}
-use Rattle.setting_values.specs.{Values.{Written, Plain, Value}, Below.pairs_below}
+use Rattle.setting_values.specs.{Values.{WrittenName, Plain, Value}, Below.pairs_below}
 use Rattle.config_faults.specs.declared.{fault.ConfigFault.ConfigFault, spot.Spot.Spot}
 use Rattle.config_faults.specs.Faults.{RowsFault, GivesRows, spot_view}
 use Rattle.setting_values.specs.View.{names_view, plain_view, value_view, pairs_in_view}
@@ -15,7 +15,7 @@ use Rattle.setting_values.specs.KindView.{scalar_view, bounds_view, kind_view}
 -- ---- answers: what reading gives, which is a value or the first fault, unless memory ran out
 
 -- the answer is the names that are read
-abbrev pub GivesNames : Result (Vec Name) ConfigFault → Result (List Written) RowsFault → Type 0
+abbrev pub GivesNames : Result (Vec Name) ConfigFault → Result (List WrittenName) RowsFault → Type 0
 GivesNames answer read = GivesRows names_view answer read
 
 -- the answer is the pairs of a mapping
@@ -33,14 +33,15 @@ abbrev pub read_pairs : Spot → Tree → Result (List Pair) RowsFault
 read_pairs spot tree = expect (spot_view spot) (pairs_below (node_view tree))
 
 -- the names in a list
-abbrev pub read_listed_names : Spot → ℕ → Bounds → Tree → Result (List Written) RowsFault
-read_listed_names spot most bounds value = listed_at written_in most (bounds_view bounds) (spot_view spot) (node_view value)
+abbrev pub read_listed_names : Spot → ℕ → Bounds → Tree → Result (List WrittenName) RowsFault
+read_listed_names spot most bounds value =
+    listed_at written_in most (bounds_view bounds) (spot_view spot) (node_view value)
 
 -- ---- texts
 
 -- a value is what a text says, or nothing if it says nothing
 abbrev pub IsPlainSaid : Option plains.Plain → Option Plain → Type 0
-IsPlainSaid value said = give plain_view value ≡ said
+IsPlainSaid value value_read = give plain_view value ≡ value_read
 
 -- what a text at a line says that is to be of this kind
 abbrev pub scalar_said : Scalar → ℕ → List ℕ → Option Plain

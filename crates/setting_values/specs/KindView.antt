@@ -12,7 +12,9 @@ use Rattle.setting_values.specs.declared.kinds.Field as fields
 use Rattle.setting_values.specs.declared.kinds.Kind as kinds
 use Rattle.setting_values.specs.declared.kinds.Kind.TheVariants as kind
 use Rattle.setting_values.specs.Values.{Plain, nothing, flag, number, time, power, word, name, written_at}
-use Rattle.setting_values.specs.Kinds.{Scalar, a_flag, number_within, time_within, a_power, one_of, a_name, an_event, Bounds, at_least, between, Absent, required, default, Field, Kind, single, name_list, post_list, event_list, step_list, map_list, named_maps, keyed_maps}
+use Rattle.setting_values.specs.Kinds.{Scalar, a_flag, number_within, time_within, a_power, one_of, a_name, an_event}
+use Rattle.setting_values.specs.Kinds.{Bounds, at_least, between, Absent, mandatory, default, Field, Kind, single}
+use Rattle.setting_values.specs.Kinds.{name_list, post_list, event_list, step_list, map_list, named_maps, keyed_maps}
 
 abbrev pub scalar_view : scalars.Scalar → Scalar
 scalar_view scalar.Flag = a_flag
@@ -32,7 +34,7 @@ others_view others.Refused = false
 others_view others.Ignored = true
 
 abbrev pub absent_view : absents.Absent → Absent Plain
-absent_view absent.Required = required
+absent_view absent.Required = mandatory
 absent_view absent.Nothing = default nothing
 absent_view (absent.Flag b) = default (flag b)
 absent_view (absent.Number n) = default (number n)

@@ -23,7 +23,7 @@ fits (between least greatest) n = nat_le least n && nat_le n greatest
 
 -- what holds if nothing is written, or that something has to be
 pub data Absent (V : Type 0) : Type 0 where
-  required : Absent V
+  mandatory : Absent V
   default : V → Absent V
 
 -- a line of a table: a key, of which kind its value is, and what holds without it

@@ -10,4 +10,4 @@ pub mod KindView
 pub mod Gives
 pub mod GivenEach
 -- only contracts of private functions cite these
-pub mod Inside
+pub mod ValueAnswers

@@ -3,12 +3,12 @@ use Rattle.std.specs.Prelude.{ℕ, ℤ, Bool, List}
 use Rattle.mpf_values.specs.Events.{Event}
 
 -- a name, with the line where it is written; one that is not written has line 0
-pub record Written : Type 0 where
+pub record WrittenName : Type 0 where
   pub line : ℕ
   pub text : List ℕ
 
 -- a handled event, with the line where it is written
-pub record Handled : Type 0 where
+pub record HandledEvent : Type 0 where
   pub line : ℕ
   pub event : Event
 
@@ -20,8 +20,8 @@ pub data Plain : Type 0 where
   time : ℕ → Plain
   power : ℕ → Plain
   word : List ℕ → Plain
-  name : Written → Plain
-  event : Handled → Plain
+  name : WrittenName → Plain
+  event : HandledEvent → Plain
 
 -- a map in a list, with the line where it begins: its values in the order of its table
 pub record Fields : Type 0 where
@@ -29,24 +29,24 @@ pub record Fields : Type 0 where
   pub values : List Plain
 
 -- a name, and the values that belong to it in the order of their table
-pub record Keyed : Type 0 where
-  pub name : Written
+pub record KeyedValues : Type 0 where
+  pub name : WrittenName
   pub values : List Plain
 
 -- the value of a setting: what one text says, names, names of events that are posted, handled events, steps of handled
 -- events, maps, or names with values
 pub data Value : Type 0 where
   one : Plain → Value
-  names : List Written → Value
-  posts : List Written → Value
-  events : List Handled → Value
-  steps : List (List Handled) → Value
+  names : List WrittenName → Value
+  posts : List WrittenName → Value
+  events : List HandledEvent → Value
+  steps : List (List HandledEvent) → Value
   maps : List Fields → Value
-  keyed : List Keyed → Value
+  by_key : List KeyedValues → Value
 
 -- a name, as it is written
-abbrev pub written_at : ℕ → List ℕ → Written
+abbrev pub written_at : ℕ → List ℕ → WrittenName
 written_at line text = record { line = line; text = text }
 
-abbrev pub handled_at : ℕ → Event → Handled
+abbrev pub handled_at : ℕ → Event → HandledEvent
 handled_at line e = record { line = line; event = e }

@@ -1,31 +1,33 @@
 -- What contracts see of the values, and of an answer.
 use Rattle.std.specs.{Prelude.{ℕ, map, List, Option, Some, None}, Borrow.Bor, Global.{Box, Vec}}
 use Rattle.yaml_subset.specs.{declared.tree.{Key.Key, Tree.Tree}, Node.{Node, Pair}, View.{node_view, pair_view}}
-use Rattle.setting_values.specs.declared.nodes.{MapPairs.MapPairs, ListNodes.ListNodes}
-use Rattle.setting_values.specs.Values.{written_at, Written, Handled, Plain, nothing, flag, number, time, power, word, name, event, Fields, Keyed, Value, one, names, posts, events, steps, maps, keyed}
-use Rattle.mpf_values.specs.Events.{Condition}
+use Rattle.setting_values.specs.{declared.nodes.{MapPairs.MapPairs, ListNodes.ListNodes}, Values.{steps, maps, by_key}}
+use Rattle.setting_values.specs.Values.{written_at, WrittenName, HandledEvent, Plain, nothing, flag, number, time}
+use Rattle.setting_values.specs.Values.{power, word, name, event, Fields, KeyedValues, Value, one, names, posts, events}
+use Rattle.mpf_values.specs.Events.{EventCondition}
 use Rattle.setting_values.specs.declared.values.{Name.Name, Guard.Guard, Handler.Handler}
 use Rattle.setting_values.specs.declared.values.Plain as plains
 use Rattle.setting_values.specs.declared.values.Plain.TheVariants as plain
 use Rattle.setting_values.specs.declared.values.Fields as fields
-use Rattle.setting_values.specs.declared.values.Keyed as keyed_rows
+use Rattle.setting_values.specs.declared.values.KeyedValues as keyed_rows
 use Rattle.setting_values.specs.declared.values.Value as values
 use Rattle.setting_values.specs.declared.values.Value.TheVariants as value
 
 -- ---- values
 
-abbrev pub name_view : Name → Written
+abbrev pub name_view : Name → WrittenName
 name_view n = record { line = n.line; text = n.text.items }
 
-abbrev pub guard_view : Guard → Condition
+abbrev pub guard_view : Guard → EventCondition
 guard_view c = record { variable = c.variable.items; comparison = c.comparison; number = c.number }
 
-abbrev pub guard_option_view : Option (Box Guard) → Option Condition
+abbrev pub guard_option_view : Option (Box Guard) → Option EventCondition
 guard_option_view None = None
 guard_option_view (Some c) = Some (guard_view c.value)
 
-abbrev pub handler_view : Handler → Handled
-handler_view h = record { line = h.line; event = record { name = h.name.items; condition = guard_option_view h.condition } }
+abbrev pub handler_view : Handler → HandledEvent
+handler_view h =
+    record { line = h.line; event = record { name = h.name.items; condition = guard_option_view h.condition } }
 
 abbrev pub plain_view : plains.Plain → Plain
 plain_view plain.Nothing = nothing
@@ -41,13 +43,13 @@ plain_view (plain.Event h) = event (handler_view h.value)
 abbrev pub plains_view : List plains.Plain → List Plain
 plains_view = map plain_view
 
-abbrev pub names_view : Vec Name → List Written
+abbrev pub names_view : Vec Name → List WrittenName
 names_view xs = map name_view xs.items
 
-abbrev pub handlers_view : Vec Handler → List Handled
+abbrev pub handlers_view : Vec Handler → List HandledEvent
 handlers_view xs = map handler_view xs.items
 
-abbrev pub steps_view : Vec (Vec Handler) → List (List Handled)
+abbrev pub steps_view : Vec (Vec Handler) → List (List HandledEvent)
 steps_view xs = map handlers_view xs.items
 
 abbrev pub fields_view : fields.Fields → Fields
@@ -56,10 +58,10 @@ fields_view m = record { line = m.line; values = plains_view m.values.items }
 abbrev pub maps_view : Vec fields.Fields → List Fields
 maps_view xs = map fields_view xs.items
 
-abbrev pub keyed_view : keyed_rows.Keyed → Keyed
+abbrev pub keyed_view : keyed_rows.KeyedValues → KeyedValues
 keyed_view k = record { name = name_view k.name; values = plains_view k.values.items }
 
-abbrev pub keyed_list_view : Vec keyed_rows.Keyed → List Keyed
+abbrev pub keyed_list_view : Vec keyed_rows.KeyedValues → List KeyedValues
 keyed_list_view xs = map keyed_view xs.items
 
 abbrev pub value_view : values.Value → Value
@@ -69,7 +71,7 @@ value_view (value.Posts xs) = posts (names_view xs)
 value_view (value.Events xs) = events (handlers_view xs)
 value_view (value.Steps xs) = steps (steps_view xs)
 value_view (value.Maps xs) = maps (maps_view xs)
-value_view (value.Keyed xs) = keyed (keyed_list_view xs)
+value_view (value.Keyed xs) = by_key (keyed_list_view xs)
 
 abbrev pub values_view : List values.Value → List Value
 values_view = map value_view
@@ -83,7 +85,7 @@ abbrev pub pairs_in_view : MapPairs → List Pair
 pairs_in_view below = pairs_view below.pairs.now
 
 abbrev pub nodes_in_view : ListNodes → List Node
-nodes_in_view listed = map node_view listed.nodes.now
+nodes_in_view nodes_of_list = map node_view nodes_of_list.nodes.now
 
 -- the place and the element that were found
 abbrev pub found_view : {T R : Type 0} → (T → R) → Option (ℕ × Bor T) → Option (ℕ × R)

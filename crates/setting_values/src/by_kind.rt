@@ -1,6 +1,6 @@
 //! The value of a setting, by its kind.
 
-ghost use Rattle.setting_values.specs.Inside.{GivesHandlers, GivesSteps, read_step, read_steps};
+ghost use Rattle.setting_values.specs.ValueAnswers.{GivesHandlers, GivesSteps, read_step, read_steps};
 ghost use Rattle.setting_values.specs.Gives.{GivesValue, read_value};
 
 use crate::fields::{keyed_list, maps, named_maps};
@@ -23,10 +23,10 @@ fn steps(
 ) -> Result<Vec<Vec<Handler>>, ConfigFault>
     ensures { GivesSteps result (read_steps spot.entry bounds tree.now) }
 {
-    let listed = nodes(alloc, spot, bounds, tree)?;
+    let list_nodes = nodes(alloc, spot, bounds, tree)?;
     each(
         alloc,
-        listed.nodes,
+        list_nodes.nodes,
         |node|
             ensures { GivesHandlers result (read_step spot.entry node.now) }
         { handlers(alloc, spot, Bounds::AtLeast(1), node) },
@@ -68,8 +68,8 @@ pub fn value(alloc: Global, spot: Spot<'_>, kind: Kind, tree: &Tree) -> Result<V
             Ok(Value::Maps(maps))
         }
         Kind::Keyed(table, at, short) => {
-            let keyed = keyed_list(alloc, spot, table, at, short, tree)?;
-            Ok(Value::Keyed(keyed))
+            let items = keyed_list(alloc, spot, table, at, short, tree)?;
+            Ok(Value::Keyed(items))
         }
     }
 }

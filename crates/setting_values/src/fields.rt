@@ -6,15 +6,19 @@ ghost use Rattle.std.specs.Str.{bytes_eq};
 ghost use Rattle.yaml_subset.specs.View.{option_slice};
 ghost use Rattle.setting_values.specs.Reading.{are_apart};
 ghost use Rattle.setting_values.specs.KindView.{others_view};
-ghost use Rattle.setting_values.specs.Inside.{GivesPlains, FillsPlains, GivesFields, GivesMaps, GivesKeyed, GivesKeyedList, FindsField, AreFieldDefaults, AreFieldDefaultsBut, lacking_field, put_field, overwrite_fields, read_field_row, read_fields, read_maps, read_named_maps, name_of_map, names_of_maps, read_keyed_row, read_keyed, read_keyed_list};
+ghost use Rattle.setting_values.specs.ValueAnswers.{GivesPlains, FillsPlains, GivesFields, GivesMaps, GivesKeyed};
+ghost use Rattle.setting_values.specs.ValueAnswers.{GivesKeyedList, FindsField, AreFieldDefaults, AreFieldDefaultsBut};
+ghost use Rattle.setting_values.specs.ValueAnswers.{lacking_field, put_field, overwrite_fields, read_field_row};
+ghost use Rattle.setting_values.specs.ValueAnswers.{read_fields, read_maps, read_named_maps, name_of_map};
+ghost use Rattle.setting_values.specs.ValueAnswers.{names_of_maps, read_keyed_row, read_keyed, read_keyed_list};
 
 use crate::defaults::{default_plain, plain_lacks};
 use crate::items::each;
 use crate::kinds::{Bounds, Field, Others, Scalar};
 use crate::nodes::{few_pairs, nodes, pairs};
 use crate::scalars::{is_name, name_of, plain};
-use crate::values::{Fields, Keyed, Plain};
-use config_faults::{ConfigFault, FaultKind, Spot, spot_of};
+use crate::values::{Fields, KeyedValues, Plain};
+use config_faults::{BundleFaultKind, ConfigFault, Spot, spot_of};
 use std::alloc::{AllocError, Global};
 use yaml_subset::tree::{Key, Tree};
 
@@ -72,7 +76,7 @@ fn put(
         if others.is_ignored() {
             return Ok(());
         }
-        return Err(ConfigFault::Bundle(spot.fault(alloc, FaultKind::UnknownSetting)?));
+        return Err(ConfigFault::Bundle(spot.fault(alloc, BundleFaultKind::UnknownSetting)?));
     };
     row[at] = plain(alloc, spot, field.kind, tree)?;
     Ok(())
@@ -124,7 +128,7 @@ fn fields_row(
     overwrite(alloc, spot.text, table, others, pairs, &mut row)?;
     if let Some(key) = first_lacking(table, &row) {
         let missing = Spot { key, ..spot };
-        return Err(ConfigFault::Bundle(missing.fault(alloc, FaultKind::Missing)?));
+        return Err(ConfigFault::Bundle(missing.fault(alloc, BundleFaultKind::Missing)?));
     }
     Ok(row)
 }
@@ -159,10 +163,10 @@ pub fn maps(
 ) -> Result<Vec<Fields>, ConfigFault>
     ensures { GivesMaps result (read_maps spot.entry table.now others bounds tree.now) }
 {
-    let listed = nodes(alloc, spot, bounds, tree)?;
+    let list_nodes = nodes(alloc, spot, bounds, tree)?;
     each(
         alloc,
-        listed.nodes,
+        list_nodes.nodes,
         |node|
             ensures { GivesFields result (read_fields spot.entry table.entry.now others node.now) }
         { fields(alloc, spot, table, others, node) },
@@ -221,7 +225,7 @@ pub fn named_maps(
 {
     let maps = maps(alloc, spot, table, others, bounds, tree)?;
     if !are_apart(&maps) {
-        return Err(ConfigFault::Bundle(spot.fault(alloc, FaultKind::BadValue)?));
+        return Err(ConfigFault::Bundle(spot.fault(alloc, BundleFaultKind::BadValue)?));
     }
     Ok(maps)
 }
@@ -271,24 +275,24 @@ fn keyed_row(
 
 // A name and the values that belong to it, of the text of this name; or the first fault.
 #[tactic(auto, unfolding(crate::specs::Reading::keyed_at))]
-fn keyed(
+fn keyed_values(
     alloc: Global,
     text: &[u8],
     table: &[Field],
     at: usize,
     short: Scalar,
     pair: &(Key, Tree),
-) -> Result<Keyed, ConfigFault>
+) -> Result<KeyedValues, ConfigFault>
     ensures { GivesKeyed result (read_keyed text.now table.now at short pair.now) }
 {
     let key = &pair.0;
     let spot = spot_of(text, key);
     if !is_name(&key.text) {
-        return Err(ConfigFault::Bundle(spot.fault(alloc, FaultKind::BadValue)?));
+        return Err(ConfigFault::Bundle(spot.fault(alloc, BundleFaultKind::BadValue)?));
     }
     let values = keyed_row(alloc, spot, table, at, short, &pair.1)?;
     let name = name_of(alloc, key.line, &key.text)?;
-    Ok(Keyed { name, values })
+    Ok(KeyedValues { name, values })
 }
 
 /// The names of a map with the values that belong to each; or the first fault, which is `Limit` at
@@ -301,7 +305,7 @@ pub fn keyed_list(
     at: usize,
     short: Scalar,
     tree: &Tree,
-) -> Result<Vec<Keyed>, ConfigFault>
+) -> Result<Vec<KeyedValues>, ConfigFault>
     ensures { GivesKeyedList result (read_keyed_list spot.entry table.now at short tree.now) }
 {
     let below = few_pairs(alloc, spot, tree)?;
@@ -311,6 +315,6 @@ pub fn keyed_list(
         below.pairs,
         |pair|
             ensures { GivesKeyed result (read_keyed text.entry.now table.entry.now at short pair.now) }
-        { keyed(alloc, text, table, at, short, pair) },
+        { keyed_values(alloc, text, table, at, short, pair) },
     )
 }

@@ -3,7 +3,7 @@
 ghost use Rattle.std.specs.Prelude.{filter};
 ghost use Rattle.std.specs.Fn.{FnReturnsAt};
 ghost use Rattle.setting_values.specs.GivenEach.{GaveEach};
-ghost use Rattle.setting_values.specs.Inside.{is_counted};
+ghost use Rattle.setting_values.specs.ValueAnswers.{is_counted};
 
 use crate::lists::is_empty;
 use config_faults::ConfigFault;
@@ -19,12 +19,12 @@ pub fn each<T, U: Drop, F: Fn(&T) -> Result<U, ConfigFault>>(
     requires { F.IsAlwaysCallable read }
     ensures { GaveEach (FnReturnsAt F.Fn read) items.now result }
 {
-    let mut found = Vec::with_capacity(alloc, items.len())?;
+    let mut results = Vec::with_capacity(alloc, items.len())?;
     for item in items {
         let one = read(item)?;
-        found.push(one)?;
+        results.push(one)?;
     }
-    Ok(found)
+    Ok(results)
 }
 
 /// What `read` gives for each node that counts as an item of a YAML list, or its first error. There
@@ -38,12 +38,12 @@ pub fn each_counted<U: Drop, F: Fn(&Tree) -> Result<U, ConfigFault>>(
     requires { F.IsAlwaysCallable read }
     ensures { GaveEach (FnReturnsAt F.Fn read) (filter is_counted nodes.now) result }
 {
-    let mut found = Vec::with_capacity(alloc, count)?;
+    let mut results = Vec::with_capacity(alloc, count)?;
     for node in nodes {
         if !is_empty(node) {
             let one = read(node)?;
-            found.push(one)?;
+            results.push(one)?;
         }
     }
-    Ok(found)
+    Ok(results)
 }

@@ -6,13 +6,17 @@ ghost use Rattle.setting_values.specs.Kinds.{fits};
 ghost use Rattle.setting_values.specs.Reading.{counts};
 ghost use Rattle.setting_values.specs.KindView.{bounds_view};
 ghost use Rattle.setting_values.specs.Gives.{GivesNames, read_listed_names};
-ghost use Rattle.setting_values.specs.Inside.{GivesCheck, GivesItem, GivesItems, GivesName, GivesHandler, GivesHandlers, check_of_count, read_items, read_item_name, read_item_handler, read_node_item, read_node_name, read_node_handler, read_node_names, read_node_handlers, read_one_name, read_one_handler, read_listed_handlers};
+ghost use Rattle.setting_values.specs.ValueAnswers.{GivesCheck, GivesItem, GivesItems, GivesName, GivesHandler};
+ghost use Rattle.setting_values.specs.ValueAnswers.{GivesHandlers, check_of_count, read_items, read_item_name};
+ghost use Rattle.setting_values.specs.ValueAnswers.{read_item_handler, read_node_item, read_node_name};
+ghost use Rattle.setting_values.specs.ValueAnswers.{read_node_handler, read_node_names, read_node_handlers};
+ghost use Rattle.setting_values.specs.ValueAnswers.{read_one_name, read_one_handler, read_listed_handlers};
 
 use crate::items::{each, each_counted};
 use crate::kinds::Bounds;
 use crate::scalars::{handler_of, is_name, name_of};
 use crate::values::{Handler, Name};
-use config_faults::{ConfigFault, FaultKind, Spot};
+use config_faults::{BundleFaultKind, ConfigFault, Spot};
 use mpf_values::{Event, Item, ListFault, event, list};
 use std::alloc::Global;
 use yaml_subset::tree::Tree;
@@ -45,10 +49,10 @@ pub fn check_count(
     ensures { GivesCheck result (check_of_count spot.entry most bounds count) }
 {
     if count > most {
-        return Err(ConfigFault::Bundle(spot.fault(alloc, FaultKind::Limit)?));
+        return Err(ConfigFault::Bundle(spot.fault(alloc, BundleFaultKind::Limit)?));
     }
     if !bounds.fits(count) {
-        return Err(ConfigFault::Bundle(spot.fault(alloc, FaultKind::BadValue)?));
+        return Err(ConfigFault::Bundle(spot.fault(alloc, BundleFaultKind::BadValue)?));
     }
     Ok(())
 }
@@ -92,7 +96,7 @@ fn text_items<'a>(
         Ok(items) => items,
         Err(ListFault::NoMemory) => return Err(ConfigFault::NoMemory),
         Err(ListFault::BadValue) => {
-            return Err(ConfigFault::Bundle(spot.fault(alloc, FaultKind::BadValue)?));
+            return Err(ConfigFault::Bundle(spot.fault(alloc, BundleFaultKind::BadValue)?));
         }
     };
     check_count(alloc, spot, most, bounds, items.len())?;
@@ -110,7 +114,7 @@ fn node_item<'a>(alloc: Global, spot: Spot<'_>, node: &'a Tree) -> Result<Item<'
             line: node.line(),
             text,
         }),
-        None => Err(ConfigFault::Bundle(spot.fault(alloc, FaultKind::BadValue)?)),
+        None => Err(ConfigFault::Bundle(spot.fault(alloc, BundleFaultKind::BadValue)?)),
     }
 }
 
@@ -122,7 +126,7 @@ fn item_name(alloc: Global, spot: Spot<'_>, item: Item<'_>) -> Result<Name, Conf
     ensures { GivesName result (read_item_name spot.entry item.entry) }
 {
     if !is_name(item.text) {
-        return Err(ConfigFault::Bundle(spot.fault(alloc, FaultKind::BadValue)?));
+        return Err(ConfigFault::Bundle(spot.fault(alloc, BundleFaultKind::BadValue)?));
     }
     let name = name_of(alloc, item.line, item.text)?;
     Ok(name)
@@ -136,7 +140,7 @@ fn item_handler(alloc: Global, spot: Spot<'_>, item: Item<'_>) -> Result<Handler
     ensures { GivesHandler result (read_item_handler spot.entry item.entry) }
 {
     let Ok(event) = event(item.text) else {
-        return Err(ConfigFault::Bundle(spot.fault(alloc, FaultKind::BadValue)?));
+        return Err(ConfigFault::Bundle(spot.fault(alloc, BundleFaultKind::BadValue)?));
     };
     let handler = handler_of(alloc, item.line, event)?;
     Ok(handler)

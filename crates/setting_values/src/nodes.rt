@@ -9,11 +9,11 @@ ghost use Rattle.std.specs.Prelude.{◌≡◌, [], map};
 ghost use Rattle.yaml_subset.specs.View.{node_view, pair_view, option_slice};
 ghost use Rattle.setting_values.specs.Below.{pairs_below, nodes_below};
 ghost use Rattle.setting_values.specs.Gives.{GivesPairs, read_pairs};
-ghost use Rattle.setting_values.specs.Inside.{GivesNodes, read_few_pairs, read_nodes};
+ghost use Rattle.setting_values.specs.ValueAnswers.{GivesNodes, read_few_pairs, read_nodes};
 
 use crate::kinds::Bounds;
 use crate::lists::{MAX_ITEMS, check_count};
-use config_faults::{ConfigFault, FaultKind, Spot};
+use config_faults::{BundleFaultKind, ConfigFault, Spot};
 use std::alloc::Global;
 use yaml_subset::tree::{Key, Tree};
 
@@ -82,7 +82,7 @@ pub fn pairs<'a, 't: 'a>(
 {
     match pairs_of(tree) {
         Some(pairs) => Ok(MapPairs { pairs }),
-        None => Err(ConfigFault::Bundle(spot.fault(alloc, FaultKind::BadValue)?)),
+        None => Err(ConfigFault::Bundle(spot.fault(alloc, BundleFaultKind::BadValue)?)),
     }
 }
 
@@ -118,7 +118,7 @@ pub fn nodes<'a, 't: 'a>(
     ensures { GivesNodes result (read_nodes spot.entry bounds tree.now) }
 {
     let Some(nodes) = nodes_of(tree) else {
-        return Err(ConfigFault::Bundle(spot.fault(alloc, FaultKind::BadValue)?));
+        return Err(ConfigFault::Bundle(spot.fault(alloc, BundleFaultKind::BadValue)?));
     };
     check_count(alloc, spot, MAX_ITEMS, bounds, nodes.len())?;
     Ok(ListNodes { nodes })

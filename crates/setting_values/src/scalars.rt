@@ -8,12 +8,12 @@ ghost use Rattle.setting_values.specs.Values.{written_at, handled_at};
 ghost use Rattle.setting_values.specs.ValueOf.{within};
 ghost use Rattle.setting_values.specs.Reading.{is_one_of};
 ghost use Rattle.setting_values.specs.View.{name_view, handler_view};
-ghost use Rattle.setting_values.specs.Inside.{GivesPlain, name_said, event_said, read_plain};
+ghost use Rattle.setting_values.specs.ValueAnswers.{GivesPlain, name_said, event_said, read_plain};
 ghost use Rattle.setting_values.specs.Gives.{IsPlainSaid, scalar_said};
 
 use crate::kinds::Scalar;
 use crate::values::{Guard, Handler, Name, NameText, Plain};
-use config_faults::{ConfigFault, FaultKind, Spot};
+use config_faults::{BundleFaultKind, ConfigFault, Spot};
 use mpf_values::{Event, boolean, event, integer, name, power, time};
 use std::alloc::{AllocError, Global};
 use yaml_subset::tree::Tree;
@@ -67,7 +67,8 @@ fn is_within(least: i64, greatest: i64, n: i64) -> bool
 /// The word of a list that a text is.
 #[tactic(auto, unfolding(crate::specs::Reading::is_one_of))]
 pub fn word_in(words: &'static [&'static [u8]], text: &[u8]) -> Option<&'static [u8]>
-    ensures { option_slice (λ w. w) result ≡ (if is_one_of (map (λ w. w.now) words.now) text.now then Some text.now else None) }
+    ensures { option_slice (λ w. w) result
+        ≡ (if is_one_of (map (λ w. w.now) words.now) text.now then Some text.now else None) }
 {
     for word in words {
         if *word == text {
@@ -141,10 +142,10 @@ pub fn plain(alloc: Global, spot: Spot<'_>, kind: Scalar, tree: &Tree) -> Result
     ensures { GivesPlain result (read_plain spot.entry kind tree.now) }
 {
     let Some(text) = tree.as_scalar() else {
-        return Err(ConfigFault::Bundle(spot.fault(alloc, FaultKind::BadValue)?));
+        return Err(ConfigFault::Bundle(spot.fault(alloc, BundleFaultKind::BadValue)?));
     };
     let Some(value) = scalar(alloc, kind, tree.line(), text)? else {
-        return Err(ConfigFault::Bundle(spot.fault(alloc, FaultKind::BadValue)?));
+        return Err(ConfigFault::Bundle(spot.fault(alloc, BundleFaultKind::BadValue)?));
     };
     Ok(value)
 }

@@ -61,7 +61,7 @@ pub struct Fields {
 
 /// A name, and the values that belong to it in the order of their table.
 #[derive(Drop)]
-pub struct Keyed {
+pub struct KeyedValues {
     pub name: Name,
     pub values: Vec<Plain>,
 }
@@ -78,7 +78,7 @@ pub enum Value {
     /// Steps, each the handled events that do it.
     Steps(Vec<Vec<Handler>>),
     Maps(Vec<Fields>),
-    Keyed(Vec<Keyed>),
+    Keyed(Vec<KeyedValues>),
 }
 
 const _: () = prove!(size_of::<Plain>() <= 24);

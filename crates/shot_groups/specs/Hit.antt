@@ -10,4 +10,5 @@ states_after_hit b shot state states = if b.advance_on_hit then gone_on b shot s
 -- what the hit runs: the lists of the hit, and if it has moved the shot, those of a group that is complete
 abbrev pub lists_of_hit : BankSettings → (shot state : ℕ) → (states : List ℕ) → List ℕ
 lists_of_hit b shot state states =
-    if b.advance_on_hit then hit_lists b shot state ++ complete_lists b state (gone_on b shot state states) else hit_lists b shot state
+    if b.advance_on_hit then hit_lists b shot state
+    ++ complete_lists b state (gone_on b shot state states) else hit_lists b shot state

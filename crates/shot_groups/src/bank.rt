@@ -9,13 +9,13 @@ ghost use Rattle.device_objects.specs.Bank.{advance_where, slot_step};
 use crate::shots::{go_on, hit, rotate_left, rotate_right};
 use device_objects::{BankSlot, DeviceState, Outcome};
 use plan_tables::{Act, BankSettings, DeviceRow, Settings};
-use slotted_devices::{SlotKind, Slotted};
+use slotted_devices::{SlotDevice, SlotKind};
 
 /// A bank of shots: each hit of a shot runs the lists of its state, and can move the shot on. A group
 /// is complete when a hit brings its last shot to the state that the others have.
 ///
 /// `new` gives none for a row with more than 16 shots or 16 states. No plan has one.
-pub type ShotBank = Slotted<BankKind>;
+pub type ShotBank = SlotDevice<BankKind>;
 
 /// The kind of [`ShotBank`]: its row and its settings.
 #[derive(Clone, Copy)]
@@ -33,7 +33,7 @@ impl SlotKind for BankKind {
 
     type Slot = BankSlot;
 
-    type Seen = BankSlot;
+    type SlotView = BankSlot;
 
     ghost IsOfKind = { IsBank };
 
@@ -43,7 +43,7 @@ impl SlotKind for BankKind {
 
     ghost model = { λ k. slots k.settings };
 
-    ghost seen = { λ slot. slot };
+    ghost slot_view = { λ slot. slot };
 
     ghost steps = { λ k. bank_steps k.row.settings k.settings k.kind };
 

@@ -13,13 +13,13 @@ use crate::shots::{go_on, hit, rotate_left, rotate_right};
 use device_objects::flags::{flags_of, is_set, mask_of, with_flag};
 use device_objects::{BankSlot, DeviceState, Outcome};
 use plan_tables::{Act, BankSettings, DeviceRow, Settings};
-use slotted_devices::{Resume, SlotKind, Slotted};
+use slotted_devices::{Resume, SlotDevice, SlotKind};
 
 /// A bank of shots that keeps as bits which shots are enabled. Its row and its calls are those of
 /// [`ShotBank`](crate::ShotBank), and it can take the place of one in any state.
 ///
 /// `new` gives none for a row with more than 16 shots or 16 states. No plan has one.
-pub type MaskBank = Slotted<MaskBankKind>;
+pub type MaskBank = SlotDevice<MaskBankKind>;
 
 /// The kind of [`MaskBank`]: its row and its settings.
 #[derive(Clone, Copy)]
@@ -32,7 +32,7 @@ pub struct MaskBankKind {
 
 /// What a [`MaskBank`] keeps for one player.
 #[derive(Clone, Copy)]
-pub struct MaskSlot {
+pub struct ShotMaskSlot {
     /// The game to which it belongs, as in [`BankSlot`].
     game: u64,
     /// Bit i is set if shot i is enabled.
@@ -46,9 +46,9 @@ impl SlotKind for MaskBankKind {
     ghost use Rattle.device_objects.specs.declared.state.DeviceState.TheVariants as states;
     ghost use Rattle.shot_groups.specs.{Kind.IsBank, Steps.bank_steps};
 
-    type Slot = MaskSlot;
+    type Slot = ShotMaskSlot;
 
-    type Seen = BankSlot;
+    type SlotView = BankSlot;
 
     ghost IsOfKind = { IsBank };
 
@@ -58,7 +58,7 @@ impl SlotKind for MaskBankKind {
 
     ghost model = { λ k. slots k.settings };
 
-    ghost seen = { slot_of };
+    ghost slot_view = { slot_of };
 
     ghost steps = { λ k. bank_steps k.row.settings k.settings k.kind };
 
@@ -76,8 +76,8 @@ impl SlotKind for MaskBankKind {
         self.row
     }
 
-    fn state(slots: &[MaskSlot; 4]) -> DeviceState {
-        DeviceState::Bank(seen(slots))
+    fn state(slots: &[ShotMaskSlot; 4]) -> DeviceState {
+        DeviceState::Bank(slot_views(slots))
     }
 
     /// Each player has a slot.
@@ -85,19 +85,19 @@ impl SlotKind for MaskBankKind {
         true
     }
 
-    fn first_slot(&self, game: u64) -> MaskSlot {
-        MaskSlot {
+    fn first_slot(&self, game: u64) -> ShotMaskSlot {
+        ShotMaskSlot {
             game,
             enabled: mask_of(&self.settings.enabled),
             states: [0; 16],
         }
     }
 
-    fn game(&self, slot: &MaskSlot) -> u64 {
+    fn game(&self, slot: &ShotMaskSlot) -> u64 {
         slot.game
     }
 
-    fn step(&self, slot: &mut MaskSlot, act: Act, _now: u64) -> Outcome {
+    fn step(&self, slot: &mut ShotMaskSlot, act: Act, _now: u64) -> Outcome {
         let shots = usize::from(self.settings.shots);
         match act {
             Act::Hit(shot) => return take_hit(&self.settings, slot, shot),
@@ -119,19 +119,19 @@ impl SlotKind for MaskBankKind {
 }
 
 impl Resume for MaskBankKind {
-    fn slots_of(&self, state: &DeviceState) -> Option<[MaskSlot; 4]> {
+    fn slots_of(&self, state: &DeviceState) -> Option<[ShotMaskSlot; 4]> {
         match state {
-            DeviceState::Bank(slots) => Some(masked(slots)),
+            DeviceState::Bank(slots) => Some(mask_slots(slots)),
             _ => None,
         }
     }
 }
 
 /// A slot with its flags as bits.
-fn masked_slot(slot: &BankSlot) -> MaskSlot
+fn masked_slot(slot: &BankSlot) -> ShotMaskSlot
     ensures { slot_of result ≡ slot.now }
 {
-    MaskSlot {
+    ShotMaskSlot {
         game: slot.game,
         enabled: mask_of(&slot.enabled),
         states: slot.states,
@@ -139,7 +139,7 @@ fn masked_slot(slot: &BankSlot) -> MaskSlot
 }
 
 /// The slots with their flags as bits.
-fn masked(slots: &[BankSlot; 4]) -> [MaskSlot; 4]
+fn mask_slots(slots: &[BankSlot; 4]) -> [ShotMaskSlot; 4]
     ensures { map slot_of result ≡ slots.now }
 {
     [
@@ -151,7 +151,7 @@ fn masked(slots: &[BankSlot; 4]) -> [MaskSlot; 4]
 }
 
 /// A slot as others see it.
-fn seen_slot(slot: &MaskSlot) -> BankSlot
+fn seen_slot(slot: &ShotMaskSlot) -> BankSlot
     ensures { result ≡ slot_of slot.now }
 {
     BankSlot {
@@ -162,7 +162,7 @@ fn seen_slot(slot: &MaskSlot) -> BankSlot
 }
 
 /// The slots as others see them.
-fn seen(slots: &[MaskSlot; 4]) -> [BankSlot; 4]
+fn slot_views(slots: &[ShotMaskSlot; 4]) -> [BankSlot; 4]
     ensures { result ≡ map slot_of slots.now }
 {
     [
@@ -182,7 +182,7 @@ fn is_enabled(enabled: u16, shot: usize) -> bool
 }
 
 /// A shot of this number is hit, which does nothing if it is disabled.
-fn take_hit(settings: &BankSettings, slot: &mut MaskSlot, shot: usize) -> Outcome
+fn take_hit(settings: &BankSettings, slot: &mut ShotMaskSlot, shot: usize) -> Outcome
     requires { IsWithinLimits (kinds.Bank settings.now) }
     ensures slot { slot_of slot.new ≡ (slot_step settings.now (acts.Hit shot) (slot_of slot.old)).0 }
     ensures outcome { result.items ≡ (slot_step settings.now (acts.Hit shot) (slot_of slot.old)).1 }
@@ -198,9 +198,10 @@ fn take_hit(settings: &BankSettings, slot: &mut MaskSlot, shot: usize) -> Outcom
 }
 
 /// A shot goes on, whether it is enabled or not.
-fn advance(settings: &BankSettings, slot: &mut MaskSlot, shot: usize)
+fn advance(settings: &BankSettings, slot: &mut ShotMaskSlot, shot: usize)
     requires { shot < 16 }
-    ensures { slot_of slot.new ≡ advance_where settings.now shot (slice_get (slot_of slot.old).states shot) (slot_of slot.old) }
+    ensures { slot_of slot.new ≡ advance_where settings.now shot (slice_get (slot_of slot.old).states shot)
+        (slot_of slot.old) }
 {
     let state = slot.states[shot];
     go_on(settings, &mut slot.states, shot, state);

@@ -9,4 +9,5 @@ module _ {S V : Type 0} (seen : S → V) (step : V → V × List ℕ) where
       → slice_get slots i ≡ Some slot → seen new ≡ (step (seen slot)).0 → lists ≡ (step (seen slot)).1
       → (map seen (set slots i new) ≡ (step_in_use step (map seen slots) at).0)
       × (lists ≡ (step_in_use step (map seen slots) at).1)
-  seen-step slots at i slot new lists is here becomes answers = search (rules, slice_get, slice_get-map, option_map, map-set)
+  seen-step slots at i slot new lists is here becomes answers =
+      search (rules, slice_get, slice_get-map, option_map, map-set)

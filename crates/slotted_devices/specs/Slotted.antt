@@ -10,7 +10,8 @@ abbrev pub with_state : {S : Type 0} → (List S → DeviceState) → List S × 
 with_state state_of answer = (state_of answer.0, answer.1)
 
 -- The state of a device with these settings is slots, and each call is a step of them.
-pub record StepsAreOfSlots {S : Type 0} (settings : Settings) (state_of : List S → DeviceState) (m : SlotModel S) : Type 0 where
+pub record StepsAreOfSlots {S : Type 0} (settings : Settings) (state_of : List S → DeviceState) (m : SlotModel S) : Type
+    0 where
   pub first : first_state settings ≡ state_of (first_slots m)
   pub never_due : (slots : List S) → due_of (state_of slots) ≡ None
   pub step : (call : Call) (now : ℕ) (world : World) (slots : List S)

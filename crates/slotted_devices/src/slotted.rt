@@ -21,7 +21,7 @@ pub trait SlotKind: Copy + Drop {
     type Slot: Copy;
 
     /// A slot as the state shows it.
-    type Seen;
+    type SlotView;
 
     /// Whether such a device can have these settings: they are of its kind, and within its limits.
     ghost IsOfKind: { Settings → Type 0 };
@@ -30,13 +30,13 @@ pub trait SlotKind: Copy + Drop {
     ghost row_of: { Self → DeviceRow };
 
     /// The state that has these slots.
-    ghost state_of: { List Self.Seen → DeviceState };
+    ghost state_of: { List Self.SlotView → DeviceState };
 
     /// What is known of the slots.
-    ghost model: { Self → SlotModel Self.Seen };
+    ghost model: { Self → SlotModel Self.SlotView };
 
     /// What is seen of a slot.
-    ghost seen: { Self.Slot → Self.Seen };
+    ghost slot_view: { Self.Slot → Self.SlotView };
 
     /// The kind of a row. None exactly if such a device cannot have the settings of the row.
     fn of_row(row: &DeviceRow) -> Option<Self>
@@ -49,7 +49,7 @@ pub trait SlotKind: Copy + Drop {
 
     /// The state that has these slots.
     fn state(slots: &[Self::Slot; 4]) -> DeviceState
-        ensures { result ≡ state_of (map seen slots.now) };
+        ensures { result ≡ state_of (map slot_view slots.now) };
 
     /// Whether each player has a slot. If not, all share the first.
     fn persists(&self) -> bool
@@ -57,17 +57,17 @@ pub trait SlotKind: Copy + Drop {
 
     /// A new slot, for this game.
     fn first_slot(&self, game: u64) -> Self::Slot
-        ensures { seen result ≡ (model self.now).first game };
+        ensures { slot_view result ≡ (model self.now).first game };
 
     /// The game to which a slot belongs.
     fn game(&self, slot: &Self::Slot) -> u64
-        ensures { result ≡ (model self.now).game_of (seen slot.now) };
+        ensures { result ≡ (model self.now).game_of (slot_view slot.now) };
 
     /// What an act does to a slot that counts in this world.
     fn step(&self, slot: &mut Self::Slot, act: Act, now: u64) -> Outcome
         requires { now < 2 ^ 40 }
-        ensures slot { seen slot.new ≡ ((model self.now).step act now (seen slot.old)).0 }
-        ensures outcome { result.items ≡ ((model self.now).step act now (seen slot.old)).1 };
+        ensures slot { slot_view slot.new ≡ ((model self.now).step act now (slot_view slot.old)).0 }
+        ensures outcome { result.items ≡ ((model self.now).step act now (slot_view slot.old)).1 };
 
     /// The state is slots, and each call is a step of them.
     ghost steps: { (k : Self) → StepsAreOfSlots (row_of k).settings state_of (model k) };
@@ -81,62 +81,62 @@ pub trait Resume: SlotKind {
     /// The slots of a state. None only if the state is not of the shape that the settings ask for.
     fn slots_of(&self, state: &DeviceState) -> Option<[Self::Slot; 4]>
         ensures shape { HasShape (Self.row_of self.now).settings state.now → IsSome result }
-        ensures state { IfSome result (λ slots. Self.state_of (map Self.seen slots) ≡ state.now) };
+        ensures state { IfSome result (λ slots. Self.state_of (map Self.slot_view slots) ≡ state.now) };
 }
 
 /// A device of kind `K`. Its state is four slots: one for each player, or the first for all.
 #[derive(Drop)]
-pub struct Slotted<K: SlotKind> {
+pub struct SlotDevice<K: SlotKind> {
     kind: K,
     slots: [K::Slot; 4],
 }
 
-impl<K: SlotKind> Slotted<K> {
+impl<K: SlotKind> SlotDevice<K> {
     ghost use Rattle.std.specs.Prelude.{◌≡◌, ◌↔◌, IsSome, IfSome};
     ghost use Rattle.device_objects.specs.DeviceStep.{first_state};
 
     /// The device of a row, in its first state. None exactly if the row is not of the kind, as `IsOfKind` says.
     pub fn new(row: &DeviceRow) -> Option<Self>
         ensures kind { IsSome result ↔ K.IsOfKind row.now.settings }
-        ensures row { IfSome result (λ d. ⟦<Slotted<K> as Device>⟧.row_of d ≡ row.now) }
-        ensures first { IfSome result (λ d. ⟦<Slotted<K> as Device>⟧.state_of d ≡ first_state row.now.settings) }
+        ensures row { IfSome result (λ d. ⟦<SlotDevice<K> as Device>⟧.row_of d ≡ row.now) }
+        ensures first { IfSome result (λ d. ⟦<SlotDevice<K> as Device>⟧.state_of d ≡ first_state row.now.settings) }
     {
         let kind = K::of_row(row)?;
-        Some(Slotted {
+        Some(SlotDevice {
             kind,
             slots: [kind.first_slot(0); 4],
         })
     }
 }
 
-impl<K: Resume> Slotted<K> {
+impl<K: Resume> SlotDevice<K> {
     ghost use Rattle.std.specs.Prelude.{◌≡◌, ◌↔◌, IsSome, IfSome};
     ghost use Rattle.device_objects.specs.Laws.{HasShape};
 
-    /// The device of a row, in this state. None exactly if [`new`](Slotted::new) gives none, or the state is not of
+    /// The device of a row, in this state. None exactly if [`new`](SlotDevice::new) gives none, or the state is not of
     /// the shape that the row asks for.
     pub fn resume(row: &DeviceRow, state: &DeviceState) -> Option<Self>
         ensures kind { IsSome result ↔ (K.IsOfKind row.now.settings × HasShape row.now.settings state.now) }
-        ensures row { IfSome result (λ d. ⟦<Slotted<K> as Device>⟧.row_of d ≡ row.now) }
-        ensures state { IfSome result (λ d. ⟦<Slotted<K> as Device>⟧.state_of d ≡ state.now) }
+        ensures row { IfSome result (λ d. ⟦<SlotDevice<K> as Device>⟧.row_of d ≡ row.now) }
+        ensures state { IfSome result (λ d. ⟦<SlotDevice<K> as Device>⟧.state_of d ≡ state.now) }
     {
         let kind = K::of_row(row)?;
         if !has_shape(&row.settings, state) {
             return None;
         }
-        Some(Slotted {
+        Some(SlotDevice {
             kind,
             slots: kind.slots_of(state)?,
         })
     }
 }
 
-impl<K: SlotKind> Device for Slotted<K> {
+impl<K: SlotKind> Device for SlotDevice<K> {
     ghost use Rattle.std.specs.Prelude.{◌≡◌, [], map};
 
     ghost row_of = { λ d. K.row_of d.kind };
 
-    ghost state_of = { λ d. K.state_of (map K.seen d.slots) };
+    ghost state_of = { λ d. K.state_of (map K.slot_view d.slots) };
 
     fn row(&self) -> DeviceRow {
         self.kind.row()
@@ -183,8 +183,10 @@ fn act_step<K: SlotKind>(
     world: World,
 ) -> Outcome
     requires { now < 2 ^ 40 }
-    ensures slots { map K.seen slots.new ≡ (slots_step (K.model kind.now) (calls.Act act) now world (map K.seen slots.old)).0 }
-    ensures outcome { result.items ≡ (slots_step (K.model kind.now) (calls.Act act) now world (map K.seen slots.old)).1 }
+    ensures slots { map K.slot_view slots.new ≡ (slots_step (K.model kind.now) (calls.Act act) now world
+        (map K.slot_view slots.old)).0 }
+    ensures outcome { result.items ≡ (slots_step (K.model kind.now) (calls.Act act) now world
+        (map K.slot_view slots.old)).1 }
 {
     match slot_in_use(kind.persists(), world) {
         Some(i) if i < slots.len() => {
@@ -199,7 +201,7 @@ fn act_step<K: SlotKind>(
 
 /// A slot as it counts in this world.
 fn current<K: SlotKind>(kind: &K, world: World, slot: K::Slot) -> K::Slot
-    ensures { K.seen result ≡ current (K.model kind.now) world (K.seen slot) }
+    ensures { K.slot_view result ≡ current (K.model kind.now) world (K.slot_view slot) }
 {
     if is_of_other_game(kind.persists(), world, kind.game(&slot)) {
         kind.first_slot(world.games)

@@ -17,7 +17,8 @@ delay_of kind = if kind.quick then 0 else 5
 -- Of raw changes in their order those that stand: no later one comes before the delay is over.
 abbrev pub standing : ℕ → List RawChange → List RawChange
 standing delay [] = []
-standing delay (c ∷ later) = if list_all (λ l. nat_le (c.at + delay) l.at) later then c ∷ standing delay later else standing delay later
+standing delay (c ∷ later) = if list_all (λ l. nat_le (c.at + delay) l.at) later then c
+    ∷ standing delay later else standing delay later
 
 -- whether the delay of a raw change is over at the moment
 abbrev pub is_delay_over : ℕ → ℕ → RawChange → Bool
@@ -31,4 +32,5 @@ active_after contact (Some c) = is_active contact c.level
 -- Whether a switch is active at a moment: by the last of its raw changes that stand and whose delay is over, and
 -- without one not.
 abbrev pub accepted_level : SwitchKind → ℕ → List RawChange → Bool
-accepted_level kind moment changes = active_after kind.contact (last_or None (filter (is_delay_over (delay_of kind) moment) (standing (delay_of kind) changes)))
+accepted_level kind moment changes = active_after kind.contact
+    (last_or None (filter (is_delay_over (delay_of kind) moment) (standing (delay_of kind) changes)))

@@ -1,6 +1,6 @@
 pub mod SwitchStep
 pub mod Switches
 pub mod StateView
-pub mod Inside
+pub mod PendingSwitches
 pub mod AcceptedLevel
 pub mod Calls

@@ -30,23 +30,27 @@ abbrev pub idle : SwitchKind → SwitchState
 idle kind = record { raw = raw_at_rest kind.contact; active = false; due = None }
 
 -- the raw level is accepted
-abbrev pub accepted : SwitchKind → Bool → SwitchState
-accepted kind level = record { raw = level; active = is_active kind.contact level; due = None }
+abbrev pub accept_level : SwitchKind → Bool → SwitchState
+accept_level kind level = record { raw = level; active = is_active kind.contact level; due = None }
 
 -- A raw level that says what was accepted already leaves nothing due; another one is due 5 ms later.
-abbrev pub awaited : SwitchKind → ℕ → Bool → SwitchState → SwitchState
-awaited kind now level s =
-    record { raw = level; active = s.active; due = if same_level (is_active kind.contact level) s.active then None else Some (now + 5) }
+abbrev pub await_level : SwitchKind → ℕ → Bool → SwitchState → SwitchState
+await_level kind now level s =
+    record {
+      raw = level;
+      active = s.active;
+      due = if same_level (is_active kind.contact level) s.active then None else Some (now + 5);
+    }
 
 -- Only another raw level than before changes anything: a quick switch accepts it at once, a normal one awaits it.
-abbrev pub changed : SwitchKind → ℕ → Bool → SwitchState → SwitchState
-changed kind now level s =
-    if same_level level s.raw then s else (if kind.quick then accepted kind level else awaited kind now level s)
+abbrev pub change_level : SwitchKind → ℕ → Bool → SwitchState → SwitchState
+change_level kind now level s =
+    if same_level level s.raw then s else (if kind.quick then accept_level kind level else await_level kind now level s)
 
 -- whether a change is accepted at once
 abbrev pub is_taken : SwitchKind → Bool → SwitchState → Bool
 is_taken kind level s = kind.quick && not (same_level level s.raw)
 
 -- the raw level that was due is accepted
-abbrev pub fired : SwitchKind → SwitchState → SwitchState
-fired kind s = accepted kind s.raw
+abbrev pub fire_change : SwitchKind → SwitchState → SwitchState
+fire_change kind s = accept_level kind s.raw

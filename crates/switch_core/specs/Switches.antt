@@ -1,9 +1,10 @@
 -- All switches of a plan, and what each call does with them.
-use Rattle.std.specs.Prelude.{◌≡◌, ℕ, ◌+◌, ◌<◌, ◌≤◌, ◌⊎◌, Bool, false, not, if◌then◌else◌, Option, None, Some, option_map, List, [], ◌∷◌, length, map, slice_index_or, slice_set}
+use Rattle.std.specs.Prelude.{◌≡◌, ℕ, ◌+◌, ◌<◌, ◌≤◌, ◌⊎◌, Bool, false, not, if◌then◌else◌, Option, None, Some}
+use Rattle.std.specs.Prelude.{option_map, List, [], ◌∷◌, length, map, slice_index_or, slice_set}
 use Rattle.plan_tables.specs.declared.entries.{SwitchId.SwitchId, SwitchKind.SwitchKind}
 use Rattle.plan_tables.specs.{PlanView.{PlanView, no_switch}, Due.sooner}
 use Rattle.switch_core.specs.declared.change.Change.{Change}
-use Rattle.switch_core.specs.SwitchStep.{SwitchState, is_active, idle, changed, is_taken, fired}
+use Rattle.switch_core.specs.SwitchStep.{SwitchState, is_active, idle, change_level, is_taken, fire_change}
 
 -- how each switch is read, and its state, by number
 pub record SwitchesView : Type 0 where
@@ -39,8 +40,8 @@ abbrev pub due_of : SwitchesView → SwitchId → Option ℕ
 due_of s switch = (state_at s switch).due
 
 -- what is reported of a switch whose raw level was accepted
-abbrev pub reported : SwitchesView → SwitchId → Change
-reported s switch = record { switch = switch; active = active_at s switch }
+abbrev pub report_change : SwitchesView → SwitchId → Change
+report_change s switch = record { switch = switch; active = active_at s switch }
 
 -- ---- new
 
@@ -52,19 +53,21 @@ all_idle plan = record { kinds = map (λ s. s.kind) plan.switches; states = map 
 
 -- A switch's raw level changes at a moment.
 abbrev pub after_change : SwitchId → Bool → ℕ → SwitchesView → SwitchesView
-after_change switch level now s = set_state switch (changed (kind_at s switch) now level (state_at s switch)) s
+after_change switch level now s = set_state switch (change_level (kind_at s switch) now level (state_at s switch)) s
 
 -- The change is reported if it is accepted at once.
 abbrev pub reported_by_change : SwitchId → Bool → ℕ → SwitchesView → Option Change
 reported_by_change switch level now s =
-    if is_taken (kind_at s switch) level (state_at s switch) then Some (reported (after_change switch level now s) switch) else None
+    if is_taken (kind_at s switch) level (state_at s switch) then Some
+    (report_change (after_change switch level now s) switch) else None
 
 -- ---- due
 
 -- the switch's raw level is to be accepted next: none has an earlier moment, and none of the same moment a lower number
 pub record IsNextDue (s : SwitchesView) (at : ℕ) (switch : SwitchId) : Type 0 where
   pub due : due_of s switch ≡ Some at
-  pub least : (other : SwitchId) (moment : ℕ) → due_of s other ≡ Some moment → (at < moment) ⊎ ((at ≡ moment) × (switch.0 ≤ other.0))
+  pub least : (other : SwitchId) (moment : ℕ) → due_of s other ≡ Some moment
+      → (at < moment) ⊎ ((at ≡ moment) × (switch.0 ≤ other.0))
 
 -- no raw level is to be accepted
 abbrev pub IsNothingDue : SwitchesView → Type 0
@@ -91,7 +94,7 @@ next_due s = next_due_from 0 s.states
 
 -- the switch's raw level is accepted
 abbrev pub accept : SwitchId → SwitchesView → SwitchesView
-accept switch s = set_state switch (fired (kind_at s switch) (state_at s switch)) s
+accept switch s = set_state switch (fire_change (kind_at s switch) (state_at s switch)) s
 
 abbrev pub accept_due : Option (ℕ × SwitchId) → SwitchesView → SwitchesView
 accept_due None s = s
@@ -103,7 +106,7 @@ after_fire s = accept_due (next_due s) s
 
 -- It is reported.
 abbrev pub reported_by_fire : SwitchesView → Option Change
-reported_by_fire s = option_map (λ d. reported (after_fire s) d.1) (next_due s)
+reported_by_fire s = option_map (λ d. report_change (after_fire s) d.1) (next_due s)
 
 -- ---- what a state says
 

@@ -1,7 +1,8 @@
 //! One switch.
 
 ghost use Rattle.std.specs.Prelude.{◌≡◌, ◌<◌, ◌^◌, option_map};
-ghost use Rattle.switch_core.specs.SwitchStep.{is_active, raw_at_rest, idle, accepted, awaited, changed, is_taken, fired};
+ghost use Rattle.switch_core.specs.SwitchStep.{is_active, raw_at_rest, idle, accept_level, await_level, change_level};
+ghost use Rattle.switch_core.specs.SwitchStep.{is_taken, fire_change};
 ghost use Rattle.switch_core.specs.StateView.{state_view};
 
 use machine_settings::Contact;
@@ -39,29 +40,29 @@ impl State {
     }
 
     /// The state after the raw level changes at the moment `now`.
-    pub(crate) fn changed(self, kind: SwitchKind, level: bool, now: u64) -> State
+    pub(crate) fn change_level(self, kind: SwitchKind, level: bool, now: u64) -> State
         requires { now < 2 ^ 40 }
-        ensures { state_view result ≡ changed kind now level (state_view self) }
+        ensures { state_view result ≡ change_level kind now level (state_view self) }
     {
         if level == self.raw {
             self
         } else if kind.quick {
-            State::accepted(kind, level)
+            State::accept_level(kind, level)
         } else {
-            self.awaited(kind, level, now)
+            self.await_level(kind, level, now)
         }
     }
 
     /// The state after the raw level is accepted.
-    pub(crate) fn fired(self, kind: SwitchKind) -> State
-        ensures { state_view result ≡ fired kind (state_view self) }
+    pub(crate) fn fire_change(self, kind: SwitchKind) -> State
+        ensures { state_view result ≡ fire_change kind (state_view self) }
     {
-        State::accepted(kind, self.raw)
+        State::accept_level(kind, self.raw)
     }
 
     /// The state after this raw level is accepted.
-    fn accepted(kind: SwitchKind, level: bool) -> State
-        ensures { state_view result ≡ accepted kind level }
+    fn accept_level(kind: SwitchKind, level: bool) -> State
+        ensures { state_view result ≡ accept_level kind level }
     {
         State {
             raw: level,
@@ -71,9 +72,9 @@ impl State {
     }
 
     /// The state after a change to another raw level, which waits if it says something new.
-    fn awaited(self, kind: SwitchKind, level: bool, now: u64) -> State
+    fn await_level(self, kind: SwitchKind, level: bool, now: u64) -> State
         requires { now < 2 ^ 40 }
-        ensures { state_view result ≡ awaited kind now level (state_view self) }
+        ensures { state_view result ≡ await_level kind now level (state_view self) }
     {
         let says_new = is_active(kind.contact, level) != self.active;
         State {

@@ -1,9 +1,10 @@
 //! The accepted level of every switch.
 
-ghost use Rattle.std.specs.Prelude.{◌≡◌, ◌<◌, ◌≤◌, true, if◌then◌else◌, is_some, MatchOption, List, length, take, slice_set, vec_capacity};
+ghost use Rattle.std.specs.Prelude.{◌≡◌, ◌<◌, ◌≤◌, true, if◌then◌else◌, is_some, MatchOption, List, length, take};
+ghost use Rattle.std.specs.Prelude.{slice_set, vec_capacity};
 ghost use Rattle.std.specs.List.{insert, remove};
 ghost use Rattle.switch_core.specs.SwitchStep.{SwitchState};
-ghost use Rattle.switch_core.specs.Inside.{waiting_from, soonest, IsWaiting};
+ghost use Rattle.switch_core.specs.PendingSwitches.{waiting_from, soonest, IsWaiting};
 
 use crate::change::Change;
 use crate::state::State;
@@ -32,18 +33,20 @@ impl Model for Switches {
     ghost use Rattle.std.specs.Prelude.{map};
     ghost use Rattle.switch_core.specs.StateView.{state_view};
     ghost use Rattle.switch_core.specs.Switches.{SwitchesView};
-    ghost use Rattle.switch_core.specs.Inside.{IsKept};
+    ghost use Rattle.switch_core.specs.PendingSwitches.{IsKept};
 
     ghost Value = { SwitchesView };
 
     ghost view = { λ s. record { kinds = s.kinds.items; states = map state_view s.states.items } };
 
-    ghost invariant = { λ s. IsKept s.next s.waiting (record { kinds = s.kinds.items; states = map state_view s.states.items }) };
+    ghost invariant = { λ s. IsKept s.next s.waiting
+        (record { kinds = s.kinds.items; states = map state_view s.states.items }) };
 }
 
 impl Switches {
     ghost use Rattle.std.specs.Prelude.{◌≡◌, ◌<◌, ◌^◌, length, Some, IsSome, IfOk, IfSome, IfNone};
-    ghost use Rattle.switch_core.specs.Switches.{IsComplete, active_at, all_idle, after_change, reported_by_change, IsNextDue, IsNothingDue, next_due, after_fire, reported_by_fire};
+    ghost use Rattle.switch_core.specs.Switches.{IsComplete, active_at, all_idle, after_change, reported_by_change};
+    ghost use Rattle.switch_core.specs.Switches.{IsNextDue, IsNothingDue, next_due, after_fire, reported_by_fire};
 
     /// All switches of the plan, inactive: at raw level 0, or 1 if the contact is normally closed.
     /// Only this call takes memory.
@@ -88,7 +91,7 @@ impl Switches {
         let number = switch.0 as usize;
         let kind = self.kinds[number];
         let old = self.states[number];
-        let new = old.changed(kind, level, now);
+        let new = old.change_level(kind, level, now);
         self.states[number] = new;
         if new.due != old.due {
             set_due(&mut self.waiting, switch, old.due, new.due);
@@ -124,11 +127,11 @@ impl Switches {
         };
         let number = switch.0 as usize;
         let old = self.states[number];
-        let accepted = old.fired(self.kinds[number]);
-        self.states[number] = accepted;
-        set_due(&mut self.waiting, switch, old.due, accepted.due);
+        let new_state = old.fire_change(self.kinds[number]);
+        self.states[number] = new_state;
+        set_due(&mut self.waiting, switch, old.due, new_state.due);
         self.next = soonest(&self.waiting);
-        let active = accepted.active;
+        let active = new_state.active;
         Change { switch, active }
     }
 
@@ -145,8 +148,10 @@ impl Switches {
 /// A switch that was due at the moment `was` is due at `due` from now on; `None` means that it is not
 /// due. The other switches in the list stay.
 fn set_due(waiting: &mut Vec<(u64, SwitchId)>, switch: SwitchId, was: Option<u64>, due: Option<u64>)
-    requires { (states : List SwitchState) × IsWaiting switch was states waiting.old.items × (length states ≤ vec_capacity waiting.old) }
-    ensures items { (states : List SwitchState) (new : SwitchState) → IsWaiting switch was states waiting.old.items → new.due ≡ due → waiting.new.items ≡ waiting_from 0 (slice_set states switch.0 new) }
+    requires { (states : List SwitchState) × IsWaiting switch was states waiting.old.items
+        × (length states ≤ vec_capacity waiting.old) }
+    ensures items { (states : List SwitchState) (new : SwitchState) → IsWaiting switch was states waiting.old.items
+        → new.due ≡ due → waiting.new.items ≡ waiting_from 0 (slice_set states switch.0 new) }
     ensures capacity { vec_capacity waiting.old ≤ vec_capacity waiting.new }
 {
     let at = place_of(waiting, switch);
@@ -169,7 +174,8 @@ fn take_out(waiting: &mut Vec<(u64, SwitchId)>, at: usize, was: Option<u64>)
 fn put_in(waiting: &mut Vec<(u64, SwitchId)>, at: usize, switch: SwitchId, due: Option<u64>)
     requires place { at ≤ length waiting.old.items }
     requires room { length waiting.old.items < vec_capacity waiting.old }
-    ensures items { MatchOption due (waiting.new.items ≡ waiting.old.items) (λ moment. waiting.new.items ≡ insert waiting.old.items at (moment, switch)) }
+    ensures items { MatchOption due (waiting.new.items ≡ waiting.old.items)
+        (λ moment. waiting.new.items ≡ insert waiting.old.items at (moment, switch)) }
     ensures capacity { vec_capacity waiting.old ≤ vec_capacity waiting.new }
 {
     let Some(moment) = due else {
@@ -183,7 +189,8 @@ fn put_in(waiting: &mut Vec<(u64, SwitchId)>, at: usize, switch: SwitchId, due: 
 
 /// How many of those that wait have a lower number, found by halving.
 fn place_of(waiting: &[(u64, SwitchId)], switch: SwitchId) -> usize
-    ensures { (states : List SwitchState) → waiting.now ≡ waiting_from 0 states → result ≡ length (waiting_from 0 (take switch.0 states)) }
+    ensures { (states : List SwitchState) → waiting.now ≡ waiting_from 0 states
+        → result ≡ length (waiting_from 0 (take switch.0 states)) }
 {
     waiting.partition_point(|other| other.1.0 < switch.0)
 }

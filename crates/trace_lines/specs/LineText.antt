@@ -77,7 +77,8 @@ rest_text plan (happenings.Final player score) = final_text player score
 
 -- `MOMENT OWNER WORD `
 abbrev pub start_text : PlanView → Line → List ℕ
-start_text plan line = decimal line.moment ++ codes " " ++ owner_text plan line.owner ++ codes " " ++ word_text line.happening
+start_text plan line = decimal line.moment ++ codes " " ++ owner_text plan line.owner ++ codes " "
+    ++ word_text line.happening
 
 -- the moment, the owner, and what happened, such as `5 machine switch s_left active`
 abbrev pub line_text : PlanView → Line → List ℕ

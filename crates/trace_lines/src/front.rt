@@ -13,7 +13,7 @@ pub const DIGITS: usize = 20;
 pub const START: usize = 32;
 
 /// How many bytes ` machine` has.
-pub const MACHINE: usize = 8;
+pub const MACHINE_LENGTH: usize = 8;
 
 /// A moment in milliseconds, as the lines of a trace begin with it: its digits, and what follows
 /// them in most lines. They are written once for all lines of the moment.
@@ -34,7 +34,8 @@ impl Model for Front {
 
     ghost view = { λ f. f.moment };
 
-    ghost invariant = { λ f. (f.digits ≡ length (decimal f.moment)) × (f.digits ≤ 20) × (take (f.digits + 8) f.text ≡ decimal f.moment ++ codes " machine") };
+    ghost invariant = { λ f. (f.digits ≡ length (decimal f.moment)) × (f.digits ≤ 20)
+        × (take (f.digits + 8) f.text ≡ decimal f.moment ++ codes " machine") };
 }
 
 impl Front {

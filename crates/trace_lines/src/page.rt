@@ -102,7 +102,8 @@ impl Page {
         requires few { len ≤ N }
         requires fits { N ≤ 4096 }
         requires long { N ≤ length text.now }
-        ensures { OnOk result (Puts (W.contents writer.old) self.old (W.contents writer.new) self.new (take len text.now)) }
+        ensures { OnOk result (Puts (W.contents writer.old) self.old (W.contents writer.new) self.new
+            (take len text.now)) }
     {
         if self.len > PAGE - N {
             return self.put_after_all(&text[..len], writer);

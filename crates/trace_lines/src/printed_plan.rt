@@ -1,7 +1,8 @@
 //! A plan, with what lines say of its events, switches and variables.
 
 ghost use Rattle.std.specs.Prelude.{◌≡◌, ◌++◌, [], map, IfOk, MatchOption};
-ghost use Rattle.trace_lines.specs.LineTails.{event_tail, switch_tail, variable_word, event_tail_named, switch_tail_named, switch_tails_of, variable_word_named};
+ghost use Rattle.trace_lines.specs.LineTails.{event_tail, switch_tail, variable_word, event_tail_named};
+ghost use Rattle.trace_lines.specs.LineTails.{switch_tail_named, switch_tails_of, variable_word_named};
 
 use crate::phrase::Phrase;
 use plan_tables::{EventId, Plan, SwitchId, VariableId};
@@ -38,7 +39,8 @@ impl<'p> Model for PrintedPlan<'p> {
 
     ghost view = { λ t. t.plan.now };
 
-    ghost invariant = { λ t. (t.event_tails.items ≡ map event_tail_named t.plan.now.events) × (t.switch_tails.items ≡ map switch_tails_of t.plan.now.switches)
+    ghost invariant = { λ t. (t.event_tails.items ≡ map event_tail_named t.plan.now.events)
+        × (t.switch_tails.items ≡ map switch_tails_of t.plan.now.switches)
         × (t.variable_words.items ≡ map variable_word_named t.plan.now.variables) };
 }
 
@@ -71,14 +73,16 @@ impl<'p> PrintedPlan<'p> {
 
     /// ` event NAME`, and LF: none if the plan lacks the event.
     pub(crate) fn event_tail(&self, event: EventId) -> Option<&Phrase>
-        ensures { MatchOption result (event_tail self.now event ≡ event_tail_named []) (λ tail. tail.now ≡ event_tail self.now event) }
+        ensures { MatchOption result (event_tail self.now event ≡ event_tail_named [])
+            (λ tail. tail.now ≡ event_tail self.now event) }
     {
         self.event_tails.get(event.0 as usize)
     }
 
     /// ` switch NAME active`, or `inactive`, and LF: none if the plan lacks the switch.
     pub(crate) fn switch_tail(&self, switch: SwitchId, active: bool) -> Option<&Phrase>
-        ensures { MatchOption result (switch_tail self.now switch active ≡ switch_tail_named [] active) (λ tail. tail.now ≡ switch_tail self.now switch active) }
+        ensures { MatchOption result (switch_tail self.now switch active ≡ switch_tail_named [] active)
+            (λ tail. tail.now ≡ switch_tail self.now switch active) }
     {
         let tails = self.switch_tails.get(switch.0 as usize)?;
         if active {
@@ -90,7 +94,8 @@ impl<'p> PrintedPlan<'p> {
 
     /// `NAME `: none if the plan lacks the variable.
     pub(crate) fn variable_word(&self, variable: VariableId) -> Option<&Phrase>
-        ensures { MatchOption result (variable_word self.now variable ≡ variable_word_named []) (λ word. word.now ≡ variable_word self.now variable) }
+        ensures { MatchOption result (variable_word self.now variable ≡ variable_word_named [])
+            (λ word. word.now ≡ variable_word self.now variable) }
     {
         self.variable_words.get(variable.0 as usize)
     }
@@ -103,7 +108,7 @@ fn event_tails(alloc: Global, plan: &Plan) -> Result<Vec<Phrase>, AllocError>
     let mut tails = Vec::with_capacity(alloc, plan.event_count())?;
     for number in 0..plan.event_count() {
         let name = plan.event_name(EventId(number as u16));
-        let tail = joined(alloc, b" event ", name, b"\n")?;
+        let tail = phrase_of(alloc, b" event ", name, b"\n")?;
         tails.push(tail)?;
     }
     Ok(tails)
@@ -116,8 +121,8 @@ fn switch_tails(alloc: Global, plan: &Plan) -> Result<Vec<SwitchTails>, AllocErr
     let mut tails = Vec::with_capacity(alloc, plan.switch_count())?;
     for number in 0..plan.switch_count() {
         let name = plan.switch_name(SwitchId(number as u16));
-        let inactive = joined(alloc, b" switch ", name, b" inactive\n")?;
-        let active = joined(alloc, b" switch ", name, b" active\n")?;
+        let inactive = phrase_of(alloc, b" switch ", name, b" inactive\n")?;
+        let active = phrase_of(alloc, b" switch ", name, b" active\n")?;
         tails.push(SwitchTails { inactive, active })?;
     }
     Ok(tails)
@@ -130,14 +135,14 @@ fn variable_words(alloc: Global, plan: &Plan) -> Result<Vec<Phrase>, AllocError>
     let mut words = Vec::with_capacity(alloc, plan.variable_count())?;
     for number in 0..plan.variable_count() {
         let name = plan.variable_name(VariableId(number as u16));
-        let word = joined(alloc, b"", name, b" ")?;
+        let word = phrase_of(alloc, b"", name, b" ")?;
         words.push(word)?;
     }
     Ok(words)
 }
 
 /// Three texts, one after the other.
-fn joined(alloc: Global, word: &[u8], name: &[u8], end: &[u8]) -> Result<Phrase, AllocError>
+fn phrase_of(alloc: Global, word: &[u8], name: &[u8], end: &[u8]) -> Result<Phrase, AllocError>
     ensures { IfOk result (λ phrase. phrase ≡ word.now ++ name.now ++ end.now) }
 {
     let mut text = Vec::from_slice(alloc, word)?;

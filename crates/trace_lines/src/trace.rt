@@ -6,11 +6,12 @@ ghost use Rattle.std.specs.Fmt.{decimal, signed_decimal};
 ghost use Rattle.std.specs.Io.KnownBytes.{Appends};
 ghost use Rattle.plan_tables.specs.PlanView.{mode_at, name_of_variable, coil_at};
 ghost use Rattle.coil_guard.specs.SentCommands.{coil_of};
-ghost use Rattle.trace_lines.specs.LineText.{word_text, sent_text, skip_text, player_text, balls_text, rest_text, owner_text, line_text, off_text, off_texts};
+ghost use Rattle.trace_lines.specs.LineText.{word_text, sent_text, skip_text, player_text, balls_text, rest_text};
+ghost use Rattle.trace_lines.specs.LineText.{owner_text, line_text, off_text, off_texts};
 ghost use Rattle.trace_lines.specs.LineTails.{variable_word};
 ghost use Rattle.trace_lines.specs.Pages.{Puts};
 
-use crate::front::{DIGITS, Front, MACHINE, START};
+use crate::front::{DIGITS, Front, MACHINE_LENGTH, START};
 use crate::page::{Page, WriteFailed};
 use crate::printed_plan::PrintedPlan;
 use coil_guard::Command;
@@ -27,7 +28,8 @@ pub fn put_trace<W: Write>(
     page: &mut Page,
     writer: &mut W,
 ) -> Result<(), WriteFailed>
-    ensures { OnOk result (Puts (W.contents writer.old) page.old (W.contents writer.new) page.new (flat_map (line_text plan.now) lines.now)) }
+    ensures { OnOk result (Puts (W.contents writer.old) page.old (W.contents writer.new) page.new
+        (flat_map (line_text plan.now) lines.now)) }
 {
     match lines.first() {
         None => Ok(()),
@@ -44,7 +46,8 @@ fn put_lines<W: Write>(
     page: &mut Page,
     writer: &mut W,
 ) -> Result<(), WriteFailed>
-    ensures { OnOk result (Puts (W.contents writer.old) page.old (W.contents writer.new) page.new (flat_map (line_text plan.now) lines.now)) }
+    ensures { OnOk result (Puts (W.contents writer.old) page.old (W.contents writer.new) page.new
+        (flat_map (line_text plan.now) lines.now)) }
 {
     for line in lines {
         front.turn_to(line.moment);
@@ -61,7 +64,8 @@ pub fn write_off<W: Write>(
     coils: &[CoilId],
     writer: &mut W,
 ) -> io::Result<()>
-    ensures { OnOk result (Appends (W.contents writer.old) (W.contents writer.new) (off_texts plan.now moment coils.now)) }
+    ensures { OnOk result (Appends (W.contents writer.old) (W.contents writer.new)
+        (off_texts plan.now moment coils.now)) }
 {
     for coil in coils {
         write_coil_off(plan, moment, *coil, writer)?;
@@ -90,11 +94,12 @@ fn put_owner<W: Write>(
     page: &mut Page,
     writer: &mut W,
 ) -> Result<(), WriteFailed>
-    ensures { OnOk result (Puts (W.contents writer.old) page.old (W.contents writer.new) page.new (decimal front.now ++ codes " " ++ owner_text plan.now owner)) }
+    ensures { OnOk result (Puts (W.contents writer.old) page.old (W.contents writer.new) page.new
+        (decimal front.now ++ codes " " ++ owner_text plan.now owner)) }
 {
     match owner {
         Owner::Machine => {
-            page.put_start::<START, W>(front.text(), front.digits() + MACHINE, writer)
+            page.put_start::<START, W>(front.text(), front.digits() + MACHINE_LENGTH, writer)
         }
         Owner::Mode(mode) => {
             // The digits, and the blank after them.
@@ -112,7 +117,8 @@ fn put_tail<W: Write>(
     page: &mut Page,
     writer: &mut W,
 ) -> Result<(), WriteFailed>
-    ensures { OnOk result (Puts (W.contents writer.old) page.old (W.contents writer.new) page.new (codes " " ++ word_text happening.now ++ rest_text plan.now happening.now)) }
+    ensures { OnOk result (Puts (W.contents writer.old) page.old (W.contents writer.new) page.new
+        (codes " " ++ word_text happening.now ++ rest_text plan.now happening.now)) }
 {
     match *happening {
         Happening::Event(event) => match plan.event_tail(event) {
@@ -153,7 +159,8 @@ fn put_sent<W: Write>(
     page: &mut Page,
     writer: &mut W,
 ) -> Result<(), WriteFailed>
-    ensures { OnOk result (Puts (W.contents writer.old) page.old (W.contents writer.new) page.new (sent_text name.now command)) }
+    ensures { OnOk result (Puts (W.contents writer.old) page.old (W.contents writer.new) page.new
+        (sent_text name.now command)) }
 {
     page.put(name, writer)?;
     match command {
@@ -176,7 +183,8 @@ fn put_skip<W: Write>(
     page: &mut Page,
     writer: &mut W,
 ) -> Result<(), WriteFailed>
-    ensures { OnOk result (Puts (W.contents writer.old) page.old (W.contents writer.new) page.new (skip_text name.now command)) }
+    ensures { OnOk result (Puts (W.contents writer.old) page.old (W.contents writer.new) page.new
+        (skip_text name.now command)) }
 {
     page.put(name, writer)?;
     match command {
@@ -194,7 +202,8 @@ fn put_player<W: Write>(
     page: &mut Page,
     writer: &mut W,
 ) -> Result<(), WriteFailed>
-    ensures { OnOk result (Puts (W.contents writer.old) page.old (W.contents writer.new) page.new (codes " player " ++ player_text player (name_of_variable plan.now variable) value)) }
+    ensures { OnOk result (Puts (W.contents writer.old) page.old (W.contents writer.new) page.new
+        (codes " player " ++ player_text player (name_of_variable plan.now variable) value)) }
 {
     put_player_number(player, page, writer)?;
     put_variable(plan, variable, page, writer)?;
@@ -207,7 +216,8 @@ fn put_player_number<W: Write>(
     page: &mut Page,
     writer: &mut W,
 ) -> Result<(), WriteFailed>
-    ensures { OnOk result (Puts (W.contents writer.old) page.old (W.contents writer.new) page.new (codes " player " ++ decimal player ++ codes " ")) }
+    ensures { OnOk result (Puts (W.contents writer.old) page.old (W.contents writer.new) page.new
+        (codes " player " ++ decimal player ++ codes " ")) }
 {
     if player < 10 {
         let mut text = *b" player 0                       ";
@@ -225,7 +235,8 @@ fn put_variable<W: Write>(
     page: &mut Page,
     writer: &mut W,
 ) -> Result<(), WriteFailed>
-    ensures { OnOk result (Puts (W.contents writer.old) page.old (W.contents writer.new) page.new (variable_word plan.now variable)) }
+    ensures { OnOk result (Puts (W.contents writer.old) page.old (W.contents writer.new) page.new
+        (variable_word plan.now variable)) }
 {
     match plan.variable_word(variable) {
         Some(word) => page.put_phrase(word, writer),
@@ -248,7 +259,8 @@ fn put_balls<W: Write>(
 
 /// Puts a value on the page, and LF.
 fn put_value<W: Write>(value: i64, page: &mut Page, writer: &mut W) -> Result<(), WriteFailed>
-    ensures { OnOk result (Puts (W.contents writer.old) page.old (W.contents writer.new) page.new (signed_decimal value ++ 10 ∷ [])) }
+    ensures { OnOk result (Puts (W.contents writer.old) page.old (W.contents writer.new) page.new
+        (signed_decimal value ++ 10 ∷ [])) }
 {
     if value < 0 {
         page.put(b"-", writer)?;
@@ -263,7 +275,8 @@ fn put_number<W: Write>(
     page: &mut Page,
     writer: &mut W,
 ) -> Result<(), WriteFailed>
-    ensures { OnOk result (Puts (W.contents writer.old) page.old (W.contents writer.new) page.new (decimal number ++ end ∷ [])) }
+    ensures { OnOk result (Puts (W.contents writer.old) page.old (W.contents writer.new) page.new
+        (decimal number ++ end ∷ [])) }
 {
     if number < 10 {
         return page.put(&[b'0' + number as u8, end], writer);

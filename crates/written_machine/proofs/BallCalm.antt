@@ -1,7 +1,7 @@
 -- Between the calls of devices the ledger says how many balls count in each device, and how many devices are Away to
 -- each target. A whole call of a ball device leaves it so, and all that it books may be booked.
-use Rattle.std.proofs.Common.{rules, ◌≡◌, ℕ, ◌+◌, ◌^◌, ◌<◌, ◌≤◌, ◌&&◌, inl, inr, Bool, true, false, List, length, slice_set, sym, ap, ap₂, ◌∙◌, subst, arith}
-use Rattle.std.specs.List.{count_by}
+use Rattle.std.proofs.Common.{rules, ◌≡◌, ℕ, ◌+◌, ◌^◌, ◌<◌, ◌≤◌, ◌&&◌, inl, inr, Bool, true, false, List, length}
+use Rattle.std.{proofs.Common.{slice_set, sym, ap, ap₂, ◌∙◌, subst, arith}, specs.List.count_by}
 use Rattle.std.proofs.lemmas.{Bool.cases_eq, List.Sums.{sum_by-le, count_by-le-length, length-filter}}
 use Rattle.std.proofs.lemmas.List.{length-set, get_or-set_same, get_or-set_other, Elements.All-from_get_or}
 use Rattle.plan_tables.specs.PlanView.{PlanView, feeders_of, feeds, is_target, no_row, row_at, row_numbers}
@@ -11,15 +11,15 @@ use Rattle.plan_tables.specs.declared.devices.BallTarget.{BallTarget, TheVariant
 use Rattle.plan_tables.specs.declared.devices.Settings.TheVariants as kinds
 use Rattle.ball_devices.specs.declared.booking.Origin.{Origin}
 use Rattle.ball_devices.specs.Ledger.{Ledger, counted_in, transit_to, all_counted, all_in_transit, IsLedger}
-use Rattle.ball_devices.specs.Bookings.{LedgerCall, MayBook, after_call, booked, is_new, one, Says}
+use Rattle.ball_devices.specs.Bookings.{LedgerCall, MayBook, after_call, booking_of, is_new, one, Says}
 use Rattle.cascade_rank.proofs.Rows.{length-rows}
 use Rattle.device_objects.specs.declared.state.{BallState.BallState, DeviceState.DeviceState}
 use Rattle.device_objects.specs.declared.state.DeviceState.TheVariants as states
 use Rattle.device_objects.specs.{BallDevice.{is_away, HasBallShape}, DeviceStep.first_state}
 use Rattle.written_machine.specs.declared.line.Happening.TheVariants as lines
-use Rattle.written_machine.specs.Machine.{Machine, write, set_ledger, counts_of, book, device_state, device_at, is_device_away}
+use Rattle.written_machine.specs.Machine.{Machine, write, set_ledger, counts_of, book, device_state, device_at}
+use Rattle.written_machine.{specs.Machine.is_device_away, proofs.BallFeeders.{filter-same, row-changes}}
 use Rattle.written_machine.proofs.{BallSteps.balls_in, BallPlays.{IsOther, one_row}}
-use Rattle.written_machine.proofs.BallFeeders.{filter-same, row-changes}
 
 -- how many balls count in a device
 abbrev pub balls_at : DeviceState → ℕ
@@ -55,10 +55,11 @@ pub record IsCalm (plan : PlanView) (lag : BallTarget → ℕ) (s : Machine) : T
   pub ledger : IsLedger s.ledger
   pub most : s.ledger.known ≤ limit
   pub few : (r : RowId) → r.0 < length plan.rows → counted_in s.ledger r ≤ 16
-  pub held : (r : RowId) (d : BallSettings) → r.0 < length plan.rows → (row_at plan r).settings ≡ kinds.BallDevice d
+  pub holding : (r : RowId) (d : BallSettings) → r.0 < length plan.rows → (row_at plan r).settings ≡ kinds.BallDevice d
       → counted_in s.ledger r ≡ balls_at (device_at s r)
   pub away : (target : BallTarget) → IsTargetThere (length plan.rows) target
-      → transit_to s.ledger target + lag target ≡ count_by (λ r. is_device_away (device_at s r)) (feeders_of plan target)
+      → transit_to s.ledger target + lag target
+      ≡ count_by (λ r. is_device_away (device_at s r)) (feeders_of plan target)
 
 -- ---- targets
 
@@ -78,14 +79,16 @@ pub one-yes : (x y : Bool) → y ≡ true → one (x && y) ≡ one x
 one-yes x y is = search rules
 
 pub surely_booked : (P : Machine → Type 0) (owner : Owner) (c : LedgerCall) (s : Machine) → MayBook c s.ledger
-    → P (write owner (lines.Balls (booked c s.ledger) (counts_of (after_call c s.ledger))) (set_ledger (after_call c s.ledger) s))
+    → P (write owner (lines.Balls (booking_of c s.ledger) (counts_of (after_call c s.ledger)))
+    (set_ledger (after_call c s.ledger) s))
     → P (book owner c s)
 surely_booked P owner c s may h = search rules
 
 module _ (plan : PlanView) where
   -- ---- what is calm stays calm
 
-  pub calm-other : {lag : BallTarget → ℕ} (s t : Machine) → t.ledger ≡ s.ledger → t.bookings_left_out ≡ s.bookings_left_out → length t.devices ≡ length s.devices
+  pub calm-other : {lag : BallTarget → ℕ} (s t : Machine) → t.ledger ≡ s.ledger
+      → t.bookings_left_out ≡ s.bookings_left_out → length t.devices ≡ length s.devices
       → ((r : RowId) (d : BallSettings) → (row_at plan r).settings ≡ kinds.BallDevice d → device_at t r ≡ device_at s r)
       → IsCalm plan lag s → IsCalm plan lag t
   calm-other {lag} s t ledger kept count same h = record {
@@ -96,8 +99,8 @@ module _ (plan : PlanView) where
     ledger = subst IsLedger (sym ledger) h.ledger;
     most = subst (λ (l : Ledger). l.known ≤ limit) (sym ledger) h.most;
     few = λ r within. subst (λ (l : Ledger). counted_in l r ≤ 16) (sym ledger) (h.few r within);
-    held = λ r d within is.
-        ap (λ (l : Ledger). counted_in l r) ledger ∙ (h.held r d within is ∙ ap balls_at (sym (same r d is)));
+    holding = λ r d within is.
+        ap (λ (l : Ledger). counted_in l r) ledger ∙ (h.holding r d within is ∙ ap balls_at (sym (same r d is)));
     away = λ target there.
         ap (λ (l : Ledger). transit_to l target + lag target) ledger
         ∙ (h.away target there
@@ -117,7 +120,8 @@ module _ (plan : PlanView) where
     counted-few : all_counted s.ledger ≤ 16384
     counted-few =
         let sums = sum_by-le (λ (n : ℕ). n) 16 s.ledger.counted
-        (All-from_get_or (λ (n : ℕ). n ≤ 16) s.ledger.counted 0 (λ i l. h.few (record { 0 = i }) (let rows = h.rows in omega (arith, l, rows)))) in
+        (All-from_get_or (λ (n : ℕ). n ≤ 16) s.ledger.counted 0
+        (λ i l. h.few (record { 0 = i }) (let rows = h.rows in omega (arith, l, rows)))) in
         let rows = h.rows in
         let most = valid.row_limit in
         omega (arith, sums, rows, most)
@@ -131,7 +135,8 @@ module _ (plan : PlanView) where
         let same = h.ledger.rows in
         let most = valid.row_limit in
         let sums = sum_by-le (λ (n : ℕ). n) 1024 s.ledger.to_devices
-        (All-from_get_or (λ (n : ℕ). n ≤ 1024) s.ledger.to_devices 0 (λ i l. few_on_way (Device (record { 0 = i })) (omega (arith, l, rows, same)))) in
+        (All-from_get_or (λ (n : ℕ). n ≤ 1024) s.ledger.to_devices 0
+        (λ i l. few_on_way (Device (record { 0 = i })) (omega (arith, l, rows, same)))) in
         omega (arith, sums, few_on_way Playfield tt, rows, same, most)
 
     -- a new ball does not make too many known
@@ -141,13 +146,15 @@ module _ (plan : PlanView) where
 
   -- ---- one device goes on to another state, and the ledger to other numbers
 
-  module _ (s : Machine) (r : RowId) (d : BallSettings) (within : r.0 < length plan.rows) (is : (row_at plan r).settings ≡ kinds.BallDevice d)
+  module _ (s : Machine) (r : RowId) (d : BallSettings) (within : r.0 < length plan.rows)
+      (is : (row_at plan r).settings ≡ kinds.BallDevice d)
       (b t : BallState) (was : device_at s r ≡ states.BallDevice b) (shape : HasBallShape d t) where
     abbrev next_devices : List DeviceState
     next_devices = slice_set s.devices r.0 (states.BallDevice t)
 
     next-same : length s.devices ≡ length plan.rows → device_state next_devices r ≡ states.BallDevice t
-    next-same count = get_or-set_same s.devices r.0 (states.BallDevice t) (first_state no_row.settings) (omega (arith, within, count))
+    next-same count = get_or-set_same s.devices r.0 (states.BallDevice t) (first_state no_row.settings)
+        (omega (arith, within, count))
 
     next-other : (q : RowId) → (q.0 ≡ r.0 → ⊥) → device_state next_devices q ≡ device_at s q
     next-other q other = get_or-set_other s.devices r.0 q.0 (states.BallDevice t) (first_state no_row.settings) other
@@ -156,7 +163,8 @@ module _ (plan : PlanView) where
     same_row : (q : RowId) → q.0 ≡ r.0 → r ≡ q
     same_row q same = ap (λ (k : ℕ). record { 0 = k }) (sym same)
 
-    pub turned-calm : {lag later : BallTarget → ℕ} (u : Machine) → u.devices ≡ next_devices → u.bookings_left_out ≡ s.bookings_left_out → IsCalm plan lag s
+    pub turned-calm : {lag later : BallTarget → ℕ} (u : Machine) → u.devices ≡ next_devices
+        → u.bookings_left_out ≡ s.bookings_left_out → IsCalm plan lag s
         → length u.ledger.counted ≡ length s.ledger.counted → IsLedger u.ledger → u.ledger.known ≤ limit
         → counted_in u.ledger r ≡ balls_in t
         → ((e : RowId) → e.0 < length plan.rows → (e.0 ≡ r.0 → ⊥) → counted_in u.ledger e ≡ counted_in s.ledger e)
@@ -166,21 +174,28 @@ module _ (plan : PlanView) where
         → IsCalm plan later u
     turned-calm {lag} {later} u devices kept h rows ledger most here others transit = record {
       kept = kept ∙ h.kept;
-      count = ap (λ (ds : List DeviceState). length ds) devices ∙ (length-set s.devices r.0 (states.BallDevice t) ∙ h.count);
-      shapes = λ q e inside of. subst (λ (ds : List DeviceState). IsBallState e (device_state ds q)) (sym devices) (shapes q e inside of);
+      count = ap (λ (ds : List DeviceState). length ds) devices
+          ∙ (length-set s.devices r.0 (states.BallDevice t) ∙ h.count);
+      shapes = λ q e inside of. subst (λ (ds : List DeviceState). IsBallState e (device_state ds q)) (sym devices)
+          (shapes q e inside of);
       rows = rows ∙ h.rows;
       ledger = ledger;
       most = most;
       few = λ q inside. few q inside;
-      held = λ q e inside of. held q e inside of ∙ ap (λ (ds : List DeviceState). balls_at (device_state ds q)) (sym devices);
-      away = λ target there. away target there ∙ ap (λ (ds : List DeviceState). count_by (λ (q : RowId). is_device_away (device_state ds q)) (feeders_of plan target)) (sym devices);
+      holding = λ q e inside of. holding q e inside of
+          ∙ ap (λ (ds : List DeviceState). balls_at (device_state ds q)) (sym devices);
+      away = λ target there. away target there
+          ∙ ap (λ (ds : List DeviceState). count_by (λ (q : RowId). is_device_away (device_state ds q))
+          (feeders_of plan target)) (sym devices);
     }
       where
-        shapes : (q : RowId) (e : BallSettings) → q.0 < length plan.rows → (row_at plan q).settings ≡ kinds.BallDevice e → IsBallState e (device_state next_devices q)
+        shapes : (q : RowId) (e : BallSettings) → q.0 < length plan.rows → (row_at plan q).settings ≡ kinds.BallDevice e
+            → IsBallState e (device_state next_devices q)
         shapes q e inside of =
             elim (cases_eq q.0 r.0) [
               | inl same ↦
-                  let settings : kinds.BallDevice d ≡ kinds.BallDevice e = sym is ∙ (sym (one_row plan q r same) ∙ of) in
+                  let settings : kinds.BallDevice d ≡ kinds.BallDevice e = sym is ∙ (sym (one_row plan q r same) ∙ of)
+                  in
                   let one_kind : d ≡ e = cc in
                   record {
                     ball = t;
@@ -196,22 +211,29 @@ module _ (plan : PlanView) where
         few : (q : RowId) → q.0 < length plan.rows → counted_in u.ledger q ≤ 16
         few q inside = search (rules, cases_eq, count_by-le-length, shape, ledger, same_row)
 
-        held : (q : RowId) (e : BallSettings) → q.0 < length plan.rows → (row_at plan q).settings ≡ kinds.BallDevice e → counted_in u.ledger q ≡ balls_at (device_state next_devices q)
-        held q e inside of =
+        holding : (q : RowId) (e : BallSettings) → q.0 < length plan.rows
+            → (row_at plan q).settings ≡ kinds.BallDevice e
+            → counted_in u.ledger q ≡ balls_at (device_state next_devices q)
+        holding q e inside of =
             elim (cases_eq q.0 r.0) [
-              | inl same ↦ subst (λ (k : RowId). counted_in u.ledger k ≡ balls_at (device_state next_devices k)) (same_row q same) balls_here
-              | inr other ↦ others q inside other ∙ (h.held q e inside of ∙ ap balls_at (sym (next-other q other)))
+              | inl same ↦ subst (λ (k : RowId). counted_in u.ledger k ≡ balls_at (device_state next_devices k))
+                  (same_row q same) balls_here
+              | inr other ↦ others q inside other ∙ (h.holding q e inside of ∙ ap balls_at (sym (next-other q other)))
             ]
 
         away : (target : BallTarget) → IsTargetThere (length plan.rows) target
-            → transit_to u.ledger target + later target ≡ count_by (λ (q : RowId). is_device_away (device_state next_devices q)) (feeders_of plan target)
+            → transit_to u.ledger target + later target
+            ≡ count_by (λ (q : RowId). is_device_away (device_state next_devices q)) (feeders_of plan target)
         away target there =
-            let changes = row-changes (λ (q : RowId). feeds target (row_at plan q).settings) (λ (q : RowId). is_device_away (device_at s q))
+            let changes = row-changes (λ (q : RowId). feeds target (row_at plan q).settings)
+            (λ (q : RowId). is_device_away (device_at s q))
             (λ (q : RowId). is_device_away (device_state next_devices q)) r.0
             (λ q other. ap is_device_away (sym (next-other q other))) (length plan.rows) within in
             let feeding : feeds target (row_at plan r).settings ≡ is_target target d.target = ap (feeds target) is in
-            let before : one (feeds target (row_at plan r).settings && is_device_away (device_at s r)) ≡ one (is_target target d.target && is_away b.eject) =
+            let before : one (feeds target (row_at plan r).settings && is_device_away (device_at s r))
+            ≡ one (is_target target d.target && is_away b.eject) =
             ap₂ (λ (x y : Bool). one (x && y)) feeding (ap is_device_away was) in
-            let after : one (feeds target (row_at plan r).settings && is_device_away (device_state next_devices r)) ≡ one (is_target target d.target && is_away t.eject) =
+            let after : one (feeds target (row_at plan r).settings && is_device_away (device_state next_devices r))
+            ≡ one (is_target target d.target && is_away t.eject) =
             ap₂ (λ (x y : Bool). one (x && y)) feeding (ap is_device_away (next-same h.count)) in
             omega (arith, changes, before, after, h.away target there, transit target there)

@@ -1,5 +1,6 @@
 -- How many of the rows that pass one test pass another: when one row changes, and if there is one.
-use Rattle.std.proofs.Common.{rules, ◌≡◌, ℕ, zero, suc, ◌+◌, ◌<◌, ◌≤◌, ◌==◌, inl, inr, Bool, true, false, cond, if◌then◌else◌, Option, None, Some, List, [], ◌∷◌, ◌&&◌, map, refl, sym, ap, ap₂, subst, arith}
+use Rattle.std.proofs.Common.{rules, ◌≡◌, ℕ, zero, suc, ◌+◌, ◌<◌, ◌≤◌, ◌==◌, inl, inr, Bool, true, false, cond, arith}
+use Rattle.std.proofs.Common.{if◌then◌else◌, Option, None, Some, List, [], ◌∷◌, ◌&&◌, map, refl, sym, ap, ap₂, subst}
 use Rattle.std.specs.{Prelude.{filter, find}, List.{All, count_by, range_with_len}}
 use Rattle.std.proofs.lemmas.{Bool.{cases_eq, eq-eqb, ne_eqb}, Option.{none-some, same_Some}}
 use Rattle.std.proofs.lemmas.List.{Elements.{All-head, All-tail}, Sums.sum_by-cons}
@@ -68,7 +69,8 @@ pub row-counts : (f p : RowId → Bool) (r n : ℕ) → r < n → f (record { 0 
     → 0 < count_by p (filter f (map row (range_with_len 0 n)))
 row-counts f p r n within feeds passes =
     let q : RowId → Bool = λ x. cond (x.0 == r) false (p x) in
-    let changes = row-changes f p q r (λ x other. sym (ap (λ (b : Bool). cond b false (p x)) (ne_eqb x.0 r other))) n within in
+    let changes = row-changes f p q r (λ x other. sym (ap (λ (b : Bool). cond b false (p x)) (ne_eqb x.0 r other))) n
+    within in
     let one_is : one (f (row r) && p (row r)) ≡ 1 = ap₂ (λ (x y : Bool). one (x && y)) feeds passes in
     let none : one (f (row r) && q (row r)) ≡ 0 =
     ap₂ (λ (x y : Bool). one (x && y)) feeds (ap (λ (b : Bool). cond b false (p (row r))) (eq-eqb r r refl)) in

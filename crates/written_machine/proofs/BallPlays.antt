@@ -1,20 +1,26 @@
 -- What the parts of the machine do with balls: a ball device is called, a ball has arrived on the playfield, or nothing
 -- that concerns balls happens.
-use Rattle.std.proofs.Common.{rules, ◌≡◌, ℕ, ℤ, ◌<◌, ◌==◌, ◌&&◌, inl, inr, ◌⊎◌, if◌then◌else◌, Bool, true, false, Option, Some, None, List, [], ◌∷◌, ◌++◌, length, refl, ap, subst}
-use Rattle.std.{specs.List.{All, range_with_len}, proofs.lemmas.List.{append-nil, get_or_past, Sorted.All-permutation}}
-use Rattle.std.proofs.lemmas.{Bool.cases_lt, List.{Concat.flat_map-append, Elements.All-contains}}
-use Rattle.std.proofs.lemmas.List.FromFn.{length-range_with_len, get_or-range_with_len}
-use Rattle.std.proofs.lemmas.List.Elements.{All-head, All-tail, All-get_or, All-nil, All-map, All-filter, All-from_get_or, filter_passes}
-use Rattle.plan_tables.specs.PlanView.{PlanView, act_of_listener, actions_at, binding_at, coil_numbers, game_event, is_owner, list_of_row, listeners_of, mode_event, places_of, posts_of, row_at, row_numbers, rows_of, switch_at, work_of, is_multiball, is_save, multiball_rows, save_rows}
+use Rattle.std.proofs.Common.{rules, ◌≡◌, ℕ, ℤ, ◌<◌, ◌==◌, ◌&&◌, inl, inr, ◌⊎◌, if◌then◌else◌, Bool, true, false}
+use Rattle.std.proofs.Common.{Option, Some, None, List, [], ◌∷◌, ◌++◌, length, refl, ap, subst}
+use Rattle.std.specs.List.{All, range_with_len}
+use Rattle.std.proofs.lemmas.List.{append-nil, get_or_past, Sorted.All-permutation, Concat.flat_map-append}
+use Rattle.std.proofs.lemmas.{Bool.cases_lt, List.FromFn.{length-range_with_len, get_or-range_with_len}}
+use Rattle.std.proofs.lemmas.List.Elements.{All-contains, All-from_get_or, filter_passes}
+use Rattle.std.proofs.lemmas.List.Elements.{All-head, All-tail, All-get_or, All-nil, All-map, All-filter}
+use Rattle.plan_tables.specs.PlanView.{PlanView, act_of_listener, actions_at, binding_at, coil_numbers, game_event}
+use Rattle.plan_tables.specs.PlanView.{is_owner, list_of_row, listeners_of, mode_event, places_of, posts_of, row_at}
+use Rattle.plan_tables.specs.PlanView.{row_numbers, rows_of, switch_at, work_of, is_multiball, is_save, multiball_rows}
+use Rattle.plan_tables.specs.{PlanView.save_rows, Devices.list_count, BallRows.{BookingsAreRight, IsPlain}}
 use Rattle.plan_tables.specs.Valid.{HasEntries, IsListenerWithin, IsTargetWithin}
-use Rattle.plan_tables.specs.{Devices.list_count, declared.devices.BallTarget.TheVariants.Playfield}
+use Rattle.plan_tables.specs.declared.devices.BallTarget.TheVariants.{Playfield}
 use Rattle.plan_tables.specs.declared.devices.Act.TheVariants as acts
 use Rattle.plan_tables.specs.declared.devices.{BallSettings.BallSettings, RowId.RowId, Settings.Settings}
 use Rattle.plan_tables.specs.declared.devices.Settings.TheVariants as kinds
-use Rattle.plan_tables.specs.declared.entries.{Action.Action, CoilId.CoilId, ListId.ListId, Owner.Owner}
-use Rattle.plan_tables.specs.declared.entries.Action.TheVariants.{Post, Pulse, Enable, Disable, Change as ChangeVariable, Request, AddBalls}
-use Rattle.plan_tables.specs.declared.entries.{BindingId.BindingId, VariableId.VariableId}
-use Rattle.plan_tables.specs.declared.entries.{EventId.EventId, Listener.Listener, ModeId.ModeId, SwitchId.SwitchId}
+use Rattle.plan_tables.specs.declared.entries.Action.{Action, TheVariants.{Post, Pulse, Enable, Disable}}
+use Rattle.plan_tables.specs.declared.entries.{CoilId.CoilId, Owner.Owner, VariableId.VariableId}
+use Rattle.plan_tables.specs.declared.entries.{ListId.ListId, EventId.EventId, Listener.Listener, ModeId.ModeId}
+use Rattle.plan_tables.specs.declared.entries.Action.TheVariants.{Change as ChangeVariable, Request, AddBalls}
+use Rattle.plan_tables.specs.declared.entries.{BindingId.BindingId, SwitchId.SwitchId}
 use Rattle.plan_tables.specs.declared.entries.ModeEvent.TheVariants.{WillStart, Starting, Started, Stopping, Stopped}
 use Rattle.plan_tables.specs.declared.entries.Owner.TheVariants as owners
 use Rattle.plan_tables.specs.declared.entries.Target.{Target, TheVariants.{Run, Start, Stop, Act as ActOn}}
@@ -31,13 +37,19 @@ use Rattle.mode_stack.specs.{ModeStep.{entered, ended}, Modes.{mode_state, runni
 use Rattle.player_game.specs.{Players.{is_met, score_of}, GameStep.{GameStep, missing, more_balls, in_play}}
 use Rattle.plan_tables.specs.declared.entries.GameEvent.{GameEvent, TheVariants.BallDrain}
 use Rattle.switch_core.specs.declared.change.Change.{Change}
-use Rattle.written_machine.specs.{declared.line.Happening.Happening, Devices.ActsAreOwn, Moves.step_now}
+use Rattle.written_machine.specs.{declared.line.Happening.Happening, EventStep.handlers_in}
+use Rattle.written_machine.specs.{Devices.ActsAreOwn, Moves.step_now, SwitchLines.{change_at, changes_of}}
 use Rattle.written_machine.specs.declared.line.Happening.TheVariants as lines
-use Rattle.plan_tables.specs.BallRows.{BooksNothing, actions_in, BooksRightly, IsNoBallDevice, IsOffBalls, BookingsAreRight, IsPlain}
-use Rattle.written_machine.specs.SwitchLines.{change_at, changes_of}
-use Rattle.written_machine.specs.EventStep.{taken, do_before, do_after, is_kept, before_handlers, after_event, handlers_in}
+use Rattle.plan_tables.specs.BallRows.{BooksNothing, actions_in, BooksRightly, IsNoBallDevice, IsOffBalls}
+use Rattle.written_machine.specs.EventStep.{take_event, do_before, do_after, is_kept, before_handlers, after_event}
 use Rattle.plan_tables.specs.declared.devices.Telling.{Telling, TheVariants.{Arrived, Wanted}}
-use Rattle.written_machine.specs.Machine.{Machine, write, post, set_mode, set_device, set_coils, set_players, set_game, all_do, release_ball_end, start_mode, stop_mode, told, ask_coil, release_coil, release_coils, tell_change, do_action_by, do_list_by, world_of, device_at, called, tell_first, call_device, call_devices, do_target, do_handler, write_final, write_finals, ask_ball, do_step, tell_listener, tell_listeners, confirm_on_playfield, do_action, do_list, end_multiballs, first_active_save, want_balls, step_game, drain_ball, do_game}
+use Rattle.written_machine.specs.Machine.{Machine, write, post, set_mode, set_device, set_coils, set_players, set_game}
+use Rattle.written_machine.specs.Machine.{all_do, release_ball_end, start_mode, stop_mode, answer_happening}
+use Rattle.written_machine.specs.Machine.{ask_coil, release_coil, want_balls, step_game, drain_ball, do_game}
+use Rattle.written_machine.specs.Machine.{release_coils, tell_change, do_action_by, do_list_by, world_of, device_at}
+use Rattle.written_machine.specs.Machine.{call_row, tell_first, call_device, call_devices, do_target, do_handler}
+use Rattle.written_machine.specs.Machine.{write_final, write_finals, ask_ball, do_step, tell_listener, tell_listeners}
+use Rattle.written_machine.specs.Machine.{confirm_on_playfield, do_action, do_list, end_multiballs, first_active_save}
 use Rattle.written_machine.proofs.Feeding.{multiballs-within, first_active_save-is}
 
 -- ---- what does not concern balls
@@ -47,7 +59,8 @@ pub record IsOther (plan : PlanView) (s t : Machine) : Type 0 where
   pub ledger : t.ledger ≡ s.ledger
   pub moment : t.moment ≡ s.moment
   pub count : length t.devices ≡ length s.devices
-  pub balls : (r : RowId) (d : BallSettings) → (row_at plan r).settings ≡ kinds.BallDevice d → device_at t r ≡ device_at s r
+  pub balls : (r : RowId) (d : BallSettings) → (row_at plan r).settings ≡ kinds.BallDevice d
+      → device_at t r ≡ device_at s r
   pub changes : (n : SwitchId) → changes_of n t.lines ≡ changes_of n s.lines
   pub kept : t.bookings_left_out ≡ s.bookings_left_out
 
@@ -73,7 +86,7 @@ IsNoChange _ = Unit {0}
 no_change : (n : SwitchId) (moment : ℕ) (what : Happening) → IsNoChange what → change_at n moment what ++ [] ≡ []
 no_change n moment what none = search rules
 
-told-no_change : (command : Command) (answer : Answer) → IsNoChange (told command answer)
+told-no_change : (command : Command) (answer : Answer) → IsNoChange (answer_happening command answer)
 told-no_change command answer = search rules
 
 -- whether a row is a ball device
@@ -95,23 +108,27 @@ module _ (plan : PlanView) where
   one_row q r is = ap (λ (k : ℕ). (row_at plan (record { 0 = k })).settings) is
 
   pub nothing-other : (s : Machine) → IsOther plan s s
-  nothing-other s = record { ledger = refl; moment = refl; count = refl; balls = λ r d is. refl; changes = λ n. refl; kept = refl }
+  nothing-other s =
+      record { ledger = refl; moment = refl; count = refl; balls = λ r d is. refl; changes = λ n. refl; kept = refl }
 
   pub then-other : {s m t : Machine} → IsOther plan s m → IsOther plan m t → IsOther plan s t
   then-other a b = search rules
 
-  pub same-other : (s t : Machine) → t.ledger ≡ s.ledger → t.moment ≡ s.moment → t.devices ≡ s.devices → t.lines ≡ s.lines
+  pub same-other : (s t : Machine) → t.ledger ≡ s.ledger → t.moment ≡ s.moment → t.devices ≡ s.devices
+      → t.lines ≡ s.lines
       → t.bookings_left_out ≡ s.bookings_left_out → IsOther plan s t
   same-other s t ledger moment devices lines_are kept = search rules
 
-  pub write-other : (owner : Owner) (what : Happening) (s : Machine) → IsNoChange what → IsOther plan s (write owner what s)
+  pub write-other : (owner : Owner) (what : Happening) (s : Machine) → IsNoChange what
+      → IsOther plan s (write owner what s)
   write-other owner what s none = search (rules, flat_map-append, no_change, append-nil)
 
   pub post-other : (owner : Owner) (e : EventId) (s : Machine) → IsOther plan s (post owner e s)
   post-other owner e s = same-other s (post owner e s) refl refl refl refl refl
 
   -- one after another
-  pub all-other : {X : Type 0} (f : X → Machine → Machine) (Q : X → Type 0) → ((x : X) (s : Machine) → Q x → IsOther plan s (f x s))
+  pub all-other : {X : Type 0} (f : X → Machine → Machine) (Q : X → Type 0)
+      → ((x : X) (s : Machine) → Q x → IsOther plan s (f x s))
       → (xs : List X) → All Q xs → (s : Machine) → IsOther plan s (all_do f xs s)
   all-other f Q each [] all s = nothing-other s
   all-other f Q each (x ∷ xs) all s =
@@ -123,14 +140,15 @@ module _ (plan : PlanView) where
   ask-other owner command s =
       let after = set_coils (after_asking command owner s.moment s.coils) s in
       then-other (same-other s after refl refl refl refl refl)
-      (write-other owner (told command (answer_asking command owner s.moment s.coils)) after
+      (write-other owner (answer_happening command (answer_asking command owner s.moment s.coils)) after
       (told-no_change command (answer_asking command owner s.moment s.coils)))
 
   change-other : (owner : Owner) (player : ℕ) (v : VariableId) (e : EventId) (value : Option ℤ) (s : Machine)
       → IsOther plan s (tell_change owner player v e value s)
   change-other owner player v e None s = nothing-other s
   change-other owner player v e (Some value) s =
-      then-other (write-other owner (lines.Player player v value) s tt) (post-other owner e (write owner (lines.Player player v value) s))
+      then-other (write-other owner (lines.Player player v value) s tt)
+      (post-other owner e (write owner (lines.Player player v value) s))
 
   -- an action that books nothing, and tells no other device anything
   pub action-other : (tell : Telling → Machine → Machine) (owner : Owner) (a : Action) (s : Machine) → IsPlain a
@@ -147,10 +165,12 @@ module _ (plan : PlanView) where
   list-other tell owner l none s = search (rules, all-other, action-other)
 
   -- one after another
-  pub all-play : {X : Type 0} {may : Call → Type 0} (f : X → Machine → Machine) (Q : X → Type 0) → ((x : X) (s : Machine) → Q x → Plays plan may s (f x s))
+  pub all-play : {X : Type 0} {may : Call → Type 0} (f : X → Machine → Machine) (Q : X → Type 0)
+      → ((x : X) (s : Machine) → Q x → Plays plan may s (f x s))
       → (xs : List X) → All Q xs → (s : Machine) → Plays plan may s (all_do f xs s)
   all-play f Q each [] all s = still (nothing-other s)
-  all-play f Q each (x ∷ xs) all s = search (rules, both, All-head, All-tail, all-play f Q each xs (All-tail Q x xs all) (f x s))
+  all-play f Q each (x ∷ xs) all s = search
+      (rules, both, All-head, All-tail, all-play f Q each xs (All-tail Q x xs all) (f x s))
 
   module _ (may : Call → Type 0) where
     -- balls that are wanted, if any
@@ -158,20 +178,26 @@ module _ (plan : PlanView) where
     want-plays x1 s = search (rules, still, nothing-other, request)
 
     -- an action that books nothing may ask for balls
-    action-plays : (owner : Owner) (a : Action) (s : Machine) → BooksNothing a → Plays plan may s (do_action plan owner a s)
+    action-plays : (owner : Owner) (a : Action) (s : Machine) → BooksNothing a
+        → Plays plan may s (do_action plan owner a s)
     action-plays owner (Post e) s none = still (action-other (tell_first plan) owner (Post e) s tt)
-    action-plays owner (Pulse coil ms power) s none = still (action-other (tell_first plan) owner (Pulse coil ms power) s tt)
-    action-plays owner (Enable coil power) s none = still (action-other (tell_first plan) owner (Enable coil power) s tt)
+    action-plays owner (Pulse coil ms power) s none =
+        still (action-other (tell_first plan) owner (Pulse coil ms power) s tt)
+    action-plays owner (Enable coil power) s none =
+        still (action-other (tell_first plan) owner (Enable coil power) s tt)
     action-plays owner (Disable coil) s none = still (action-other (tell_first plan) owner (Disable coil) s tt)
-    action-plays owner (ChangeVariable v action n e) s none = still (action-other (tell_first plan) owner (ChangeVariable v action n e) s tt)
+    action-plays owner (ChangeVariable v action n e) s none =
+        still (action-other (tell_first plan) owner (ChangeVariable v action n e) s tt)
     action-plays owner (Request n) s none = request n s
     action-plays owner (AddBalls n) s none =
         let more = set_game (more_balls n s.game) s in
         both (still (same-other s more refl refl refl refl refl)) (want-plays (missing n s.game) more)
     action-plays owner _ s none = absurd none
 
-    list-plays : (owner : Owner) (l : ListId) → All BooksNothing (actions_at plan l) → (s : Machine) → Plays plan may s (do_list plan owner l s)
-    list-plays owner l none s = all-play (do_action plan owner) BooksNothing (action-plays owner) (actions_at plan l) none s
+    list-plays : (owner : Owner) (l : ListId) → All BooksNothing (actions_at plan l) → (s : Machine)
+        → Plays plan may s (do_list plan owner l s)
+    list-plays owner l none s = all-play (do_action plan owner) BooksNothing (action-plays owner) (actions_at plan l)
+        none s
 
   -- ---- devices
 
@@ -181,7 +207,8 @@ module _ (plan : PlanView) where
   turned-other r state s not = search rules
 
   -- what such a row books
-  books-nothing : (r : RowId) (settings : Settings) → IsNoBallDevice settings → BooksRightly r settings (actions_in plan r) → (k : ℕ) → k < list_count settings
+  books-nothing : (r : RowId) (settings : Settings) → IsNoBallDevice settings
+      → BooksRightly r settings (actions_in plan r) → (k : ℕ) → k < list_count settings
       → All BooksNothing (actions_in plan r k)
   books-nothing r settings not books k below = search rules
 
@@ -190,15 +217,18 @@ module _ (plan : PlanView) where
     pub other-plays : (may : Call → Type 0) (call : Call) (r : RowId) (s : Machine) → r.0 < length plan.rows
         → IsNoBallDevice (row_at plan r).settings → Plays plan may s (call_device plan call r s)
     other-plays may call r s within not =
-        let next = called plan call r s in
+        let next = call_row plan call r s in
         both (still (turned-other r next.0 s not))
-        (all-play (λ k. do_list plan (row_at plan r).owner (list_of_row plan r k)) (λ k. k < list_count (row_at plan r).settings)
+        (all-play (λ k. do_list plan (row_at plan r).owner (list_of_row plan r k))
+        (λ k. k < list_count (row_at plan r).settings)
         (λ k t below. list-plays may (row_at plan r).owner (list_of_row plan r k)
         (books-nothing r (row_at plan r).settings not (right.rows r within) k below) t) next.1
-        (lists_are_of_the_row (row_at plan r).settings call s.moment (world_of s) (device_at s r)) (set_device r next.0 s))
+        (lists_are_of_the_row (row_at plan r).settings call s.moment (world_of s) (device_at s r))
+        (set_device r next.0 s))
 
     -- a ball device is the machine's
-    no_mode_has_balls : (m : ModeId) (r : RowId) → r.0 < length plan.rows → is_owner (owners.Mode m) (row_at plan r).owner ≡ true
+    no_mode_has_balls : (m : ModeId) (r : RowId) → r.0 < length plan.rows
+        → is_owner (owners.Mode m) (row_at plan r).owner ≡ true
         → IsNoBallDevice (row_at plan r).settings
     no_mode_has_balls m r within its = search rules
 
@@ -229,10 +259,12 @@ module _ (plan : PlanView) where
 
     releases-other : (owner : Owner) (s : Machine) → IsOther plan s (release_coils plan owner s)
     releases-other owner s =
-        all-other (release_coil owner) (λ coil. Unit {0}) (λ coil t h. one coil t (is_held_by owner (coil_at t.coils coil)))
+        all-other (release_coil owner) (λ coil. Unit {0})
+        (λ coil t h. one coil t (is_held_by owner (coil_at t.coils coil)))
         (coil_numbers plan) (λ k d there. tt) s
       where
-        one : (coil : CoilId) (t : Machine) (held : Bool) → IsOther plan t (if held then ask_coil owner (commands.Disable coil) t else t)
+        one : (coil : CoilId) (t : Machine) (held : Bool)
+            → IsOther plan t (if held then ask_coil owner (commands.Disable coil) t else t)
         one coil t true = ask-other owner (commands.Disable coil) t
         one coil t false = nothing-other t
 
@@ -243,9 +275,11 @@ module _ (plan : PlanView) where
         (range_with_len 1 (length s.players.players)) (λ k d there. tt) s
     finals-other false s = nothing-other s
 
-    posts-other : {X : Type 0} (f : X → EventId) (xs : List X) (s : Machine) → IsOther plan s (all_do (λ x. post owners.Machine (f x)) xs s)
+    posts-other : {X : Type 0} (f : X → EventId) (xs : List X) (s : Machine)
+        → IsOther plan s (all_do (λ x. post owners.Machine (f x)) xs s)
     posts-other f xs s =
-        all-other (λ x. post owners.Machine (f x)) (λ x. Unit {0}) (λ x t h. post-other owners.Machine (f x) t) xs (λ k d there. tt) s
+        all-other (λ x. post owners.Machine (f x)) (λ x. Unit {0}) (λ x t h. post-other owners.Machine (f x) t) xs
+        (λ k d there. tt) s
 
     module _ (may : Call → Type 0) where
       -- a device of the plan
@@ -271,7 +305,8 @@ module _ (plan : PlanView) where
 
       -- what follows when the devices that listen have been told
       pub accepted-plays : (a : Change) (s : Machine)
-          → Plays plan may s (all_do (post owners.Machine) (posts_of plan a.switch a.active) (confirm_on_playfield plan a s))
+          → Plays plan may s (all_do (post owners.Machine) (posts_of plan a.switch a.active)
+          (confirm_on_playfield plan a s))
       accepted-plays a s =
           both (confirms (a.active && (switch_at plan a.switch).confirms_playfield))
           (still (posts-other (λ e. e) (posts_of plan a.switch a.active) (confirm_on_playfield plan a s)))
@@ -288,13 +323,16 @@ module _ (plan : PlanView) where
       target-plays owner (Stop m) s off within = still (stop-other m s)
       target-plays owner (ActOn r act) s off within = other-plays may (calls.Act act) r s within off
 
-      handler-plays : (place : BindingId) (s : Machine) → place.0 < length plan.bindings → Plays plan may s (do_handler plan place s)
+      handler-plays : (place : BindingId) (s : Machine) → place.0 < length plan.bindings
+          → Plays plan may s (do_handler plan place s)
       handler-plays place s within = by (is_met plan s.players (binding_at plan place).condition)
         where
-          by : (met : Bool) → Plays plan may s (if met then do_target plan (binding_at plan place).owner (binding_at plan place).target s else s)
+          by : (met : Bool) → Plays plan may s
+              (if met then do_target plan (binding_at plan place).owner (binding_at plan place).target s else s)
           by x1 = search (rules, target-plays, All-get_or, within, still, nothing-other)
 
-      handlers-play : (s : Machine) (e : EventId) (order : List BindingId) → IsHandlerOrder plan (handlers_in plan s e) order
+      handlers-play : (s : Machine) (e : EventId) (order : List BindingId)
+          → IsHandlerOrder plan (handlers_in plan s e) order
           → Plays plan may s (all_do (do_handler plan) order s)
       handlers-play s e order h =
           let within : BindingId → Type 0 = λ p. p.0 < length plan.bindings in
@@ -338,8 +376,10 @@ module _ (plan : PlanView) where
           (still (posts-other (game_event plan) step.posts (ask_ball plan step.requests finals))))
 
       -- ball saves and multiballs are no ball devices
-      saves-play : (r : RowId) → r.0 < length plan.rows → is_save (row_at plan r).settings ≡ true → (s : Machine) → Plays plan may s (call_device plan (calls.Act acts.Save) r s)
-      saves-play r within is s = other-plays may (calls.Act acts.Save) r s within (save-no_ball (row_at plan r).settings is)
+      saves-play : (r : RowId) → r.0 < length plan.rows → is_save (row_at plan r).settings ≡ true → (s : Machine)
+          → Plays plan may s (call_device plan (calls.Act acts.Save) r s)
+      saves-play r within is s = other-plays may (calls.Act acts.Save) r s within
+          (save-no_ball (row_at plan r).settings is)
 
       record IsMultiball (r : RowId) : Type 0 where
         within : r.0 < length plan.rows
@@ -348,19 +388,24 @@ module _ (plan : PlanView) where
       ends-play : (s : Machine) → Plays plan may s (end_multiballs plan s)
       ends-play s = by (in_play s.game == 1)
         where
-          by : (b : Bool) → Plays plan may s (if b then all_do (call_device plan (calls.Act acts.End)) (multiball_rows plan) s else s)
+          by : (b : Bool) → Plays plan may s
+              (if b then all_do (call_device plan (calls.Act acts.End)) (multiball_rows plan) s else s)
           by true =
               let passes = filter_passes (λ r. is_multiball (row_at plan r).settings) (row_numbers plan) in
               all-play (call_device plan (calls.Act acts.End)) IsMultiball
-              (λ r t of. other-plays may (calls.Act acts.End) r t of.within (multiball-no_ball (row_at plan r).settings of.is))
-              (multiball_rows plan) (λ k d there. record { within = multiballs-within plan k d there; is = passes k d there }) s
+              (λ r t of. other-plays may (calls.Act acts.End) r t of.within
+              (multiball-no_ball (row_at plan r).settings of.is))
+              (multiball_rows plan) (λ k d there.
+              record { within = multiballs-within plan k d there; is = passes k d there }) s
           by false = still (nothing-other s)
 
-      drained-plays : (s : Machine) (o : Option RowId) → first_active_save plan s ≡ o → Plays plan may s (drain_ball plan o s)
+      drained-plays : (s : Machine) (o : Option RowId) → first_active_save plan s ≡ o
+          → Plays plan may s (drain_ball plan o s)
       drained-plays s None is = both (step-plays (step_now plan BallDrain s) s) (ends-play (step_game plan BallDrain s))
       drained-plays s (Some r) is =
           let first = first_active_save-is plan s r is in
-          let saves = All-contains (λ q. is_save (row_at plan q).settings ≡ true) (save_rows plan) r (filter_passes (λ q. is_save (row_at plan q).settings) (row_numbers plan)) first.listed in
+          let saves = All-contains (λ q. is_save (row_at plan q).settings ≡ true) (save_rows plan) r
+          (filter_passes (λ q. is_save (row_at plan q).settings) (row_numbers plan)) first.membership in
           saves-play r first.there saves s
 
       game-plays : (which : GameEvent) (s : Machine) → Plays plan may s (do_game plan which s)
@@ -377,7 +422,8 @@ module _ (plan : PlanView) where
           let released = release_coils plan (owners.Mode m) over in
           let idle = set_mode m (ended (mode_state s.modes m)) released in
           both (devices-play calls.ModeStop m s) (still (then-other (releases-other (owners.Mode m) over)
-          (then-other (same-other released idle refl refl refl refl refl) (post-other owners.Machine (mode_event plan m Stopped) idle))))
+          (then-other (same-other released idle refl refl refl refl refl)
+          (post-other owners.Machine (mode_event plan m Stopped) idle))))
       after-plays kept (Mode m Stopped) s = still (release-other m s)
       after-plays kept (Game which) s = game-plays which s
 
@@ -387,10 +433,11 @@ module _ (plan : PlanView) where
           → Plays plan may s (after_event plan first rest order s)
       event-plays first rest order s in_order =
           let fewer : Machine = record s { waiting = rest } in
-          let begun = taken first rest s in
+          let begun = take_event first rest s in
           let ready = before_handlers plan first rest s in
           let done = all_do (do_handler plan) order ready in
-          both (still (then-other (same-other s fewer refl refl refl refl refl) (write-other first.owner (lines.Event first.event) fewer tt)))
+          both (still (then-other (same-other s fewer refl refl refl refl refl)
+          (write-other first.owner (lines.Event first.event) fewer tt)))
           (both (before-plays (work_of plan first.event) begun)
           (both (handlers-play ready first.event order in_order)
           (after-plays (is_kept (work_of plan first.event) s) (work_of plan first.event) done)))

@@ -7,7 +7,8 @@ use Rattle.plan_tables.specs.declared.devices.Act.TheVariants as acts
 use Rattle.plan_tables.specs.declared.devices.{BallSettings.BallSettings, BallTarget.TheVariants.Playfield, RowId.RowId}
 use Rattle.plan_tables.specs.declared.devices.Settings.TheVariants as kinds
 use Rattle.plan_tables.specs.declared.entries.{Action.Action, Owner.Owner, SwitchId.SwitchId}
-use Rattle.plan_tables.specs.declared.entries.Action.TheVariants.{Post, Pulse, Enable, Disable, Change as ChangeVariable, Enter, Leave, Lose, Arrive, Request, AddBalls}
+use Rattle.plan_tables.specs.declared.entries.Action.TheVariants.{Post, Pulse, Enable, Disable, Request, AddBalls}
+use Rattle.plan_tables.specs.declared.entries.Action.TheVariants.{Change as ChangeVariable, Enter, Leave, Lose, Arrive}
 use Rattle.ball_devices.specs.{declared.booking.Origin.Origin, Ledger.origin_of, Bookings.LedgerCall}
 use Rattle.ball_devices.specs.Bookings as ledger_calls
 use Rattle.device_objects.specs.{declared.device.Call.Call, BallDevice.confirm}
@@ -15,10 +16,12 @@ use Rattle.device_objects.specs.declared.state.{BallState.BallState, BallSwitch.
 use Rattle.device_objects.specs.declared.device.Call.TheVariants as calls
 use Rattle.device_objects.specs.declared.state.DeviceState.TheVariants as states
 use Rattle.device_objects.specs.BallDevice as balls
-use Rattle.written_machine.{specs.SwitchLines.changes_of, proofs.Does.book-by}
+use Rattle.written_machine.specs.{SwitchLines.changes_of, Machine.{told_device, want_balls}}
+use Rattle.written_machine.proofs.{Does.book-by, BallPlays.{both, IsNoCall, request, same-other}}
 use Rattle.plan_tables.specs.declared.devices.Telling.{Telling, TheVariants.{Arrived, Wanted}}
-use Rattle.written_machine.specs.Machine.{Machine, post, set_device, all_do, book, after_entry, do_action_by, device_at, called, do_answer_by, call_device_by, tell_nobody, tell_device, tell_first, told_device, want_balls}
-use Rattle.written_machine.proofs.BallPlays.{IsOther, one_row, post-other, action-other, Plays, still, ball, arrival, both, IsNoCall, request, same-other}
+use Rattle.written_machine.specs.Machine.{Machine, post, set_device, all_do, book, after_entry, do_action_by, device_at}
+use Rattle.written_machine.specs.Machine.{call_row, do_answer_by, call_device_by, tell_nobody, tell_device, tell_first}
+use Rattle.written_machine.proofs.BallPlays.{IsOther, one_row, post-other, action-other, Plays, still, ball, arrival}
 
 -- the state of a ball device
 abbrev pub ball_of : DeviceState → BallState
@@ -33,7 +36,8 @@ switches_at s r = (ball_of (device_at s r)).switches
 pub record IsSteady (plan : PlanView) (s t : Machine) : Type 0 where
   pub moment : t.moment ≡ s.moment
   pub count : length t.devices ≡ length s.devices
-  pub switches : (r : RowId) (d : BallSettings) → (row_at plan r).settings ≡ kinds.BallDevice d → switches_at t r ≡ switches_at s r
+  pub switches : (r : RowId) (d : BallSettings) → (row_at plan r).settings ≡ kinds.BallDevice d
+      → switches_at t r ≡ switches_at s r
   pub changes : (n : SwitchId) → changes_of n t.lines ≡ changes_of n s.lines
 
 -- calls that keep the ball switches
@@ -55,7 +59,8 @@ module _ (plan : PlanView) where
   pub then-steady : {s m t : Machine} → IsSteady plan s m → IsSteady plan m t → IsSteady plan s t
   then-steady a b = search rules
 
-  all-steady : {X : Type 0} (f : X → Machine → Machine) → ((x : X) (s : Machine) → IsSteady plan s (f x s)) → (xs : List X) (s : Machine)
+  all-steady : {X : Type 0} (f : X → Machine → Machine) → ((x : X) (s : Machine) → IsSteady plan s (f x s))
+      → (xs : List X) (s : Machine)
       → IsSteady plan s (all_do f xs s)
   all-steady f each [] s = nothing-steady s
   all-steady f each (x ∷ xs) s = then-steady (each x s) (all-steady f each xs (f x s))
@@ -64,8 +69,10 @@ module _ (plan : PlanView) where
   book-steady : (owner : Owner) (c : LedgerCall) (s : Machine) → IsSteady plan s (book owner c s)
   book-steady owner c s = search (rules, book-by, flat_map-append, append-nil, nothing-steady)
 
-  module _ (tell : Telling → Machine → Machine) (tells : (telling : Telling) (s : Machine) → IsSteady plan s (tell telling s)) where
-    entry-steady : (owner : Owner) (r : RowId) (drain : Bool) (o : Origin) (s : Machine) → IsSteady plan s (after_entry plan tell owner r drain o s)
+  module _ (tell : Telling → Machine → Machine)
+      (tells : (telling : Telling) (s : Machine) → IsSteady plan s (tell telling s)) where
+    entry-steady : (owner : Owner) (r : RowId) (drain : Bool) (o : Origin) (s : Machine)
+        → IsSteady plan s (after_entry plan tell owner r drain o s)
     entry-steady owner r drain o s = search rules
 
     want-steady : (n : ℕ) (s : Machine) → IsSteady plan s (want_balls tell n s)
@@ -76,11 +83,13 @@ module _ (plan : PlanView) where
     action-steady owner (Pulse coil ms power) s = other-steady (action-other plan tell owner (Pulse coil ms power) s tt)
     action-steady owner (Enable coil power) s = other-steady (action-other plan tell owner (Enable coil power) s tt)
     action-steady owner (Disable coil) s = other-steady (action-other plan tell owner (Disable coil) s tt)
-    action-steady owner (ChangeVariable v action n e) s = other-steady (action-other plan tell owner (ChangeVariable v action n e) s tt)
+    action-steady owner (ChangeVariable v action n e) s =
+        other-steady (action-other plan tell owner (ChangeVariable v action n e) s tt)
     action-steady owner (Enter r e drain) s =
         let in_it = book owner (ledger_calls.Enter r) s in
         then-steady (book-steady owner (ledger_calls.Enter r) s)
-        (then-steady (other-steady (post-other plan owner e in_it)) (entry-steady owner r drain (origin_of r s.ledger) (post owner e in_it)))
+        (then-steady (other-steady (post-other plan owner e in_it))
+        (entry-steady owner r drain (origin_of r s.ledger) (post owner e in_it)))
     action-steady owner (Leave r) s = book-steady owner (ledger_calls.Leave r (target_of plan r)) s
     action-steady owner (Lose r) s = book-steady owner (ledger_calls.Lose r) s
     action-steady owner (Arrive r) s = book-steady owner (ledger_calls.Arrive (target_of plan r)) s
@@ -91,12 +100,16 @@ module _ (plan : PlanView) where
     answer-steady r ks s = search (rules, all-steady, action-steady)
 
     -- a call that keeps the ball switches
-    turned-steady : (call : Call) → IsKeeping call → (r : RowId) (s : Machine) → IsSteady plan s (set_device r (called plan call r s).0 s)
-    turned-steady call keeps r s = search (rules, length-set, cases_lt, get_or-set_same, set_past, cases_eq, one_row, get_or-set_other)
+    turned-steady : (call : Call) → IsKeeping call → (r : RowId) (s : Machine)
+        → IsSteady plan s (set_device r (call_row plan call r s).0 s)
+    turned-steady call keeps r s =
+        search (rules, length-set, cases_lt, get_or-set_same, set_past, cases_eq, one_row, get_or-set_other)
 
-    call-steady : (call : Call) → IsKeeping call → (r : RowId) (s : Machine) → IsSteady plan s (call_device_by plan tell call r s)
+    call-steady : (call : Call) → IsKeeping call → (r : RowId) (s : Machine)
+        → IsSteady plan s (call_device_by plan tell call r s)
     call-steady call keeps r s =
-        then-steady (turned-steady call keeps r s) (answer-steady r (called plan call r s).1 (set_device r (called plan call r s).0 s))
+        then-steady (turned-steady call keeps r s)
+        (answer-steady r (call_row plan call r s).1 (set_device r (call_row plan call r s).0 s))
 
   -- ---- what ball devices are told
 
@@ -105,14 +118,17 @@ module _ (plan : PlanView) where
 
   told-steady : (telling : Telling) (o : Option RowId) (s : Machine) → IsSteady plan s (tell_device plan telling o s)
   told-steady telling None s = nothing-steady s
-  told-steady telling (Some q) s = call-steady tell_nobody (λ other t. nothing-steady t) (calls.Act (act_told telling)) (telling-keeps telling) q s
+  told-steady telling (Some q) s = call-steady tell_nobody (λ other t. nothing-steady t) (calls.Act (act_told telling))
+      (telling-keeps telling) q s
 
   pub telling-steady : (telling : Telling) (s : Machine) → IsSteady plan s (tell_first plan telling s)
   telling-steady telling s = told-steady telling (told_device plan telling s) s
 
-  pub plays-steady : {may : Call → Type 0} → ((call : Call) → may call → IsKeeping call) → {s t : Machine} → Plays plan may s t → IsSteady plan s t
+  pub plays-steady : {may : Call → Type 0} → ((call : Call) → may call → IsKeeping call) → {s t : Machine}
+      → Plays plan may s t → IsSteady plan s t
   plays-steady keeps (still other) = other-steady other
-  plays-steady keeps (ball call r d s within is may) = call-steady (tell_first plan) telling-steady call (keeps call may) r s
+  plays-steady keeps (ball call r d s within is may) =
+      call-steady (tell_first plan) telling-steady call (keeps call may) r s
   plays-steady keeps (arrival s) = telling-steady (Arrived Playfield) s
   plays-steady keeps (request n s) = telling-steady (Wanted n) s
   plays-steady keeps (both a b) = then-steady (plays-steady keeps a) (plays-steady keeps b)

@@ -1,6 +1,7 @@
 -- What each call of a ball device leads to: how many balls count in it then, whether it is Away, and what its lists
 -- book.
-use Rattle.std.proofs.Common.{rules, ◌≡◌, ℕ, ◌+◌, ◌<◌, ◌≤◌, min, inl, inr, ◌⊎◌, Bool, true, false, not, cond, Option, None, Some, List, [], ◌∷◌, length, nat_lt, refl, sym, ap, ◌∙◌, arith}
+use Rattle.std.proofs.Common.{rules, ◌≡◌, ℕ, ◌+◌, ◌<◌, ◌≤◌, min, inl, inr, ◌⊎◌, Bool, true, false, not, cond, Option}
+use Rattle.std.proofs.Common.{None, Some, List, [], ◌∷◌, length, nat_lt, refl, sym, ap, ◌∙◌, arith}
 use Rattle.std.{specs.List.count_by, proofs.lemmas.List.{get_or_past, set_past, Sums.sum_by-set}}
 use Rattle.std.proofs.lemmas.{Bool.{cases_lt, cond_both}, Option.none-some}
 use Rattle.plan_tables.specs.declared.devices.{Act.Act, BallSettings.BallSettings, RowId.RowId}
@@ -9,7 +10,11 @@ use Rattle.plan_tables.specs.declared.devices.BallTarget.{BallTarget, TheVariant
 use Rattle.device_objects.specs.declared.{device.Call.Call, state.Eject.{Eject, TheVariants.{Idle, Pulsing, Away}}}
 use Rattle.device_objects.specs.declared.device.Call.TheVariants as calls
 use Rattle.device_objects.specs.declared.state.{Attempt.Attempt, BallSwitch.BallSwitch, BallState.BallState}
-use Rattle.device_objects.specs.BallDevice.{empty, switch_at, set_switch, first_due, entered, attempted, left, lost, succeeded, arrived, failed, attempt, is_away, begin, after, ended, stuck, may_try_again, next_number, overdue, confirmed, time_out, confirm, noted, switched, turned, gone, count, count_due, fire, requested, act_step, ball_step}
+use Rattle.device_objects.specs.BallDevice.{empty, switch_at, set_switch, first_due, entry_list, attempt_list}
+use Rattle.device_objects.specs.BallDevice.{exit_list, loss_list, success_list, arrival_list, failure_list, attempt}
+use Rattle.device_objects.specs.BallDevice.{is_away, begin, after, end_eject, stuck, may_try_again, next_number}
+use Rattle.device_objects.specs.BallDevice.{overdue, confirmation, time_out, confirm, note_level, switch_level}
+use Rattle.device_objects.specs.BallDevice.{turn_over, lose_sight, count, count_due, fire, request, act_step, ball_step}
 use Rattle.device_objects.proofs.BallDue.{first_due-is_due}
 use Rattle.ball_devices.specs.Bookings.{one}
 
@@ -20,7 +25,7 @@ balls_in s = count_by (λ b. b.counted) s.switches
 -- ---- lists that book nothing
 
 abbrev pub IsQuiet : ℕ → Type 0
-IsQuiet k = (k ≡ attempted) ⊎ ((k ≡ succeeded) ⊎ (k ≡ failed))
+IsQuiet k = (k ≡ attempt_list) ⊎ ((k ≡ success_list) ⊎ (k ≡ failure_list))
 
 abbrev pub AreQuiet : List ℕ → Type 0
 AreQuiet [] = Unit {0}
@@ -39,14 +44,18 @@ same-balls s t is = ap (count_by (λ b. b.counted)) is
 -- What an answer is: nothing is booked; a ball has entered, if one may; the one that was ejected has left; one is
 -- lost; or the one that was on its way is on the playfield.
 pub data Answer (enter : Type 0) (s : BallState) : BallState → List ℕ → Type 0 where
-  nothing : (t : BallState) (lists : List ℕ) → balls_in t ≡ balls_in s → is_away t.eject ≡ is_away s.eject → AreQuiet lists
+  nothing : (t : BallState) (lists : List ℕ) → balls_in t ≡ balls_in s → is_away t.eject ≡ is_away s.eject
+      → AreQuiet lists
       → Answer enter s t lists
-  enters : enter → (t : BallState) (rest : List ℕ) → balls_in t ≡ balls_in s + 1 → is_away t.eject ≡ is_away s.eject → AreQuiet rest
-      → Answer enter s t (entered ∷ rest)
-  leaves : (t : BallState) → balls_in t + 1 ≡ balls_in s → is_away s.eject ≡ false → is_away t.eject ≡ true → Answer enter s t (left ∷ [])
-  loses : (t : BallState) → balls_in t + 1 ≡ balls_in s → is_away t.eject ≡ is_away s.eject → Answer enter s t (lost ∷ [])
+  enters : enter → (t : BallState) (rest : List ℕ) → balls_in t ≡ balls_in s + 1 → is_away t.eject ≡ is_away s.eject
+      → AreQuiet rest
+      → Answer enter s t (entry_list ∷ rest)
+  leaves : (t : BallState) → balls_in t + 1 ≡ balls_in s → is_away s.eject ≡ false → is_away t.eject ≡ true
+      → Answer enter s t (exit_list ∷ [])
+  loses : (t : BallState) → balls_in t + 1 ≡ balls_in s → is_away t.eject ≡ is_away s.eject
+      → Answer enter s t (loss_list ∷ [])
   arrives : (t : BallState) (rest : List ℕ) → balls_in t ≡ balls_in s → is_away s.eject ≡ true → is_away t.eject ≡ false
-      → AreQuiet rest → Answer enter s t (arrived ∷ rest)
+      → AreQuiet rest → Answer enter s t (arrival_list ∷ rest)
 
 abbrev pub IsAnswer : Type 0 → BallState → BallState × List ℕ → Type 0
 IsAnswer enter s a = Answer enter s a.0 a.1
@@ -80,46 +89,57 @@ module _ (d : BallSettings) (enter : Type 0) where
   stuck-answer : (now : ℕ) (a : Attempt) (s : BallState) → is_away s.eject ≡ false → IsAnswer enter s (stuck d now a s)
   stuck-answer now a s not_yet =
       cond_both (may_try_again d.ejects.max_attempts a.number)
-      (after (failed ∷ []) (attempt d (next_number d.ejects.max_attempts a.number) now s))
-      (record s { eject = Idle; wanted = 0 }, failed ∷ []) (IsAnswer enter s)
-      (λ may. nothing (record s { eject = Pulsing (record { number = next_number d.ejects.max_attempts a.number; timeout = now + d.ejects.timeout }) })
-      (failed ∷ attempted ∷ []) refl (sym not_yet) (inr (inr refl), (inl refl, tt)))
-      (λ not. nothing (record s { eject = Idle; wanted = 0 }) (failed ∷ []) refl (sym not_yet) (inr (inr refl), tt))
+      (after (failure_list ∷ []) (attempt d (next_number d.ejects.max_attempts a.number) now s))
+      (record s { eject = Idle; wanted = 0 }, failure_list ∷ []) (IsAnswer enter s)
+      (λ may. nothing (record s {
+        eject = Pulsing
+            (record { number = next_number d.ejects.max_attempts a.number; timeout = now + d.ejects.timeout });
+      })
+      (failure_list ∷ attempt_list ∷ []) refl (sym not_yet) (inr (inr refl), (inl refl, tt)))
+      (λ not. nothing (record s { eject = Idle; wanted = 0 }) (failure_list ∷ []) refl (sym not_yet)
+      (inr (inr refl), tt))
 
   -- lists of a ball that has arrived on the playfield, and then it may begin to eject the next
   on_playfield : (now : ℕ) (s : BallState) (k : ℕ) → IsQuiet k → is_away s.eject ≡ true
-      → IsAnswer enter s (after (arrived ∷ k ∷ []) (begin d now (ended s)))
+      → IsAnswer enter s (after (arrival_list ∷ k ∷ []) (begin d now (end_eject s)))
   on_playfield now s k quiet away =
-      let begun = begin-begun d now (ended s) in
-      arrives (begin d now (ended s)).0 (k ∷ (begin d now (ended s)).1) (same-balls s (begin d now (ended s)).0 begun.same.switches) away
+      let begun = begin-begun d now (end_eject s) in
+      arrives (begin d now (end_eject s)).0 (k ∷ (begin d now (end_eject s)).1)
+      (same-balls s (begin d now (end_eject s)).0 begun.same.switches) away
       begun.same.away (quiet, begun.quiet)
 
   overdue-answer : (target : BallTarget) (now : ℕ) (s : BallState) → is_away s.eject ≡ true
-      → IsAnswer enter s (after (overdue target) (begin d now (ended s)))
+      → IsAnswer enter s (after (overdue target) (begin d now (end_eject s)))
   overdue-answer target now s away = search (rules, on_playfield)
 
-  time_out-answer : (now : ℕ) (eject : Eject) (s : BallState) → s.eject ≡ eject → IsAnswer enter s (time_out d now eject s)
+  time_out-answer : (now : ℕ) (eject : Eject) (s : BallState) → s.eject ≡ eject
+      → IsAnswer enter s (time_out d now eject s)
   time_out-answer now Idle s is = nothing s [] refl refl tt
   time_out-answer now (Pulsing a) s is = stuck-answer now a s (ap is_away is)
   time_out-answer now (Away a) s is = overdue-answer d.target now s (ap is_away is)
 
   -- ---- a ball switch counts
 
-  gone-answer : (now : ℕ) (eject : Eject) (s t : BallState) → s.eject ≡ eject → t.eject ≡ s.eject → balls_in t + 1 ≡ balls_in s
-      → IsAnswer enter s (gone d now eject t)
+  gone-answer : (now : ℕ) (eject : Eject) (s t : BallState) → s.eject ≡ eject → t.eject ≡ s.eject
+      → balls_in t + 1 ≡ balls_in s
+      → IsAnswer enter s (lose_sight d now eject t)
   gone-answer now Idle s t is same fewer =
       cond_both d.ejects.mechanical
-      (record t { eject = Away (record { number = 1; timeout = now + d.ejects.timeout }) }, left ∷ []) (t, lost ∷ []) (IsAnswer enter s)
-      (λ hand. leaves (record t { eject = Away (record { number = 1; timeout = now + d.ejects.timeout }) }) fewer (ap is_away is) refl)
+      (record t { eject = Away (record { number = 1; timeout = now + d.ejects.timeout }) }, exit_list ∷ [])
+      (t, loss_list ∷ []) (IsAnswer enter s)
+      (λ hand. leaves (record t { eject = Away (record { number = 1; timeout = now + d.ejects.timeout }) }) fewer
+      (ap is_away is) refl)
       (λ none. loses t fewer (ap is_away same))
   gone-answer now (Pulsing a) s t is same fewer = leaves (record t { eject = Away a }) fewer (ap is_away is) refl
   gone-answer now (Away a) s t is same fewer = loses t fewer (ap is_away same)
 
   count-answer : enter → (now i : ℕ) (s : BallState) → i < length s.switches → IsAnswer enter s (count d now i s)
   count-answer may now i s within =
-      let t : BallState = set_switch i (turned (switch_at s i)) s in
-      let sums = sum_by-set (λ (b : BallSwitch). cond b.counted 1 0) s.switches i (turned (switch_at s i)) empty within in
-      cond_both (switch_at s i).counted (gone d now s.eject t) (after (entered ∷ []) (begin d now t)) (IsAnswer enter s)
+      let t : BallState = set_switch i (turn_over (switch_at s i)) s in
+      let sums = sum_by-set (λ (b : BallSwitch). cond b.counted 1 0) s.switches i (turn_over (switch_at s i)) empty
+      within in
+      cond_both (switch_at s i).counted (lose_sight d now s.eject t) (after (entry_list ∷ []) (begin d now t))
+      (IsAnswer enter s)
       (λ was.
       let before : one (switch_at s i).counted ≡ 1 = ap one was in
       let later : one (not (switch_at s i).counted) ≡ 0 = ap (λ (b : Bool). one (not b)) was in
@@ -129,13 +149,15 @@ module _ (d : BallSettings) (enter : Type 0) where
       let later : one (not (switch_at s i).counted) ≡ 1 = ap (λ (b : Bool). one (not b)) was_not in
       let begun = begin-begun d now t in
       let more : balls_in t ≡ balls_in s + 1 = omega (arith, sums, before, later) in
-      enters may (begin d now t).0 (begin d now t).1 (same-balls t (begin d now t).0 begun.same.switches ∙ more) begun.same.away begun.quiet)
+      enters may (begin d now t).0 (begin d now t).1 (same-balls t (begin d now t).0 begun.same.switches ∙ more)
+      begun.same.away begun.quiet)
 
   -- one that is due is there
   there : (s : BallState) (i due : ℕ) → (switch_at s i).due ≡ Some due → i < length s.switches
   there s i due is = search (rules, cases_lt, none-some, get_or_past)
 
-  count_due-answer : enter → (now : ℕ) (first : Option (ℕ × ℕ)) (s : BallState) → first_due s ≡ first → IsAnswer enter s (count_due d now first s)
+  count_due-answer : enter → (now : ℕ) (first : Option (ℕ × ℕ)) (s : BallState) → first_due s ≡ first
+      → IsAnswer enter s (count_due d now first s)
   count_due-answer may now None s is = nothing s [] refl refl tt
   count_due-answer may now (Some a) s is =
       let at = first_due-is_due 0 s.switches a is in
@@ -149,18 +171,20 @@ module _ (d : BallSettings) (enter : Type 0) where
 
   -- it is told that the ball that it has ejected has arrived
   confirmed-answer : (now : ℕ) (s : BallState) (target : BallTarget) → target ≡ Playfield → is_away s.eject ≡ true
-      → IsAnswer enter s (after (confirmed target) (begin d now (ended s)))
+      → IsAnswer enter s (after (confirmation target) (begin d now (end_eject s)))
   confirmed-answer now s target is away = search (rules, on_playfield)
 
-  to_playfield : (now : ℕ) (eject : Eject) (s : BallState) → s.eject ≡ eject → d.target ≡ Playfield → IsAnswer enter s (confirm d now eject s)
+  to_playfield : (now : ℕ) (eject : Eject) (s : BallState) → s.eject ≡ eject → d.target ≡ Playfield
+      → IsAnswer enter s (confirm d now eject s)
   to_playfield now (Away a) s is target = confirmed-answer now s d.target target (ap is_away is)
   to_playfield now _ s is target = nothing s [] refl refl tt
 
   -- if it ejects balls to the playfield
-  pub confirm-answer : (now : ℕ) (s : BallState) → d.target ≡ Playfield → IsAnswer enter s (ball_step d (calls.Act acts.Confirm) now s)
+  pub confirm-answer : (now : ℕ) (s : BallState) → d.target ≡ Playfield
+      → IsAnswer enter s (ball_step d (calls.Act acts.Confirm) now s)
   confirm-answer now s target = to_playfield now s.eject s refl target
 
-  pub requested-answer : (n now : ℕ) (s : BallState) → IsAnswer enter s (requested d n now s)
+  pub requested-answer : (n now : ℕ) (s : BallState) → IsAnswer enter s (request d n now s)
   requested-answer n now s =
       let more : BallState = record s { wanted = min (s.wanted + n) 255 } in
       cond_both d.trough (begin d now more) (s, []) (IsAnswer enter s)
@@ -170,17 +194,23 @@ module _ (d : BallSettings) (enter : Type 0) where
       nothing next.0 next.1 (same-balls s next.0 begun.same.switches) begun.same.away begun.quiet)
       (λ not. nothing s [] refl refl tt)
 
-  noted-answer : (i : ℕ) (active : Bool) (now : ℕ) (s : BallState) → IsAnswer enter s (switched d i active now s, [])
+  noted-answer : (i : ℕ) (active : Bool) (now : ℕ) (s : BallState)
+      → IsAnswer enter s (switch_level d i active now s, [])
   noted-answer i active now s =
-      cond_both (nat_lt i d.switches) (set_switch i (noted d active now (switch_at s i)) s) s (λ t. IsAnswer enter s (t, []))
-      (λ has. nothing (set_switch i (noted d active now (switch_at s i)) s) [] (same_count (cases_lt i (length s.switches))) refl tt)
+      cond_both (nat_lt i d.switches) (set_switch i (note_level d active now (switch_at s i)) s) s
+      (λ t. IsAnswer enter s (t, []))
+      (λ has. nothing (set_switch i (note_level d active now (switch_at s i)) s) []
+      (same_count (cases_lt i (length s.switches))) refl tt)
       (λ not. nothing s [] refl refl tt)
     where
-      same_count : (i < length s.switches) ⊎ (length s.switches ≤ i) → balls_in (set_switch i (noted d active now (switch_at s i)) s) ≡ balls_in s
+      same_count : (i < length s.switches) ⊎ (length s.switches ≤ i)
+          → balls_in (set_switch i (note_level d active now (switch_at s i)) s) ≡ balls_in s
       same_count (inl within) =
-          let sums = sum_by-set (λ (b : BallSwitch). cond b.counted 1 0) s.switches i (noted d active now (switch_at s i)) empty within in
+          let sums = sum_by-set (λ (b : BallSwitch). cond b.counted 1 0) s.switches i
+          (note_level d active now (switch_at s i)) empty within in
           omega (arith, sums)
-      same_count (inr past) = ap (count_by (λ b. b.counted)) (set_past s.switches i (noted d active now (switch_at s i)) past)
+      same_count (inr past) = ap (count_by (λ b. b.counted))
+          (set_past s.switches i (note_level d active now (switch_at s i)) past)
 
   -- ---- steps
 
@@ -191,7 +221,8 @@ module _ (d : BallSettings) (enter : Type 0) where
   act-answer (acts.Request n) now s usual = requested-answer n now s
   act-answer _ now s usual = nothing s [] refl refl tt
 
-  pub step-answer : enter → (call : Call) (now : ℕ) (s : BallState) → IsUsual call → IsAnswer enter s (ball_step d call now s)
+  pub step-answer : enter → (call : Call) (now : ℕ) (s : BallState) → IsUsual call
+      → IsAnswer enter s (ball_step d call now s)
   step-answer may calls.ModeStart now s usual = nothing s [] refl refl tt
   step-answer may calls.ModeStop now s usual = absurd usual
   step-answer may calls.Fire now s usual = fire-answer may now s
@@ -200,7 +231,8 @@ module _ (d : BallSettings) (enter : Type 0) where
 module _ (d : BallSettings) where
   -- ---- confirmed in a device
 
-  by_eject : (now : ℕ) (eject : Eject) (s : BallState) (r : RowId) → s.eject ≡ eject → is_away s.eject ≡ true → d.target ≡ Device r
+  by_eject : (now : ℕ) (eject : Eject) (s : BallState) (r : RowId) → s.eject ≡ eject → is_away s.eject ≡ true
+      → d.target ≡ Device r
       → IsConfirmed s (confirm d now eject s)
   by_eject now eject s r is away target = search rules
 

@@ -1,18 +1,21 @@
 -- In every run all that the ledger books is in the trace, with the counts that follow from it.
-use Rattle.std.proofs.Common.{rules, ◌≡◌, ℕ, ◌<◌, ◌⊎◌, inl, inr, true, List, [], ◌∷◌, ◌++◌, length, length-append, get_or, drop, refl, sym, ap, ◌∙◌, subst, append_assoc, arith}
+use Rattle.std.proofs.Common.{rules, ◌≡◌, ℕ, ◌<◌, ◌⊎◌, inl, inr, true, List, [], ◌∷◌, ◌++◌, length, length-append}
+use Rattle.std.proofs.Common.{get_or, drop, refl, sym, ap, ◌∙◌, subst, append_assoc, arith}
 use Rattle.std.proofs.lemmas.List.{append-nil, length-replicate, Concat.flat_map-append}
 use Rattle.plan_tables.specs.{PlanView.{PlanView, work_of}, declared.{devices.RowId.RowId, entries.Owner.Owner}}
 use Rattle.ball_devices.specs.declared.booking.{Booking.{Booking, TheVariants.Entered}, Origin.Origin}
 use Rattle.ball_devices.specs.Ledger.{Ledger, no_balls, origin_of, IsBalanced, IsLedger}
-use Rattle.ball_devices.specs.Bookings.{LedgerCall, Enter, MayBook, MayBookAll, after_call, after_calls, booked, booked_by, can_book, HasBooked, origin_after}
+use Rattle.ball_devices.specs.Bookings.{LedgerCall, Enter, MayBook, MayBookAll, after_call, after_calls, booking_of}
+use Rattle.ball_devices.specs.Bookings.{booked_by, can_book, HasBooked, origin_after}
 use Rattle.ball_devices.proofs.Ledgers.{new-is, calls-are, call-is}
 use Rattle.ball_devices.proofs.Booked.{call-told, balls_are_somewhere, ledgers_follow_bookings, origins_are_by_bookings}
 use Rattle.cascade_rank.specs.Cost.{Cost}
 use Rattle.written_machine.specs.declared.line.{BallCounts.BallCounts, Happening.Happening, Line.Line}
 use Rattle.written_machine.specs.declared.line.Happening.TheVariants as lines
 use Rattle.written_machine.specs.Counted.{booked_at, bookings, IsLedgerOf, AreOriginsRight, AreCountsRight}
-use Rattle.written_machine.specs.{EventStep.{taken, EventStep}, Machine.{Machine, initial, write, told, counts_of}}
-use Rattle.written_machine.specs.Moves.{Move, do_move, Licence, MayDo, Does, IsNoBooking, TakesPart, Begins, ordinary, working}
+use Rattle.written_machine.specs.{EventStep.{take_event, EventStep}, Moves.working}
+use Rattle.written_machine.specs.Machine.{Machine, initial, write, answer_happening, counts_of}
+use Rattle.written_machine.specs.Moves.{Move, do_move, Licence, MayDo, Does, IsNoBooking, TakesPart, Begins, ordinary}
 use Rattle.written_machine.specs.Run.{Stimulus, IsAllowed, begin, IsRun, InEveryRun}
 use Rattle.written_machine.proofs.Does.{start-by, stop-by, book-by, does-keeps}
 use Rattle.written_machine.proofs.{Parts.{does-before, does-after, does-begin}, Keeps.{step-keeps, run-keeps}}
@@ -20,17 +23,20 @@ use Rattle.coil_guard.specs.declared.command.{Answer.Answer, Command.Command}
 
 -- ---- one call more
 
-calls-more : (cs : List LedgerCall) (c : LedgerCall) (l : Ledger) → after_calls (cs ++ c ∷ []) l ≡ after_call c (after_calls cs l)
+calls-more : (cs : List LedgerCall) (c : LedgerCall) (l : Ledger)
+    → after_calls (cs ++ c ∷ []) l ≡ after_call c (after_calls cs l)
 calls-more [] c l = refl
 calls-more (b ∷ cs) c l = calls-more cs c (after_call b l)
 
-may-more : (cs : List LedgerCall) (c : LedgerCall) (l : Ledger) → MayBookAll cs l → MayBook c (after_calls cs l) → MayBookAll (cs ++ c ∷ []) l
+may-more : (cs : List LedgerCall) (c : LedgerCall) (l : Ledger) → MayBookAll cs l → MayBook c (after_calls cs l)
+    → MayBookAll (cs ++ c ∷ []) l
 may-more [] c l may one = (one, tt)
 may-more (b ∷ cs) c l may one = (may.0, may-more cs c (after_call b l) may.1 one)
 
-booked-more : (cs : List LedgerCall) (c : LedgerCall) (l : Ledger) → booked_by (cs ++ c ∷ []) l ≡ booked_by cs l ++ booked c (after_calls cs l) ∷ []
+booked-more : (cs : List LedgerCall) (c : LedgerCall) (l : Ledger)
+    → booked_by (cs ++ c ∷ []) l ≡ booked_by cs l ++ booking_of c (after_calls cs l) ∷ []
 booked-more [] c l = refl
-booked-more (b ∷ cs) c l = ap (λ bs. booked b l ∷ bs) (booked-more cs c (after_call b l))
+booked-more (b ∷ cs) c l = ap (λ bs. booking_of b l ∷ bs) (booked-more cs c (after_call b l))
 
 may-can : (c : LedgerCall) (l : Ledger) → can_book c l ≡ true → MayBook c l
 may-can c l is = search rules
@@ -38,7 +44,8 @@ may-can c l is = search rules
 -- ---- one line more
 
 -- if a list with one more is parted, that is its last line, or a line of the list
-parted : (ls : List Line) (l : Line) (before : List Line) (line : Line) (after : List Line) → ls ++ l ∷ [] ≡ before ++ line ∷ after
+parted : (ls : List Line) (l : Line) (before : List Line) (line : Line) (after : List Line)
+    → ls ++ l ∷ [] ≡ before ++ line ∷ after
     → ((before ≡ ls) × (line ≡ l)) ⊎ ((rest : List Line) × (ls ≡ before ++ line ∷ rest))
 parted [] l [] line after is = inl (refl, ap (λ (xs : List Line). get_or xs 0 l) (sym is))
 parted [] l (b ∷ bs) line after is =
@@ -57,7 +64,8 @@ bookings-push : (ls : List Line) (l : Line) → bookings (ls ++ l ∷ []) ≡ bo
 bookings-push ls l = search (rules, flat_map-append, append-nil)
 
 origins-push : (ls : List Line) (l : Line) → AreOriginsRight ls
-    → ((r : RowId) (origin : Origin) (told : BallCounts) → l.happening ≡ lines.Balls (Entered r origin) told → origin ≡ origin_after (bookings ls) r)
+    → ((r : RowId) (origin : Origin) (told : BallCounts) → l.happening ≡ lines.Balls (Entered r origin) told
+    → origin ≡ origin_after (bookings ls) r)
     → AreOriginsRight (ls ++ l ∷ [])
 origins-push ls l h here before line after r origin told parts is = search (rules, parted)
 
@@ -67,7 +75,8 @@ IsCounted plan bs counts =
     (l : Ledger) × IsLedgerOf plan bs l × (counts ≡ counts_of l)
 
 told-push : (plan : PlanView) (ls : List Line) (l : Line) → AreCountsRight plan ls
-    → ((booking : Booking) (told : BallCounts) → l.happening ≡ lines.Balls booking told → IsCounted plan (bookings ls ++ booking ∷ []) told)
+    → ((booking : Booking) (told : BallCounts) → l.happening ≡ lines.Balls booking told
+    → IsCounted plan (bookings ls ++ booking ∷ []) told)
     → AreCountsRight plan (ls ++ l ∷ [])
 told-push plan ls l h here before line after booking told parts is =
     elim (parted ls l before line after parts) [
@@ -109,23 +118,27 @@ module _ (plan : PlanView) where
   nothing_at : (what : Happening) → IsNoBooking what → booked_at what ≡ []
   nothing_at what none = search rules
 
-  not_balls : (what : Happening) (booking : Booking) (told : BallCounts) → IsNoBooking what → what ≡ lines.Balls booking told → ⊥
+  not_balls : (what : Happening) (booking : Booking) (told : BallCounts) → IsNoBooking what
+      → what ≡ lines.Balls booking told → ⊥
   not_balls what booking told none is = subst IsNoBooking is none
 
-  quiet-told : (ls : List Line) (x : Line) (l : Ledger) → IsNoBooking x.happening → IsTold ls l → IsTold (ls ++ x ∷ []) l
+  quiet-told : (ls : List Line) (x : Line) (l : Ledger) → IsNoBooking x.happening → IsTold ls l
+      → IsTold (ls ++ x ∷ []) l
   quiet-told ls x l none h = record {
     calls = h.calls;
     may = h.may;
     is = h.is;
-    booked_is = h.booked_is ∙ sym (bookings-push ls x ∙ (ap (λ bs. bookings ls ++ bs) (nothing_at x.happening none) ∙ append-nil (bookings ls)));
+    booked_is = h.booked_is ∙ sym (bookings-push ls x
+        ∙ (ap (λ bs. bookings ls ++ bs) (nothing_at x.happening none) ∙ append-nil (bookings ls)));
     rows = h.rows;
-    origins = origins-push ls x h.origins (λ r origin told is. absurd (not_balls x.happening (Entered r origin) told none is));
+    origins = origins-push ls x h.origins (λ r origin told is. absurd
+        (not_balls x.happening (Entered r origin) told none is));
     told = told-push plan ls x h.told (λ booking told is. absurd (not_balls x.happening booking told none is));
   }
 
   -- a line of a booking, with its counts
   module _ (ls : List Line) (x : Line) (l : Ledger) (c : LedgerCall) (can : can_book c l ≡ true)
-      (is : x.happening ≡ lines.Balls (booked c l) (counts_of (after_call c l))) (h : IsTold ls l) where
+      (is : x.happening ≡ lines.Balls (booking_of c l) (counts_of (after_call c l))) (h : IsTold ls l) where
     may_now : MayBook c (after_calls h.calls (no_balls plan))
     may_now = subst (MayBook c) (sym h.is) (may-can c l can)
 
@@ -135,7 +148,7 @@ module _ (plan : PlanView) where
     next_is : after_calls (h.calls ++ c ∷ []) (no_balls plan) ≡ after_call c l
     next_is = calls-more h.calls c (no_balls plan) ∙ ap (after_call c) h.is
 
-    next_booked : booked_by (h.calls ++ c ∷ []) (no_balls plan) ≡ bookings ls ++ booked c l ∷ []
+    next_booked : booked_by (h.calls ++ c ∷ []) (no_balls plan) ≡ bookings ls ++ booking_of c l ∷ []
     next_booked = search (rules, booked-more)
 
     ledger-is : IsLedger l
@@ -145,13 +158,16 @@ module _ (plan : PlanView) where
     next_rows = let tells = call-told l ledger-is.rows c (may-can c l can) in tells.rows ∙ h.rows
 
     -- the line tells of this booking
-    its_booking : (booking : Booking) (told : BallCounts) → x.happening ≡ lines.Balls booking told → booked c l ≡ booking
+    its_booking : (booking : Booking) (told : BallCounts) → x.happening ≡ lines.Balls booking told
+        → booking_of c l ≡ booking
     its_booking booking told other = cc
 
-    its_counts : (booking : Booking) (told : BallCounts) → x.happening ≡ lines.Balls booking told → counts_of (after_call c l) ≡ told
+    its_counts : (booking : Booking) (told : BallCounts) → x.happening ≡ lines.Balls booking told
+        → counts_of (after_call c l) ≡ told
     its_counts booking told other = cc
 
-    origin_now : (d : LedgerCall) → d ≡ c → (r : RowId) (origin : Origin) → booked d l ≡ Entered r origin → origin ≡ origin_after (bookings ls) r
+    origin_now : (d : LedgerCall) → d ≡ c → (r : RowId) (origin : Origin) → booking_of d l ≡ Entered r origin
+        → origin ≡ origin_after (bookings ls) r
     origin_now (Enter e) same r origin entered =
         let from : origin_of e l ≡ origin = cc in
         let row : e ≡ r = cc in
@@ -168,14 +184,19 @@ module _ (plan : PlanView) where
       is = next_is;
       booked_is = next_booked ∙ sym (bookings-push ls x ∙ ap (λ (what : Happening). bookings ls ++ booked_at what) is);
       rows = next_rows;
-      origins = origins-push ls x h.origins (λ r origin told other. origin_now c refl r origin (its_booking (Entered r origin) told other));
+      origins = origins-push ls x h.origins
+          (λ r origin told other. origin_now c refl r origin (its_booking (Entered r origin) told other));
       told = told-push plan ls x h.told (λ booking told other.
           let follows : HasBooked (bookings ls ++ booking ∷ []) (after_call c l) =
           subst (λ (b : Booking). HasBooked (bookings ls ++ b ∷ []) (after_call c l)) (its_booking booking told other)
           (subst (λ bs. HasBooked bs (after_call c l)) next_booked
-          (subst (HasBooked (booked_by (h.calls ++ c ∷ []) (no_balls plan))) next_is (ledgers_follow_bookings plan (h.calls ++ c ∷ []) next_may))) in
-          let still = call-is c l ledger-is (may-can c l can) in
-          (after_call c l, record { rows = next_rows; targets = still.rows ∙ next_rows; booked = follows }, sym (its_counts booking told other)));
+          (subst (HasBooked (booked_by (h.calls ++ c ∷ []) (no_balls plan))) next_is
+          (ledgers_follow_bookings plan (h.calls ++ c ∷ []) next_may))) in
+          let still = call-is c l ledger-is (may-can c l can) in (
+            after_call c l,
+            record { rows = next_rows; targets = still.rows ∙ next_rows; history = follows },
+            sym (its_counts booking told other),
+          ));
     }
 
   -- ---- moves
@@ -183,17 +204,22 @@ module _ (plan : PlanView) where
   abbrev pub IsToldSoFar : List Line → Machine → Type 0
   IsToldSoFar before s = IsTold (before ++ s.lines) s.ledger
 
-  write-told : (before : List Line) (owner : Owner) (what : Happening) (s : Machine) → IsNoBooking what → IsToldSoFar before s → IsToldSoFar before (write owner what s)
+  write-told : (before : List Line) (owner : Owner) (what : Happening) (s : Machine) → IsNoBooking what
+      → IsToldSoFar before s → IsToldSoFar before (write owner what s)
   write-told before owner what s none h = search (rules, append_assoc, quiet-told)
 
-  no_booking : (command : Command) (answer : Answer) → IsNoBooking (told command answer)
+  no_booking : (command : Command) (answer : Answer) → IsNoBooking (answer_happening command answer)
   no_booking command answer = search rules
 
-  told-move : (licence : Licence) (before : List Line) (x : Move) (s : Machine) → MayDo plan licence x → IsToldSoFar before s → IsToldSoFar before (do_move plan x s)
-  told-move licence before x s may h = search (rules, write-told, start-by, stop-by, no_booking, book-by, append_assoc, booking-told)
+  told-move : (licence : Licence) (before : List Line) (x : Move) (s : Machine) → MayDo plan licence x
+      → IsToldSoFar before s → IsToldSoFar before (do_move plan x s)
+  told-move licence before x s may h = search
+      (rules, write-told, start-by, stop-by, no_booking, book-by, append_assoc, booking-told)
 
-  told-does : (licence : Licence) (before : List Line) {c : Cost} {s t : Machine} → Does plan (MayDo plan licence) c s t → IsToldSoFar before s → IsToldSoFar before t
-  told-does licence before d h = does-keeps plan (MayDo plan licence) (IsToldSoFar before) (told-move licence before) d h
+  told-does : (licence : Licence) (before : List Line) {c : Cost} {s t : Machine} → Does plan (MayDo plan licence) c s t
+      → IsToldSoFar before s → IsToldSoFar before t
+  told-does licence before d h = does-keeps plan (MayDo plan licence) (IsToldSoFar before) (told-move licence before) d
+      h
 
   -- ---- every run
 
@@ -201,12 +227,13 @@ module _ (plan : PlanView) where
   step-told before =
       step-keeps plan IsToldSoFar (λ first. IsToldSoFar)
       (λ earlier first rest s is h.
-      told-does working earlier (does-before plan (work_of plan first.event) (taken first rest s))
+      told-does working earlier (does-before plan (work_of plan first.event) (take_event first rest s))
       (write-told earlier first.owner (lines.Event first.event) (record s { waiting = rest }) tt h))
       (λ earlier first c s t d h. told-does (ordinary plan (TakesPart s) ⊥) earlier d h)
       (λ earlier first kept s h. told-does working earlier (does-after plan kept first.event s) h) before
 
-  begin-told : (before : List Line) (stimulus : Stimulus) (s : Machine) → IsAllowed plan s stimulus → s.waiting ≡ [] → IsToldSoFar before s
+  begin-told : (before : List Line) (stimulus : Stimulus) (s : Machine) → IsAllowed plan s stimulus → s.waiting ≡ []
+      → IsToldSoFar before s
       → IsToldSoFar (before ++ s.lines) (begin plan stimulus s)
   begin-told before stimulus s may empty h =
       told-does (ordinary plan (Begins plan stimulus) (Unit {0})) (before ++ s.lines) (does-begin plan stimulus s)
@@ -218,7 +245,8 @@ module _ (plan : PlanView) where
       subst (λ (ls : List Line). IsTold ls s.ledger) end.2 end.1
 
   -- what follows of every run
-  module _ (stimuli : List (Stimulus × ℕ)) (trace : List Line) (s : Machine) (run : IsRun plan stimuli (initial plan) trace s) where
+  module _ (stimuli : List (Stimulus × ℕ)) (trace : List Line) (s : Machine)
+      (run : IsRun plan stimuli (initial plan) trace s) where
     now : IsTold trace s.ledger
     now = told-run stimuli trace s run
 

@@ -7,12 +7,14 @@ use Rattle.written_machine.proofs.{BallRuns.calm-run, BallHeard.counted-run, Tol
 pub balls-accounted_for : (c : CheckedView) → IsAccepted c → BallsAreAccountedFor c
 balls-accounted_for c accepted = record {
   somewhere = somewhere-run c.plan;
-  kept = λ stimuli trace s run. (calm-run c.plan accepted.valid accepted.own accepted.bookings stimuli trace s run).kept;
-  few = λ stimuli trace s run. let known = (calm-run c.plan accepted.valid accepted.own accepted.bookings stimuli trace s run).most in omega (arith, known);
-  heard = told-same c.plan accepted.bookings;
-  booked = booked-run c.plan;
+  none_left_out = λ stimuli trace s run. (calm-run c.plan accepted.valid accepted.own accepted.bookings stimuli trace s
+      run).kept;
+  few = λ stimuli trace s run. let known =
+      (calm-run c.plan accepted.valid accepted.own accepted.bookings stimuli trace s run).most in omega (arith, known);
+  tellings = told-same c.plan accepted.bookings;
+  ledger_numbers = booked-run c.plan;
   origins = λ stimuli trace s run. (told-run c.plan stimuli trace s run).origins;
-  told = λ stimuli trace s run. (told-run c.plan stimuli trace s run).told;
+  line_counts = λ stimuli trace s run. (told-run c.plan stimuli trace s run).told;
   counted = counted-run c.plan accepted.valid accepted.own accepted.bookings;
   away = search (rules, calm-run);
 }

@@ -31,7 +31,8 @@ mine-push : (m : ModeId) (w : Work) (xs ys : List ModeEvent) → mine m w (xs ++
 mine-push m w xs ys = search rules
 
 -- one event more waits
-pub waiting_of-push : (plan : PlanView) (m : ModeId) (ps : List Posted) (p : Posted) → waiting_of plan m (ps ++ p ∷ []) ≡ waiting_of plan m ps ++ mine m (work_of plan p.event) []
+pub waiting_of-push : (plan : PlanView) (m : ModeId) (ps : List Posted) (p : Posted)
+    → waiting_of plan m (ps ++ p ∷ []) ≡ waiting_of plan m ps ++ mine m (work_of plan p.event) []
 waiting_of-push plan m [] p = refl
 waiting_of-push plan m (q ∷ ps) p = search (rules, mine-push, waiting_of-push plan m ps p)
 

@@ -11,12 +11,15 @@ module _ (plan : PlanView) where
   posts-game (which ∷ posts) s = posts-game posts (post_game plan which s)
 
   -- a ball that has drained asks for no ball, and tells no scores
-  pub drain-step : (s : Machine) → step_game plan BallDrain s ≡ all_do (post_game plan) (step_now plan BallDrain s).posts (do_move plan (Stepped BallDrain) s)
+  pub drain-step : (s : Machine) → step_game plan BallDrain s
+      ≡ all_do (post_game plan) (step_now plan BallDrain s).posts (do_move plan (Stepped BallDrain) s)
   drain-step s = search (rules, drain-requests, drain-finals)
 
   pub drain-game : (s : Machine) → (step_game plan BallDrain s).game ≡ (step_now plan BallDrain s).game
-  drain-game s = ap (λ (t : Machine). t.game) (drain-step s) ∙ posts-game (step_now plan BallDrain s).posts (do_move plan (Stepped BallDrain) s)
+  drain-game s = ap (λ (t : Machine). t.game) (drain-step s)
+      ∙ posts-game (step_now plan BallDrain s).posts (do_move plan (Stepped BallDrain) s)
 
   -- if one ball is left in play, nothing is posted
-  pub last-posts : (s : Machine) → (in_play (step_game plan BallDrain s).game == 1) ≡ true → (step_now plan BallDrain s).posts ≡ []
+  pub last-posts : (s : Machine) → (in_play (step_game plan BallDrain s).game == 1) ≡ true
+      → (step_now plan BallDrain s).posts ≡ []
   last-posts s one = search (rules, tested-left, drain-game)

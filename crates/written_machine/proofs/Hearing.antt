@@ -1,6 +1,7 @@
 -- Whether a mode may be heard, read off the lines that were written and the events that wait.
-use Rattle.std.proofs.Common.{◌≡◌, ℕ, ◌<◌, ◌⊎◌, inl, inr, Bool, true, false, ◌==◌, cond, List, [], ◌∷◌, ◌++◌, length, refl, ap, sym, subst, rules}
-use Rattle.std.{specs.List.AllByRecursion, proofs.lemmas.List.Elements.All-from_recursion}
+use Rattle.std.proofs.Common.{◌≡◌, ℕ, ◌<◌, ◌⊎◌, inl, inr, Bool, true, false, ◌==◌, cond, List, [], ◌∷◌, ◌++◌, length}
+use Rattle.std.proofs.{Common.{refl, ap, sym, subst, rules}, lemmas.List.Elements.All-from_recursion}
+use Rattle.std.specs.List.{AllByRecursion}
 use Rattle.plan_tables.{specs.{PlanView.{PlanView, mode_event, work_of}, Valid.IsValid}, proofs.Worked.work_found}
 use Rattle.plan_tables.specs.declared.entries.{ModeId.ModeId, Owner.Owner, Work.{Work, TheVariants.{Nothing, Mode}}}
 use Rattle.plan_tables.specs.declared.entries.ModeEvent.{ModeEvent, TheVariants.{WillStart, Started, Stopped}}
@@ -54,19 +55,23 @@ abbrev pub IsFine : ModeId → Bool → List Said → Type 0
 IsFine m on [] = Unit {0}
 IsFine m on (x ∷ xs) = (x.owner ≡ owners.Mode m → on ≡ true) × IsFine m (heard_after m on x.work) xs
 
-pub written-push : (plan : PlanView) (ls : List Line) (l : Line) → all_written plan (ls ++ l ∷ []) ≡ all_written plan ls ++ written plan l ∷ []
+pub written-push : (plan : PlanView) (ls : List Line) (l : Line)
+    → all_written plan (ls ++ l ∷ []) ≡ all_written plan ls ++ written plan l ∷ []
 written-push plan [] l = refl
 written-push plan (k ∷ ls) l = ap (λ (xs : List Said). written plan k ∷ xs) (written-push plan ls l)
 
-pub awaited-push : (plan : PlanView) (ps : List Posted) (p : Posted) → all_awaited plan (ps ++ p ∷ []) ≡ all_awaited plan ps ++ awaited plan p ∷ []
+pub awaited-push : (plan : PlanView) (ps : List Posted) (p : Posted)
+    → all_awaited plan (ps ++ p ∷ []) ≡ all_awaited plan ps ++ awaited plan p ∷ []
 awaited-push plan [] p = refl
 awaited-push plan (q ∷ ps) p = ap (λ (xs : List Said). awaited plan q ∷ xs) (awaited-push plan ps p)
 
-pub heard-push : (m : ModeId) (on : Bool) (xs : List Said) (x : Said) → heard m on (xs ++ x ∷ []) ≡ heard_after m (heard m on xs) x.work
+pub heard-push : (m : ModeId) (on : Bool) (xs : List Said) (x : Said)
+    → heard m on (xs ++ x ∷ []) ≡ heard_after m (heard m on xs) x.work
 heard-push m on [] x = refl
 heard-push m on (y ∷ xs) x = heard-push m (heard_after m on y.work) xs x
 
-pub fine-push : (m : ModeId) (on : Bool) (xs : List Said) (x : Said) → IsFine m on xs → (x.owner ≡ owners.Mode m → heard m on xs ≡ true) → IsFine m on (xs ++ x ∷ [])
+pub fine-push : (m : ModeId) (on : Bool) (xs : List Said) (x : Said) → IsFine m on xs
+    → (x.owner ≡ owners.Mode m → heard m on xs ≡ true) → IsFine m on (xs ++ x ∷ [])
 fine-push m on [] x h k = (k, tt)
 fine-push m on (y ∷ xs) x h k = (h.0, fine-push m (heard_after m on y.work) xs x h.1 k)
 
@@ -77,9 +82,12 @@ numbered n = record { 0 = n }
 
 module _ (plan : PlanView) (valid : IsValid plan) (m : ModeId) (within : m.0 < length plan.modes) where
   -- the mode may be heard if a line of it is
-  fine-at : (on : Bool) (before : List Line) (line : Line) (after : List Line) → IsFine m on (all_written plan (before ++ line ∷ after)) → line.owner ≡ owners.Mode m → heard m on (all_written plan before) ≡ true
+  fine-at : (on : Bool) (before : List Line) (line : Line) (after : List Line)
+      → IsFine m on (all_written plan (before ++ line ∷ after)) → line.owner ≡ owners.Mode m
+      → heard m on (all_written plan before) ≡ true
   fine-at on [] line after h is = h.0 is
-  fine-at on (l ∷ before) line after h is = fine-at (heard_after m on (work_written plan l.happening)) before line after h.1 is
+  fine-at on (l ∷ before) line after h is =
+      fine-at (heard_after m on (work_written plan l.happening)) before line after h.1 is
 
   abbrev event_in : Work → ModeEvent
   event_in (Mode k which) = which
@@ -89,21 +97,32 @@ module _ (plan : PlanView) (valid : IsValid plan) (m : ModeId) (within : m.0 < l
   number_in (Mode k which) = k.0
   number_in _ = 0
 
-  work-heard : (on : Bool) (w : Work) → heard_after m on w ≡ true → (w ≡ Mode m Started) ⊎ ((on ≡ true) × (w ≡ Mode m Stopped → ⊥))
+  work-heard : (on : Bool) (w : Work) → heard_after m on w ≡ true
+      → (w ≡ Mode m Started) ⊎ ((on ≡ true) × (w ≡ Mode m Stopped → ⊥))
   work-heard on w h = search rules
 
   started_line : (h : Happening) → work_written plan h ≡ Mode m Started → h ≡ lines.Event (mode_event plan m Started)
   started_line h is = search (rules, work_found)
 
   stopped_work : (h : Happening) → h ≡ lines.Event (mode_event plan m Stopped) → work_written plan h ≡ Mode m Stopped
-  stopped_work h is = subst (λ (g : Happening). work_written plan g ≡ Mode m Stopped) (sym is) (valid.works m Stopped within)
+  stopped_work h is = subst (λ (g : Happening). work_written plan g ≡ Mode m Stopped) (sym is)
+      (valid.works m Stopped within)
 
   -- a mode that may be heard has started, or it could be heard at the beginning and has not stopped
-  since : (on : Bool) (ls : List Line) → heard m on (all_written plan ls) ≡ true → HasStarted plan m ls ⊎ ((on ≡ true) × AllByRecursion (λ l. ¬ (IsLineOf plan m Stopped l)) ls)
+  since : (on : Bool) (ls : List Line) → heard m on (all_written plan ls) ≡ true
+      → HasStarted plan m ls ⊎ ((on ≡ true) × AllByRecursion (λ l. ¬ (IsLineOf plan m Stopped l)) ls)
   since on [] h = inr (h, tt)
   since on (l ∷ ls) h =
       elim (since (heard_after m on (work_written plan l.happening)) ls h) [
-        | inl there ↦ inl (record { early = l ∷ there.early; start = there.start; late = there.late; parts = ap (λ (xs : List Line). l ∷ xs) there.parts; starts = there.starts; no_stop = there.no_stop })
+        | inl there ↦ inl
+            (record {
+              early = l ∷ there.early;
+              start = there.start;
+              late = there.late;
+              parts = ap (λ (xs : List Line). l ∷ xs) there.parts;
+              starts = there.starts;
+              no_stop = there.no_stop;
+            })
         | inr rest ↦
             elim (work-heard on (work_written plan l.happening) rest.0) [
               | inl is ↦
@@ -123,5 +142,7 @@ module _ (plan : PlanView) (valid : IsValid plan) (m : ModeId) (within : m.0 < l
   heard-started trace h = search (rules, since)
 
   -- in a fine trace a line of a mode comes only after it has started
-  pub fine-silent : (trace : List Line) → IsFine m false (all_written plan trace) → (before : List Line) (line : Line) (after : List Line) → trace ≡ before ++ line ∷ after → line.owner ≡ owners.Mode m → HasStarted plan m before
+  pub fine-silent : (trace : List Line) → IsFine m false (all_written plan trace)
+      → (before : List Line) (line : Line) (after : List Line) → trace ≡ before ++ line ∷ after
+      → line.owner ≡ owners.Mode m → HasStarted plan m before
   fine-silent trace fine before line after is owner = search (rules, heard-started, fine-at)

@@ -25,12 +25,16 @@ stopped-inactive : (settings : Settings) (now : ℕ) (world : World) (state : De
     → IsInactive (device_step settings calls.ModeStop now world state).0
 stopped-inactive settings now world state shape = search rules
 
-pub stopped-off : (settings : Settings) (now : ℕ) (world : World) (state : DeviceState) → HasShape settings state → is_on (device_step settings calls.ModeStop now world state).0 ≡ false
-stopped-off settings now world state shape = inactive-off (device_step settings calls.ModeStop now world state).0 (stopped-inactive settings now world state shape)
+pub stopped-off : (settings : Settings) (now : ℕ) (world : World) (state : DeviceState) → HasShape settings state
+    → is_on (device_step settings calls.ModeStop now world state).0 ≡ false
+stopped-off settings now world state shape =
+    inactive-off (device_step settings calls.ModeStop now world state).0
+    (stopped-inactive settings now world state shape)
 
 -- ---- a multiball that is not running does not end
 
 -- so nothing happens when it is told to
-pub end-still : (plan : PlanView) (r : RowId) (s : Machine) → is_multiball (row_at plan r).settings ≡ true → is_on (device_at s r) ≡ false
+pub end-still : (plan : PlanView) (r : RowId) (s : Machine) → is_multiball (row_at plan r).settings ≡ true
+    → is_on (device_at s r) ≡ false
     → call_device plan (calls.Act acts.End) r s ≡ s
 end-still plan r s is off = search (rules, set-get_or)

@@ -1,6 +1,6 @@
 -- The steps that the controller takes are event steps, and more of them than are needed change nothing.
-use Rattle.std.proofs.Common.{rules, ◌≡◌, ℕ, zero, suc, ◌+◌, ◌-◌, ◌≤◌, List, [], ◌∷◌, ◌++◌, length, refl, ap, sym, ◌∙◌, subst, inl, inr, ◌⊎◌, arith, append_assoc}
-use Rattle.std.proofs.lemmas.Bool.{cases_lt}
+use Rattle.std.proofs.Common.{rules, ◌≡◌, ℕ, zero, suc, ◌+◌, ◌-◌, ◌≤◌, List, [], ◌∷◌, ◌++◌, length, refl, ap, sym, ◌∙◌}
+use Rattle.std.proofs.{Common.{subst, inl, inr, ◌⊎◌, arith, append_assoc}, lemmas.Bool.cases_lt}
 use Rattle.plan_tables.specs.PlanView.{PlanView}
 use Rattle.written_machine.specs.{declared.line.Line.Line, Machine.{Machine, initial}}
 use Rattle.event_queue.specs.{declared.queue.Posted.Posted, PlanOrder.by_priority}
@@ -18,11 +18,15 @@ module _ (plan : PlanView) where
   plan_steps-idle (suc n) s empty = ap (plan_steps plan n) (plan_step-idle s empty) ∙ plan_steps-idle n s empty
 
   -- if one waits, its step is taken in plan order
-  pub plan_step-taken : (s : Machine) (first : Posted) (rest : List Posted) → s.waiting ≡ first ∷ rest → plan_step plan s ≡ after_event plan first rest (by_priority plan (handlers_in plan (before_handlers plan first rest s) first.event)) s
+  pub plan_step-taken : (s : Machine) (first : Posted) (rest : List Posted) → s.waiting ≡ first ∷ rest
+      → plan_step plan s ≡ after_event plan first rest
+      (by_priority plan (handlers_in plan (before_handlers plan first rest s) first.event)) s
   plan_step-taken s first rest waits = ap (λ (ps : List Posted). plan_step_from plan ps s) waits
 
-  pub plan_step-is_step : (s : Machine) (first : Posted) (rest : List Posted) → s.waiting ≡ first ∷ rest → EventStep plan s (plan_step plan s)
-  plan_step-is_step s first rest waits = subst (EventStep plan s) (sym (plan_step-taken s first rest waits)) (plan_order-step plan s first rest waits)
+  pub plan_step-is_step : (s : Machine) (first : Posted) (rest : List Posted) → s.waiting ≡ first ∷ rest
+      → EventStep plan s (plan_step plan s)
+  plan_step-is_step s first rest waits = subst (EventStep plan s) (sym (plan_step-taken s first rest waits))
+      (plan_order-step plan s first rest waits)
 
   -- So many steps in plan order are event steps: so many of them, or fewer and then no event waits.
   pub record IsSteps (n : ℕ) (s t : Machine) : Type 0 where
@@ -31,7 +35,8 @@ module _ (plan : PlanView) where
     pub steps : EventSteps plan count s t
     pub done : (t.waiting ≡ []) ⊎ (count ≡ n)
 
-  cases_waiting : (s : Machine) (ps : List Posted) → s.waiting ≡ ps → (s.waiting ≡ []) ⊎ ((first : Posted) × (rest : List Posted) × (s.waiting ≡ first ∷ rest))
+  cases_waiting : (s : Machine) (ps : List Posted) → s.waiting ≡ ps
+      → (s.waiting ≡ []) ⊎ ((first : Posted) × (rest : List Posted) × (s.waiting ≡ first ∷ rest))
   cases_waiting s [] e = inl e
   cases_waiting s (p ∷ ps) e = inr (p, ps, e)
 
@@ -72,25 +77,34 @@ module _ (plan : PlanView) where
   plan_steps-more n s = plan_steps-add n 1 s
 
   -- once no event waits, more steps change nothing
-  pub plan_steps-enough : (n m : ℕ) (s : Machine) → n ≤ m → (plan_steps plan n s).waiting ≡ [] → plan_steps plan m s ≡ plan_steps plan n s
+  pub plan_steps-enough : (n m : ℕ) (s : Machine) → n ≤ m → (plan_steps plan n s).waiting ≡ []
+      → plan_steps plan m s ≡ plan_steps plan n s
   plan_steps-enough n m s l empty =
       let e : m ≡ n + (m - n) = omega arith in
-      ap (λ (k : ℕ). plan_steps plan k s) e ∙ (plan_steps-add n (m - n) s ∙ plan_steps-idle (m - n) (plan_steps plan n s) empty)
+      ap (λ (k : ℕ). plan_steps plan k s) e
+      ∙ (plan_steps-add n (m - n) s ∙ plan_steps-idle (m - n) (plan_steps plan n s) empty)
 
   -- event steps one after another
-  pub steps-join : (n m : ℕ) (s mid t : Machine) → EventSteps plan n s mid → EventSteps plan m mid t → EventSteps plan (n + m) s t
+  pub steps-join : (n m : ℕ) (s mid t : Machine) → EventSteps plan n s mid → EventSteps plan m mid t
+      → EventSteps plan (n + m) s t
   steps-join zero m s mid t a b = search rules
   steps-join (suc n) m s mid t (next, step, more) b =
       let e : suc n + m ≡ suc (n + m) = omega arith in
       subst (λ (k : ℕ). EventSteps plan k s t) (sym e) (next, step, steps-join n m next mid t more b)
 
   -- one stimulus more at the end of a run after which no event waits
-  pub IsRun-push : (stimuli : List (Stimulus × ℕ)) (s : Machine) (trace : List Line) (m : Machine) (stimulus : Stimulus) (n : ℕ) (t : Machine) → IsRun plan stimuli s trace m → m.waiting ≡ [] → IsAllowed plan m stimulus → EventSteps plan n (begin plan stimulus m) t → IsRun plan (stimuli ++ (stimulus, n) ∷ []) s (trace ++ t.lines) t
+  pub IsRun-push : (stimuli : List (Stimulus × ℕ)) (s : Machine) (trace : List Line) (m : Machine) (stimulus : Stimulus)
+      (n : ℕ) (t : Machine) → IsRun plan stimuli s trace m → m.waiting ≡ [] → IsAllowed plan m stimulus
+      → EventSteps plan n (begin plan stimulus m) t → IsRun plan (stimuli ++ (stimulus, n) ∷ []) s (trace ++ t.lines) t
   IsRun-push [] s trace m stimulus n t (none, is) idle allowed steps = search rules
-  IsRun-push ((first, k) ∷ more) s trace m stimulus n t (empty, first_allowed, (mid, rest, went, run, lines)) idle allowed steps = search (rules, steps, append_assoc, IsRun-push more mid rest m stimulus n t run idle allowed steps)
+  IsRun-push ((first, k) ∷ more) s trace m stimulus n t (empty, first_allowed, (mid, rest, went, run, lines)) idle
+      allowed steps =
+      search (rules, steps, append_assoc, IsRun-push more mid rest m stimulus n t run idle allowed steps)
 
 -- After a run of a good plan at whose end no event waits, and a stimulus that may come next:
-module _ (c : CheckedView) (good : CascadesEnd c) (stimuli : List (Stimulus × ℕ)) (trace : List Line) (s : Machine) (run : IsRun c.plan stimuli (initial c.plan) trace s) (empty : s.waiting ≡ []) (stimulus : Stimulus) (allowed : IsAllowed c.plan s stimulus) where
+module _ (c : CheckedView) (good : CascadesEnd c) (stimuli : List (Stimulus × ℕ)) (trace : List Line) (s : Machine)
+    (run : IsRun c.plan stimuli (initial c.plan) trace s) (empty : s.waiting ≡ []) (stimulus : Stimulus)
+    (allowed : IsAllowed c.plan s stimulus) where
   abbrev pub begun : Machine
   begun = begin c.plan stimulus s
 
@@ -101,8 +115,10 @@ module _ (c : CheckedView) (good : CascadesEnd c) (stimuli : List (Stimulus × �
   pub settled-steps : (n : ℕ) × EventSteps c.plan n begun settled
   settled-steps = plan_steps-event_steps c.plan c.bound begun
 
-  pub settled-run : IsRun c.plan (stimuli ++ (stimulus, settled-steps.0) ∷ []) (initial c.plan) (trace ++ settled.lines) settled
-  settled-run = IsRun-push c.plan stimuli (initial c.plan) trace s stimulus settled-steps.0 settled run empty allowed settled-steps.1
+  pub settled-run : IsRun c.plan (stimuli ++ (stimulus, settled-steps.0) ∷ []) (initial c.plan) (trace ++ settled.lines)
+      settled
+  settled-run = IsRun-push c.plan stimuli (initial c.plan) trace s stimulus settled-steps.0 settled run empty allowed
+      settled-steps.1
 
   -- no event waits any more
   pub settled-idle : settled.waiting ≡ []
@@ -116,7 +132,8 @@ module _ (c : CheckedView) (good : CascadesEnd c) (stimuli : List (Stimulus × �
               | inr there ↦
                   let next = plan_step c.plan settled in
                   let step = plan_step-is_step c.plan settled there.0 there.1 there.2 in
-                  let ends = good.ends stimuli trace s run empty stimulus allowed (is.count + 1) next (steps-join c.plan is.count 1 begun settled next is.steps (next, step, refl)) in
+                  let ends = good.ends stimuli trace s run empty stimulus allowed (is.count + 1) next
+                  (steps-join c.plan is.count 1 begun settled next is.steps (next, step, refl)) in
                   absurd (omega (arith, all, ends))
             ]
       ]
@@ -126,7 +143,8 @@ module _ (c : CheckedView) (good : CascadesEnd c) (stimuli : List (Stimulus × �
   settled-same n idle = search (rules, cases_lt, plan_steps-enough, settled-idle)
 
   -- on the way there are never more lines and waiting events than the bound
-  pub settling-within : (n : ℕ) → length (plan_steps c.plan n begun).lines + length (plan_steps c.plan n begun).waiting ≤ c.bound
+  pub settling-within : (n : ℕ) → length (plan_steps c.plan n begun).lines + length (plan_steps c.plan n begun).waiting
+      ≤ c.bound
   settling-within n =
       let there = plan_steps c.plan n begun in
       let is = plan_steps-are_steps c.plan n begun in

@@ -14,4 +14,4 @@ pub record IsAccepted (c : CheckedView) : Type 0 where
   pub own : ActsAreOwn c.plan
   pub limits : ActionsKeepLimits c.plan
   pub bookings : BookingsAreRight c.plan
-  pub verified : IsVerified c.plan c.weights c.bound
+  pub weights_fit : IsVerified c.plan c.weights c.bound

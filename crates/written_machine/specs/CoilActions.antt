@@ -1,7 +1,8 @@
 -- What the actions of an accepted plan ask of coils.
 use Rattle.std.specs.List.{All}
 use Rattle.plan_tables.specs.{PlanView.PlanView, declared.entries.Action.Action}
-use Rattle.plan_tables.specs.declared.entries.Action.TheVariants.{Post, Pulse, Enable, Disable, Change as ChangeVariable, Enter, Leave, Lose, Arrive, Request, AddBalls}
+use Rattle.plan_tables.specs.declared.entries.Action.TheVariants.{Post, Pulse, Enable, Disable, Request, AddBalls}
+use Rattle.plan_tables.specs.declared.entries.Action.TheVariants.{Change as ChangeVariable, Enter, Leave, Lose, Arrive}
 use Rattle.coil_guard.specs.declared.command.Command.TheVariants as commands
 use Rattle.coil_guard.specs.{Limits.IsWithin, Asked.limits_of}
 

@@ -1,6 +1,6 @@
 -- What a trace says of balls: what the ledger has booked, and which ball switches count as holding one.
-use Rattle.std.specs.Prelude.{◌≡◌, ℕ, ◌+◌, ◌==◌, Bool, false, if◌then◌else◌, nat_le, nat_lt, Option, None, Some, List, [], ◌∷◌, ◌++◌, length, filter}
-use Rattle.std.specs.List.{flat_map, list_all, list_any, last_or}
+use Rattle.std.specs.Prelude.{◌≡◌, ℕ, ◌+◌, ◌==◌, Bool, false, if◌then◌else◌, nat_le, nat_lt, Option, None, Some, List}
+use Rattle.std.specs.{Prelude.{[], ◌∷◌, ◌++◌, length, filter}, List.{flat_map, list_all, list_any, last_or}}
 use Rattle.plan_tables.specs.PlanView.{PlanView, listeners_of, switch_at}
 use Rattle.plan_tables.specs.declared.{devices.{BallSettings.BallSettings, RowId.RowId}, entries.SwitchId.SwitchId}
 use Rattle.cascade_rank.specs.Cost.{switches_of}
@@ -25,13 +25,14 @@ bookings trace = flat_map (λ l. booked_at l.happening) trace
 abbrev pub AreOriginsRight : List Line → Type 0
 AreOriginsRight trace =
     (before : List Line) (line : Line) (after : List Line) (r : RowId) (origin : Origin) (counts : BallCounts)
-    → trace ≡ before ++ line ∷ after → line.happening ≡ lines.Balls (Entered r origin) counts → origin ≡ origin_after (bookings before) r
+    → trace ≡ before ++ line ∷ after → line.happening ≡ lines.Balls (Entered r origin) counts
+    → origin ≡ origin_after (bookings before) r
 
 -- a ledger of the plan that has booked just this
 pub record IsLedgerOf (plan : PlanView) (bs : List Booking) (l : Ledger) : Type 0 where
   pub rows : length l.counted ≡ length plan.rows
   pub targets : length l.to_devices ≡ length plan.rows
-  pub booked : HasBooked bs l
+  pub history : HasBooked bs l
 
 -- Wherever a line tells of a booking, its counts are those of a ledger that has booked just what the trace has up to
 -- it, this booking with it.
@@ -55,7 +56,8 @@ is_late quick moment later = if quick then nat_le moment later.at else nat_lt mo
 -- of changes in their order those that no later one undoes before they count
 abbrev pub not_undone : BallSettings → Bool → List LevelChange → List LevelChange
 not_undone d quick [] = []
-not_undone d quick (c ∷ later) = if list_all (is_late quick (counts_from d c)) later then c ∷ not_undone d quick later else not_undone d quick later
+not_undone d quick (c ∷ later) = if list_all (is_late quick (counts_from d c)) later then c
+    ∷ not_undone d quick later else not_undone d quick later
 
 abbrev pub level_after : Option LevelChange → Bool
 level_after None = false

@@ -9,11 +9,12 @@ use Rattle.device_objects.specs.declared.device.Call.TheVariants as calls
 use Rattle.mode_stack.specs.{ModeStep.{entered, ended}, Modes.{mode_state, running_of}}
 use Rattle.written_machine.specs.declared.line.Happening.TheVariants as lines
 use Rattle.event_queue.specs.{declared.queue.Posted.Posted, Handlers.{handlers, IsHandlerOrder}}
-use Rattle.written_machine.specs.Machine.{Machine, write, post, set_mode, all_do, stop_mode, release_ball_end, call_devices, release_coils, do_game, do_handler}
+use Rattle.written_machine.specs.Machine.{Machine, write, post, set_mode, all_do, stop_mode, release_ball_end}
+use Rattle.written_machine.specs.Machine.{call_devices, release_coils, do_game, do_handler}
 
 -- the first waiting event is taken, and its line is written
-abbrev pub taken : Posted → List Posted → Machine → Machine
-taken first rest s = write first.owner (lines.Event first.event) (record s { waiting = rest })
+abbrev pub take_event : Posted → List Posted → Machine → Machine
+take_event first rest s = write first.owner (lines.Event first.event) (record s { waiting = rest })
 
 -- ---- what the machine itself does at an event
 
@@ -33,7 +34,7 @@ abbrev pub is_kept : Work → Machine → Bool
 is_kept Nothing s = false
 is_kept (Mode m WillStart) s = false
 is_kept (Mode m Starting) s = false
-is_kept (Mode m Started) s = (mode_state s.modes m).kept
+is_kept (Mode m Started) s = (mode_state s.modes m).keeps_stop
 is_kept (Mode m Stopping) s = false
 is_kept (Mode m Stopped) s = false
 is_kept (Game which) s = false
@@ -42,13 +43,15 @@ is_kept (Game which) s = false
 -- event, its devices stop, the coils that it holds are disabled, and then it ends. At `started` it is told to stop, if
 -- a stop was kept. At `stopped` it lets go of the end of the ball. The game goes on as its event says.
 abbrev pub do_after : PlanView → Bool → Work → Machine → Machine
-do_after plan kept Nothing s = s
-do_after plan kept (Mode m WillStart) s = post owners.Machine (mode_event plan m Starting) s
-do_after plan kept (Mode m Starting) s = post owners.Machine (mode_event plan m Started) s
-do_after plan kept (Mode m Started) s = if kept then stop_mode plan m s else s
-do_after plan kept (Mode m Stopping) s = post owners.Machine (mode_event plan m Stopped) (set_mode m (ended (mode_state s.modes m)) (release_coils plan (owners.Mode m) (call_devices plan calls.ModeStop m s)))
-do_after plan kept (Mode m Stopped) s = release_ball_end plan m s
-do_after plan kept (Game which) s = do_game plan which s
+do_after plan keeps_stop Nothing s = s
+do_after plan keeps_stop (Mode m WillStart) s = post owners.Machine (mode_event plan m Starting) s
+do_after plan keeps_stop (Mode m Starting) s = post owners.Machine (mode_event plan m Started) s
+do_after plan keeps_stop (Mode m Started) s = if keeps_stop then stop_mode plan m s else s
+do_after plan keeps_stop (Mode m Stopping) s = post owners.Machine (mode_event plan m Stopped)
+    (set_mode m (ended (mode_state s.modes m))
+    (release_coils plan (owners.Mode m) (call_devices plan calls.ModeStop m s)))
+do_after plan keeps_stop (Mode m Stopped) s = release_ball_end plan m s
+do_after plan keeps_stop (Game which) s = do_game plan which s
 
 abbrev pub work_before : PlanView → EventId → Machine → Machine
 work_before plan e s = do_before plan (work_of plan e) s
@@ -61,11 +64,12 @@ work_after plan e before s = do_after plan (is_kept (work_of plan e) before) (wo
 
 -- the state before the handlers of the event run, in which they are chosen
 abbrev pub before_handlers : PlanView → Posted → List Posted → Machine → Machine
-before_handlers plan first rest s = work_before plan first.event (taken first rest s)
+before_handlers plan first rest s = work_before plan first.event (take_event first rest s)
 
 -- the event is taken, the work before its handlers is done, they run in this order, and the work after them is done
 abbrev pub after_event : PlanView → Posted → List Posted → List BindingId → Machine → Machine
-after_event plan first rest order s = work_after plan first.event s (all_do (do_handler plan) order (before_handlers plan first rest s))
+after_event plan first rest order s = work_after plan first.event s
+    (all_do (do_handler plan) order (before_handlers plan first rest s))
 
 -- the handlers of an event in a state of the machine: those of the machine, and of the modes that run
 abbrev pub handlers_in : PlanView → Machine → EventId → List BindingId

@@ -3,7 +3,8 @@
 use Rattle.std.specs.{Prelude.◌≡◌, List.All}
 use Rattle.plan_tables.specs.PlanView.{PlanSwitch, PlanView, work_of}
 use Rattle.plan_tables.specs.declared.entries.{EventId.EventId, Action.Action, GameEvent.TheVariants.SwStart}
-use Rattle.plan_tables.specs.declared.entries.Action.TheVariants.{Post, Pulse, Enable, Disable, Change as ChangeVariable, Enter, Leave, Lose, Arrive, Request, AddBalls}
+use Rattle.plan_tables.specs.declared.entries.Action.TheVariants.{Post, Pulse, Enable, Disable, Request, AddBalls}
+use Rattle.plan_tables.specs.declared.entries.Action.TheVariants.{Change as ChangeVariable, Enter, Leave, Lose, Arrive}
 use Rattle.plan_tables.specs.declared.entries.Work.{Work, TheVariants.{Nothing, Mode, Game}}
 
 -- no work, or that of the start button

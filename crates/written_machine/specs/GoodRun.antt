@@ -23,11 +23,12 @@ use Rattle.switch_core.specs.{Switches.active_at, Calls.raw_changes}
 use Rattle.cascade_rank.specs.{Cost.price, Events.weight_of}
 use Rattle.event_queue.specs.declared.queue.Posted.{Posted}
 use Rattle.written_machine.specs.Machine.{Machine, call_device_by, device_at, is_device_away, tell_nobody, told_device}
-use Rattle.written_machine.specs.{EventStep.EventStep, StimulusCost.{cost_of_stimulus, weigh}, CheckedView.CheckedView}
+use Rattle.written_machine.specs.{EventStep.EventStep, Counted.is_counted}
+use Rattle.written_machine.specs.{StimulusCost.{cost_of_stimulus, weigh}, SwitchLines.{changes_of, LeadTo}}
+use Rattle.written_machine.specs.{CheckedView.CheckedView, SwitchCalls.switch_calls}
 use Rattle.written_machine.specs.Run.{device, source_due, IsNoAlarmDueBy, InEveryRun, InEveryCascade}
-use Rattle.written_machine.specs.{SwitchCalls.switch_calls, Silent.{HasStarted, IsSilent}}
-use Rattle.written_machine.specs.{Sent.{sendings, AreSkippedIdle}, SwitchLines.{changes_of, LeadTo}}
-use Rattle.written_machine.specs.Counted.{bookings, IsLedgerOf, AreOriginsRight, AreCountsRight, ball_switches, is_counted}
+use Rattle.written_machine.specs.{Silent.{HasStarted, IsSilent}, Sent.{sendings, AreSkippedIdle}}
+use Rattle.written_machine.specs.Counted.{bookings, IsLedgerOf, AreOriginsRight, AreCountsRight, ball_switches}
 use Rattle.coil_guard.specs.{Limits.{limits_at, IsWithin}, SentCommands.{is_held_for, IsOnThroughout}, Asked.limits_of}
 
 -- The cascade of each stimulus ends within the certificate's bound.
@@ -41,7 +42,8 @@ pub record CascadesEnd (c : CheckedView) : Type 0 where
   pub ends : InEveryCascade c.plan (λ s stimulus n t. n ≤ c.bound)
   -- After each event step the lines since the stimulus and the weights of the waiting events are at most its cost.
   pub cost : InEveryCascade c.plan (λ s stimulus n t.
-      length t.lines + weigh (weight_of c.weights) t.waiting ≤ price (weight_of c.weights) (cost_of_stimulus c.plan s stimulus))
+      length t.lines + weigh (weight_of c.weights) t.waiting
+      ≤ price (weight_of c.weights) (cost_of_stimulus c.plan s stimulus))
 
 -- No coil is driven past its limits or held without permission.
 pub record CoilsStayWithinLimits (c : CheckedView) : Type 0 where
@@ -50,9 +52,10 @@ pub record CoilsStayWithinLimits (c : CheckedView) : Type 0 where
   -- A coil that may not be held is on at no more moments in a row than its greatest pulse has milliseconds.
   pub stretches : InEveryRun c.plan (λ stimuli trace s.
       (coil : CoilId) → (limits_at (limits_of c.plan) coil).may_hold ≡ false →
-      (first count : ℕ) → IsOnThroughout (sendings trace) coil first count → count ≤ (limits_at (limits_of c.plan) coil).max_pulse_ms)
+      (first count : ℕ) → IsOnThroughout (sendings trace) coil first count
+      → count ≤ (limits_at (limits_of c.plan) coil).max_pulse_ms)
   -- No command was skipped for a limit, or for want of permission.
-  pub skipped : InEveryRun c.plan (λ stimuli trace s. AreSkippedIdle trace)
+  pub skips : InEveryRun c.plan (λ stimuli trace s. AreSkippedIdle trace)
 
 -- A stopped mode causes nothing.
 pub record StoppedModesAreSilent (c : CheckedView) : Type 0 where
@@ -63,7 +66,7 @@ pub record StoppedModesAreSilent (c : CheckedView) : Type 0 where
       (m : ModeId) (r : RowId) (due : ℕ) → r.0 < length c.plan.rows → (row_at c.plan r).owner ≡ owners.Mode m →
       source_due s (device r) ≡ Some due → HasStarted c.plan m trace)
   -- A stopped mode holds no coil: if a mode holds a coil, it has started, and has not stopped since.
-  pub released : InEveryRun c.plan (λ stimuli trace s.
+  pub release : InEveryRun c.plan (λ stimuli trace s.
       (m : ModeId) (coil : CoilId) → m.0 < length c.plan.modes →
       is_held_for (sendings trace) (owners.Mode m) coil ≡ true → HasStarted c.plan m trace)
 
@@ -73,19 +76,21 @@ pub record BallsAreAccountedFor (c : CheckedView) : Type 0 where
   pub somewhere : InEveryRun c.plan (λ stimuli trace s. IsBalanced s.ledger)
   -- No booking is left out: the ledger may make each that comes. When a ball enters a device, fewer than 2^32 are
   -- known; when one leaves a device, one is counted in it; when one arrives on the playfield, one was on its way.
-  pub kept : InEveryRun c.plan (λ stimuli trace s. s.bookings_left_out ≡ 0)
+  pub none_left_out : InEveryRun c.plan (λ stimuli trace s. s.bookings_left_out ≡ 0)
   -- At no moment are 2^32 balls known.
   pub few : InEveryRun c.plan (λ stimuli trace s. s.ledger.known < 2 ^ 32)
   -- No telling is lost: a device that is told something answers no list that tells another. So in every state the call
   -- comes to the same, whatever telling does there.
-  pub heard : (telling : Telling) (r : RowId) (s : Machine) → told_device c.plan telling s ≡ Some r → (tell : Telling → Machine → Machine) →
-      call_device_by c.plan tell (calls.Act (act_told telling)) r s ≡ call_device_by c.plan tell_nobody (calls.Act (act_told telling)) r s
+  pub tellings : (telling : Telling) (r : RowId) (s : Machine) → told_device c.plan telling s ≡ Some r
+      → (tell : Telling → Machine → Machine) →
+      call_device_by c.plan tell (calls.Act (act_told telling)) r s
+      ≡ call_device_by c.plan tell_nobody (calls.Act (act_told telling)) r s
   -- Each number of the ledger follows from what it has booked.
-  pub booked : InEveryRun c.plan (λ stimuli trace s. IsLedgerOf c.plan (bookings trace) s.ledger)
+  pub ledger_numbers : InEveryRun c.plan (λ stimuli trace s. IsLedgerOf c.plan (bookings trace) s.ledger)
   -- Where each ball came from that entered a device follows from what was booked before.
   pub origins : InEveryRun c.plan (λ stimuli trace s. AreOriginsRight trace)
   -- What a line says of all balls is what the ledger says once it has booked what the line tells.
-  pub told : InEveryRun c.plan (λ stimuli trace s. AreCountsRight c.plan trace)
+  pub line_counts : InEveryRun c.plan (λ stimuli trace s. AreCountsRight c.plan trace)
   -- When nothing is due at or before a moment, as many balls are in a device as it has ball switches at which one
   -- counts.
   pub counted : InEveryRun c.plan (λ stimuli trace s.
@@ -102,7 +107,8 @@ abbrev pub LevelsFollowRawChanges : PlanView → Type 0
 LevelsFollowRawChanges plan =
     InEveryRun plan (λ stimuli trace s.
     (at : ℕ) → s.moment ≤ at → IsNoAlarmDueBy s at → (n : SwitchId) → n.0 < length plan.switches →
-    active_at s.switches n ≡ accepted_level (switch_at plan n).kind at (raw_changes n (raw_at_rest (switch_at plan n).kind.contact) (switch_calls stimuli)))
+    active_at s.switches n ≡ accepted_level (switch_at plan n).kind at
+    (raw_changes n (raw_at_rest (switch_at plan n).kind.contact) (switch_calls stimuli)))
 
 -- Besides the headline: switches are read rightly, and lines have their moments.
 pub record SwitchesAreRead (c : CheckedView) : Type 0 where

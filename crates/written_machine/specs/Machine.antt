@@ -1,18 +1,23 @@
 -- The machine's state, and what each thing does to it.
-use Rattle.std.specs.Prelude.{ℕ, zero, suc, ◌==◌, ℤ, Bool, true, false, not, ◌&&◌, if◌then◌else◌, find, Option, Some, None, List, [], ◌∷◌, ◌++◌, length, map, slice_index_or, slice_set}
-use Rattle.std.specs.List.{range_with_len}
-use Rattle.plan_tables.specs.PlanView.{PlanView, act_of_listener, act_told, actions_at, binding_at, coil_numbers, feeders_of, first_trough, game_event, may_hold_ball_end, home_rows, list_of_row, listeners_of, mode_event, multiball_rows, no_row, posts_of, row_at, rows_of, save_rows, switch_at, target_of}
+use Rattle.std.specs.Prelude.{ℕ, zero, suc, ◌==◌, ℤ, Bool, true, false, not, ◌&&◌, if◌then◌else◌, find, Option, Some}
+use Rattle.std.specs.{Prelude.{None, List, [], ◌∷◌, ◌++◌, length, map, slice_index_or, slice_set}, List.range_with_len}
+use Rattle.plan_tables.specs.PlanView.{PlanView, act_of_listener, act_told, actions_at, binding_at, coil_numbers}
+use Rattle.plan_tables.specs.PlanView.{feeders_of, first_trough, game_event, may_hold_ball_end, home_rows, list_of_row}
+use Rattle.plan_tables.specs.PlanView.{listeners_of, mode_event, multiball_rows, no_row, posts_of, row_at, rows_of}
+use Rattle.plan_tables.specs.PlanView.{save_rows, switch_at, target_of}
 use Rattle.plan_tables.specs.declared.entries.{EventId.EventId, Listener.Listener}
 use Rattle.plan_tables.specs.declared.entries.{SwitchId.SwitchId, BindingId.BindingId}
 use Rattle.plan_tables.specs.declared.entries.{ListId.ListId, CoilId.CoilId, ModeId.ModeId, Binding.Binding}
 use Rattle.plan_tables.specs.declared.entries.{Owner.Owner, Action.Action, VariableId.VariableId}
 use Rattle.plan_tables.specs.declared.entries.Owner.TheVariants as owners
-use Rattle.plan_tables.specs.declared.entries.Action.TheVariants.{Post, Pulse, Enable, Disable, Change as ChangeVariable, Enter, Leave, Lose, Arrive, Request, AddBalls}
+use Rattle.plan_tables.specs.declared.entries.Action.TheVariants.{Post, Pulse, Enable, Disable, Request, AddBalls}
+use Rattle.plan_tables.specs.declared.entries.Action.TheVariants.{Change as ChangeVariable, Enter, Leave, Lose, Arrive}
 use Rattle.machine_settings.specs.declared.words.VariableAction.{VariableAction}
 use Rattle.plan_tables.specs.declared.entries.GameEvent.{GameEvent, TheVariants.{BallDrain, BallEnded}}
-use Rattle.player_game.specs.Players.{PlayersState, no_players, is_met, changed_to, after_change as players_after_change, score_of}
-use Rattle.player_game.specs.Choices.{is_drain}
-use Rattle.player_game.specs.GameStep.{GameState, GameStep, no_game, game_step, is_none, is_ball_on, in_play, missing, more_balls, held_if, released, ends_ball}
+use Rattle.player_game.specs.Players.{PlayersState, no_players, is_met, changed_to}
+use Rattle.player_game.specs.Players.{after_change as players_after_change, score_of}
+use Rattle.player_game.specs.{Choices.is_drain, GameStep.{more_balls, held_if, release, ends_ball}}
+use Rattle.player_game.specs.GameStep.{GameState, GameStep, no_game, game_step, is_none, is_ball_on, in_play, missing}
 use Rattle.plan_tables.specs.declared.entries.Target.{Target, TheVariants.{Run, Start, Stop, Act}}
 use Rattle.plan_tables.specs.declared.entries.ModeEvent.TheVariants.{WillStart, Stopping}
 use Rattle.plan_tables.specs.declared.devices.{RowId.RowId, Act.TheVariants.{Save, End}}
@@ -24,13 +29,13 @@ use Rattle.device_objects.specs.declared.state.DeviceState.TheVariants as states
 use Rattle.device_objects.specs.{BallDevice.is_away, DeviceStep.{device_step, first_state}}
 use Rattle.ball_devices.specs.declared.booking.Origin.{Origin, TheVariants.{Awaited, Found, New}}
 use Rattle.ball_devices.specs.Ledger.{Ledger, no_balls, counted_in, all_counted, all_in_transit, origin_of, total}
-use Rattle.ball_devices.specs.Bookings.{LedgerCall, after_call, booked, can_book}
+use Rattle.ball_devices.specs.Bookings.{LedgerCall, after_call, booking_of, can_book}
 use Rattle.ball_devices.specs.Bookings as calls_of_ledger
 use Rattle.switch_core.specs.declared.change.Change.{Change}
-use Rattle.switch_core.specs.Switches.{SwitchesView, all_idle, after_change, reported_by_change, accept, reported}
+use Rattle.switch_core.specs.Switches.{SwitchesView, all_idle, after_change, reported_by_change, accept, report_change}
 use Rattle.mode_stack.specs.declared.phase.{ModeState.ModeState, StopAnswer.StopAnswer}
 use Rattle.mode_stack.specs.declared.phase.StopAnswer.TheVariants as answers
-use Rattle.mode_stack.specs.{ModeStep.{starts, started, stopped, stop_answer}, Modes.{needs_game, mode_state}}
+use Rattle.mode_stack.specs.{ModeStep.{starts, after_start, after_stop, stop_answer}, Modes.{needs_game, mode_state}}
 use Rattle.mode_stack.specs.Modes as modes
 use Rattle.written_machine.specs.declared.line.{BallCounts.BallCounts, Line.Line, Happening.Happening}
 use Rattle.written_machine.specs.declared.line.Happening.TheVariants as lines
@@ -134,7 +139,8 @@ start_mode plan m s =
     let needs = needs_game plan m in
     let begins = starts needs (has_game s) old.phase in
     post_if begins (mode_event plan m WillStart)
-    (set_game (held_if (begins && may_hold_ball_end plan m) m s.game) (set_mode m (started needs (has_game s) old) s))
+    (set_game (held_if (begins && may_hold_ball_end plan m) m s.game)
+    (set_mode m (after_start needs (has_game s) old) s))
 
 -- whether a stop posts an event: if it is neither kept nor ignored
 abbrev pub is_post : StopAnswer → Bool
@@ -146,11 +152,11 @@ is_post answers.Ignored = false
 abbrev pub stop_mode : PlanView → ModeId → Machine → Machine
 stop_mode plan m s =
     let old = mode_state s.modes m in
-    post_if (is_post (stop_answer old.phase)) (mode_event plan m Stopping) (set_mode m (stopped old) s)
+    post_if (is_post (stop_answer old.phase)) (mode_event plan m Stopping) (set_mode m (after_stop old) s)
 
 -- a mode no longer holds the end of the ball
 abbrev pub drop_hold : ModeId → Machine → Machine
-drop_hold m s = set_game (released m s.game) s
+drop_hold m s = set_game (release m s.game) s
 
 -- A mode has stopped, and lets go of the end of the ball. If it was the last mode that held that, `ball_ended` is
 -- posted.
@@ -163,14 +169,15 @@ release_ball_end plan m s =
 -- ---- coils
 
 -- what the line says of a command that was asked for: that it was sent, or skipped
-abbrev pub told : Command → Answer → Happening
-told asked (Sent command) = lines.Coil command
-told asked Skipped = lines.Skip asked
+abbrev pub answer_happening : Command → Answer → Happening
+answer_happening request (Sent command) = lines.Coil command
+answer_happening request Skipped = lines.Skip request
 
 -- An owner asks for a command to a coil. It is sent or skipped, and either way there is a line.
 abbrev pub ask_coil : Owner → Command → Machine → Machine
 ask_coil owner command s =
-    write owner (told command (answer_asking command owner s.moment s.coils)) (set_coils (after_asking command owner s.moment s.coils) s)
+    write owner (answer_happening command (answer_asking command owner s.moment s.coils))
+    (set_coils (after_asking command owner s.moment s.coils) s)
 
 -- a coil that the owner holds is disabled
 abbrev pub release_coil : Owner → CoilId → Machine → Machine
@@ -208,7 +215,8 @@ leave_out s = record s { bookings_left_out = suc s.bookings_left_out }
 abbrev pub book : Owner → LedgerCall → Machine → Machine
 book owner call s =
     if can_book call s.ledger
-    then write owner (lines.Balls (booked call s.ledger) (counts_of (after_call call s.ledger))) (set_ledger (after_call call s.ledger) s)
+    then write owner (lines.Balls (booking_of call s.ledger) (counts_of (after_call call s.ledger)))
+    (set_ledger (after_call call s.ledger) s)
     else leave_out s
 
 -- `ball_drain` is posted if `drain` holds and the game is in phase Ball
@@ -276,16 +284,18 @@ abbrev pub device_at : Machine → RowId → DeviceState
 device_at s r = device_state s.devices r
 
 -- what the call of a device leads to: its next state, and the effect lists that it answers
-abbrev pub called : PlanView → Call → RowId → Machine → DeviceState × List ℕ
-called plan call r s = device_step (row_at plan r).settings call s.moment (world_of s) (device_at s r)
+abbrev pub call_row : PlanView → Call → RowId → Machine → DeviceState × List ℕ
+call_row plan call r s = device_step (row_at plan r).settings call s.moment (world_of s) (device_at s r)
 
 -- effect lists of a row run, one after another, for the row's owner
 abbrev pub do_answer_by : PlanView → (Telling → Machine → Machine) → RowId → List ℕ → Machine → Machine
-do_answer_by plan tell r lists s = all_do (λ k. do_list_by plan tell (row_at plan r).owner (list_of_row plan r k)) lists s
+do_answer_by plan tell r lists s = all_do (λ k. do_list_by plan tell (row_at plan r).owner (list_of_row plan r k)) lists
+    s
 
 -- A device is called: it goes on to its next state, and what it answers is done.
 abbrev pub call_device_by : PlanView → (Telling → Machine → Machine) → Call → RowId → Machine → Machine
-call_device_by plan tell call r s = do_answer_by plan tell r (called plan call r s).1 (set_device r (called plan call r s).0 s)
+call_device_by plan tell call r s = do_answer_by plan tell r (call_row plan call r s).1
+    (set_device r (call_row plan call r s).0 s)
 
 -- ---- what ball devices are told
 
@@ -389,11 +399,13 @@ is_active_save _ = false
 
 -- while a ball is on, the first ball save that is active
 abbrev pub first_active_save : PlanView → Machine → Option RowId
-first_active_save plan s = if is_ball_on s.game.phase then find (λ r. is_active_save (device_at s r)) (save_rows plan) else None
+first_active_save plan s = if is_ball_on s.game.phase then find (λ r. is_active_save (device_at s r)) (save_rows plan)
+    else None
 
 -- if only one ball is left in play, the multiballs end
 abbrev pub end_multiballs : PlanView → Machine → Machine
-end_multiballs plan s = if in_play s.game == 1 then all_do (call_device plan (calls.Act End)) (multiball_rows plan) s else s
+end_multiballs plan s = if in_play s.game == 1 then all_do (call_device plan (calls.Act End)) (multiball_rows plan) s
+    else s
 
 -- A ball has drained. A ball save saves it, if there is one. Otherwise one ball less is in play, and multiballs may
 -- end.
@@ -417,7 +429,8 @@ tell_listeners plan a s = all_do (tell_listener plan a.active) (listeners_of pla
 
 -- A ball that presses a switch tagged `playfield_active` is on the playfield: the first device Away to it is told.
 abbrev pub confirm_on_playfield : PlanView → Change → Machine → Machine
-confirm_on_playfield plan a s = if a.active && (switch_at plan a.switch).confirms_playfield then tell_first plan (Arrived Playfield) s else s
+confirm_on_playfield plan a s = if a.active
+    && (switch_at plan a.switch).confirms_playfield then tell_first plan (Arrived Playfield) s else s
 
 -- A switch was accepted as active or inactive: its line is written, the devices that listen to it are told, and then
 -- its events are posted. Before these a ball may have arrived on the playfield.
@@ -432,8 +445,10 @@ do_if_accepted plan (Some a) s = do_accepted plan a s
 
 -- The raw level of a switch changes, which a quick switch accepts at once.
 abbrev pub change_switch : PlanView → ℕ → SwitchId → Bool → Machine → Machine
-change_switch plan at switch raw s = do_if_accepted plan (reported_by_change switch raw at s.switches) (set_switches (after_change switch raw at s.switches) s)
+change_switch plan at switch raw s = do_if_accepted plan (reported_by_change switch raw at s.switches)
+    (set_switches (after_change switch raw at s.switches) s)
 
 -- The raw level of a switch, which was due, is accepted.
 abbrev pub fire_switch : PlanView → SwitchId → Machine → Machine
-fire_switch plan switch s = do_accepted plan (reported (accept switch s.switches) switch) (set_switches (accept switch s.switches) s)
+fire_switch plan switch s = do_accepted plan (report_change (accept switch s.switches) switch)
+    (set_switches (accept switch s.switches) s)

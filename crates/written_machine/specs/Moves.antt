@@ -19,7 +19,8 @@ use Rattle.cascade_rank.specs.Cost.{Cost, Lines, Step, Both, price, cost_of_post
 use Rattle.coil_guard.specs.{declared.command.Command.Command, Limits.IsWithin, Asked.limits_of}
 use Rattle.coil_guard.specs.declared.command.Command.TheVariants as commands
 use Rattle.written_machine.specs.{CoilActions.ActionsKeepLimits, Devices.ActsAreOwn}
-use Rattle.written_machine.specs.Machine.{ask_coil, Machine, write, post, set_switches, set_mode, set_device, set_players, set_game, book, home_of, start_mode, stop_mode, drop_hold, called}
+use Rattle.written_machine.specs.Machine.{ask_coil, Machine, write, post, set_switches, set_mode, set_device, call_row}
+use Rattle.written_machine.specs.Machine.{set_players, set_game, book, home_of, start_mode, stop_mode, drop_hold}
 use Rattle.event_queue.specs.Handlers.{takes_part}
 use Rattle.written_machine.specs.Run.{switch, device, Stimulus, SwitchChange, Alarm, Wait}
 
@@ -63,7 +64,7 @@ do_move plan (Began m) s = start_mode plan m s
 do_move plan (Ended m) s = stop_mode plan m s
 do_move plan (Marked m state) s = set_mode m state s
 do_move plan (Released m) s = drop_hold m s
-do_move plan (Turned call r) s = set_device r (called plan call r s).0 s
+do_move plan (Turned call r) s = set_device r (call_row plan call r s).0 s
 do_move plan (Asked owner command) s = ask_coil owner command s
 do_move plan (Booked owner call) s = book owner call s
 do_move plan (Varied v value) s = set_players (after_change plan v value s.players) s
@@ -140,7 +141,8 @@ MayDo plan l (Ended m) = HasEntries plan → m.0 < length plan.modes
 MayDo plan l (Marked m state) = l.marks
 MayDo plan l (Released m) = l.marks
 MayDo plan l (Turned call r) = ActsAreOwn plan → l.by (row_at plan r).owner
-MayDo plan l (Asked owner command) = (ActsAreOwn plan → l.by owner) × (ActionsKeepLimits plan → IsWithin (limits_of plan) command) × IsListed plan owner command
+MayDo plan l (Asked owner command) = (ActsAreOwn plan → l.by owner)
+    × (ActionsKeepLimits plan → IsWithin (limits_of plan) command) × IsListed plan owner command
 MayDo plan l (Booked owner call) = ActsAreOwn plan → l.by owner
 MayDo plan l (Varied v value) = Unit {0}
 MayDo plan l (Stepped which) = Unit {0}
@@ -154,9 +156,10 @@ IsFreeThere plan e = IsValid plan → PostsAreFree plan → IsFree plan e ⊎ (w
 -- From one state to another by moves that are allowed, and that cost at most this.
 pub data Does (plan : PlanView) (may : Move → Type 0) : Cost → Machine → Machine → Type 0 where
   quiet : {s : Machine} → Does plan may (Lines 0) s s
-  moved : (x : Move) (s : Machine) → may x → Does plan may (cost_of_move plan x) s (do_move plan x s)
+  one_move : (x : Move) (s : Machine) → may x → Does plan may (cost_of_move plan x) s (do_move plan x s)
   both : {a b : Cost} {s m t : Machine} → Does plan may a s m → Does plan may b m t → Does plan may (Both a b) s t
-  less : {a b : Cost} {s t : Machine} → Does plan may a s t → ((w : EventId → ℕ) → price w a ≤ price w b) → Does plan may b s t
+  less : {a b : Cost} {s t : Machine} → Does plan may a s t → ((w : EventId → ℕ) → price w a ≤ price w b)
+      → Does plan may b s t
 
 -- lines, waiting events, known balls and bookings that were left out only grow
 pub record Grows (s t : Machine) : Type 0 where

@@ -1,6 +1,6 @@
 -- Which alarm comes next, computed.
-use Rattle.std.specs.Prelude.{ℕ, ◌+◌, ◌-◌, ◌*◌, nat_le, Bool, false, Option, None, Some, if◌then◌else◌, option_map, length, map}
-use Rattle.std.specs.Option.{option_map_or}
+use Rattle.std.specs.Prelude.{ℕ, ◌+◌, ◌-◌, ◌*◌, nat_le, Bool, false, Option, None, Some, if◌then◌else◌, option_map}
+use Rattle.std.specs.{Prelude.{length, map}, Option.option_map_or}
 use Rattle.plan_tables.specs.PlanView.{PlanView}
 use Rattle.switch_core.specs.Switches.{next_due}
 use Rattle.device_objects.specs.DeviceStep as devices

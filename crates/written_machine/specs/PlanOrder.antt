@@ -20,5 +20,5 @@ plan_steps plan zero s = s
 plan_steps plan (suc n) s = plan_steps plan n (plan_step plan s)
 
 -- the state after a stimulus and its event steps, of which there are at most as many as the bound
-abbrev pub settled : PlanView → ℕ → Stimulus → Machine → Machine
-settled plan bound stimulus s = plan_steps plan bound (begin plan stimulus s)
+abbrev pub settle_all : PlanView → ℕ → Stimulus → Machine → Machine
+settle_all plan bound stimulus s = plan_steps plan bound (begin plan stimulus s)

@@ -44,7 +44,8 @@ IsNothingLate s = (source : Source) (due : ℕ) → source_due s source ≡ Some
 -- the alarm of the least moment, and of those the first source's
 pub record IsNextAlarm (s : Machine) (at : ℕ) (source : Source) : Type 0 where
   pub due : source_due s source ≡ Some at
-  pub least : (other : Source) (moment : ℕ) → source_due s other ≡ Some moment → (at < moment) ⊎ ((at ≡ moment) × IsNotAfter source other)
+  pub least : (other : Source) (moment : ℕ) → source_due s other ≡ Some moment
+      → (at < moment) ⊎ ((at ≡ moment) × IsNotAfter source other)
 
 -- ---- stimuli
 
@@ -73,8 +74,8 @@ IsAllowed plan s (Alarm at source) = IsNextAlarm s at source × (at < 2 ^ 40)
 IsAllowed plan s (Wait at) = IsTimely s at
 
 -- it is a new moment, with no line yet
-abbrev pub arrived : ℕ → Machine → Machine
-arrived at s = record s { moment = at; lines = [] }
+abbrev pub arrive : ℕ → Machine → Machine
+arrive at s = record s { moment = at; lines = [] }
 
 -- an alarm comes
 abbrev pub fire : PlanView → Source → Machine → Machine
@@ -83,9 +84,9 @@ fire plan (device r) s = call_device plan calls.Fire r s
 
 -- what a stimulus does before any event step
 abbrev pub begin : PlanView → Stimulus → Machine → Machine
-begin plan (SwitchChange at n level) s = change_switch plan at n level (arrived at s)
-begin plan (Alarm at source) s = fire plan source (arrived at s)
-begin plan (Wait at) s = arrived at s
+begin plan (SwitchChange at n level) s = change_switch plan at n level (arrive at s)
+begin plan (Alarm at source) s = fire plan source (arrive at s)
+begin plan (Wait at) s = arrive at s
 
 -- ---- runs
 
@@ -96,11 +97,13 @@ abbrev pub IsRun : PlanView → List (Stimulus × ℕ) → Machine → List Line
 IsRun plan [] old trace new = (trace ≡ []) × (new ≡ old)
 IsRun plan ((stimulus, n) ∷ more) old trace new =
     (old.waiting ≡ []) × IsAllowed plan old stimulus
-    × ((mid : Machine) × (rest : List Line) × EventSteps plan n (begin plan stimulus old) mid × IsRun plan more mid rest new × (trace ≡ mid.lines ++ rest))
+    × ((mid : Machine) × (rest : List Line) × EventSteps plan n (begin plan stimulus old) mid
+    × IsRun plan more mid rest new × (trace ≡ mid.lines ++ rest))
 
 -- this holds of every run of the plan: of its stimuli, its trace and the state in which it ends
 abbrev pub InEveryRun : PlanView → (List (Stimulus × ℕ) → List Line → Machine → Type 0) → Type 0
-InEveryRun plan P = (stimuli : List (Stimulus × ℕ)) (trace : List Line) (s : Machine) → IsRun plan stimuli (initial plan) trace s → P stimuli trace s
+InEveryRun plan P = (stimuli : List (Stimulus × ℕ)) (trace : List Line) (s : Machine)
+    → IsRun plan stimuli (initial plan) trace s → P stimuli trace s
 
 -- this holds after every stimulus of every run: of the state before it, the stimulus, how many event steps followed it,
 -- and the state then

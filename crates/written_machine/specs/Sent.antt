@@ -14,7 +14,8 @@ holder_of owner (Disable coil) = None
 
 -- the command that an owner sent at a moment, if that is what happened
 abbrev pub sent_at : ℕ → Owner → Happening → List Sending
-sent_at moment owner (lines.Coil command) = record { at = moment; command = command; owner = holder_of owner command } ∷ []
+sent_at moment owner (lines.Coil command) =
+    record { at = moment; command = command; owner = holder_of owner command } ∷ []
 sent_at moment owner _ = []
 
 abbrev pub sent_in : Line → List Sending
@@ -27,13 +28,14 @@ sendings trace = flat_map sent_in trace
 -- A command is idle at a moment, if these were sent before: a pulse of a coil that is held or rests, an enable of one
 -- that is held, a disable of one that is off.
 abbrev pub IsIdle : List Sending → ℕ → Command → Type 0
-IsIdle sent moment (Pulse coil ms power) = (is_held sent coil ≡ true) ⊎ (is_resting sent coil moment ≡ true)
-IsIdle sent moment (Enable coil power) = is_held sent coil ≡ true
-IsIdle sent moment (Disable coil) = is_on sent coil moment ≡ false
+IsIdle earlier moment (Pulse coil ms power) = (is_held earlier coil ≡ true) ⊎ (is_resting earlier coil moment ≡ true)
+IsIdle earlier moment (Enable coil power) = is_held earlier coil ≡ true
+IsIdle earlier moment (Disable coil) = is_on earlier coil moment ≡ false
 
 -- Wherever a command was skipped in a trace, it was idle by the commands that were sent before: none was skipped for a
 -- limit, or for want of permission.
 abbrev pub AreSkippedIdle : List Line → Type 0
 AreSkippedIdle trace =
     (before : List Line) (line : Line) (after : List Line) (command : Command)
-    → trace ≡ before ++ line ∷ after → line.happening ≡ lines.Skip command → IsIdle (sendings before) line.moment command
+    → trace ≡ before ++ line ∷ after → line.happening ≡ lines.Skip command
+    → IsIdle (sendings before) line.moment command

@@ -3,7 +3,7 @@ use Rattle.std.specs.Prelude.{◌≡◌, ℕ, zero, suc, ◌+◌, ◌≤◌, max
 use Rattle.plan_tables.specs.PlanView.{PlanView, work_of}
 use Rattle.cascade_rank.specs.{Cost.{Cost, Lines, Step, Weight, Both, Greater}, Working.work_bound_of}
 use Rattle.written_machine.specs.{Machine.{Machine, all_do, do_handler}, Run.{Stimulus, IsAllowed, begin, InEveryRun}}
-use Rattle.written_machine.specs.EventStep.{EventStep, EventSteps, taken, before_handlers}
+use Rattle.written_machine.specs.EventStep.{EventStep, EventSteps, take_event, before_handlers}
 use Rattle.written_machine.specs.Spent.{each_now, before_now, handler_now, after_now, stimulus_now}
 
 -- the steps of a cost, if each counts k
@@ -22,8 +22,9 @@ abbrev pub event_now : (plan : PlanView) (s t : Machine) → EventStep plan s t 
 event_now plan s t step =
     let work = work_of plan step.first.event in
     let ready = before_handlers plan step.first step.rest s in
-    Both (before_now plan work (taken step.first step.rest s))
-    (Both (each_now (do_handler plan) (handler_now plan) step.order ready) (after_now plan work (all_do (do_handler plan) step.order ready)))
+    Both (before_now plan work (take_event step.first step.rest s))
+    (Both (each_now (do_handler plan) (handler_now plan) step.order ready)
+    (after_now plan work (all_do (do_handler plan) step.order ready)))
 
 abbrev pub steps_of : (plan : PlanView) (n : ℕ) (s t : Machine) → EventSteps plan n s t → ℕ
 steps_of plan zero s t is = 0
@@ -35,4 +36,5 @@ abbrev pub WorkIsBounded : PlanView → Type 0
 WorkIsBounded plan =
     InEveryRun plan (λ stimuli trace s. s.waiting ≡ [] → (stimulus : Stimulus) → IsAllowed plan s stimulus →
     (n : ℕ) (t : Machine) (steps : EventSteps plan n (begin plan stimulus s) t) →
-    length t.lines + (steps_in (stimulus_now plan stimulus s) + steps_of plan n (begin plan stimulus s) t steps) ≤ work_bound_of plan)
+    length t.lines + (steps_in (stimulus_now plan stimulus s) + steps_of plan n (begin plan stimulus s) t steps)
+    ≤ work_bound_of plan)

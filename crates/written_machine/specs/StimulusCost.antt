@@ -2,7 +2,7 @@
 use Rattle.std.specs.Prelude.{ℕ, ◌+◌, Option, Some, None, List, [], ◌∷◌}
 use Rattle.plan_tables.specs.{PlanView.PlanView, declared.entries.EventId.EventId}
 use Rattle.device_objects.specs.declared.device.Call.TheVariants as calls
-use Rattle.switch_core.specs.{declared.change.Change.Change, Switches.{accept, reported, reported_by_change}}
+use Rattle.switch_core.specs.{declared.change.Change.Change, Switches.{accept, report_change, reported_by_change}}
 use Rattle.cascade_rank.specs.Cost.{Cost, Lines, cost_of_acceptance, cost_of_call}
 use Rattle.event_queue.specs.declared.queue.Posted.{Posted}
 use Rattle.written_machine.specs.{Machine.Machine, Run.{Source, switch, device, Stimulus, SwitchChange, Alarm, Wait}}
@@ -14,7 +14,7 @@ cost_if_accepted plan (Some a) = cost_of_acceptance plan a.switch a.active
 
 -- what an alarm costs: that of a switch its acceptance, that of a device its dearest answer
 abbrev pub cost_of_alarm : PlanView → Machine → Source → Cost
-cost_of_alarm plan s (switch n) = cost_of_acceptance plan n (reported (accept n s.switches) n).active
+cost_of_alarm plan s (switch n) = cost_of_acceptance plan n (report_change (accept n s.switches) n).active
 cost_of_alarm plan s (device r) = cost_of_call plan r calls.Fire
 
 -- What a stimulus costs: a change costs the acceptance of the switch if it is accepted at once, else nothing.

@@ -1,5 +1,6 @@
 -- Lemmas that the kit lacks: what holds of each element of a list, of one of them, and of an option.
-use Rattle.std.proofs.Common.{rules, ◌≡◌, suc, Bool, if◌then◌else◌, ◌||◌, map, List, [], ◌∷◌, ◌++◌, Option, Some, None, IfSome, refl, ap, arith}
+use Rattle.std.proofs.Common.{rules, ◌≡◌, suc, Bool, if◌then◌else◌, ◌||◌, map, List, [], ◌∷◌, ◌++◌, Option, Some, None}
+use Rattle.std.proofs.Common.{IfSome, refl, ap, arith}
 use Rattle.std.specs.{List.{All, Contains, filter, flat_map, list_any}, Option.unwrap_or}
 use Rattle.std.proofs.lemmas.List.Elements.{All-nil, All-cons, All-head, All-tail, All-append, All-map, All-weaker}
 
@@ -15,13 +16,15 @@ all_mapped P f each [] = All-nil P
 all_mapped P f each (x ∷ xs) = All-cons P (f x) (map f xs) (each x) (all_mapped P f each xs)
 
 -- and so it is with what follows from what holds of each
-pub made_each : {A B : Type 0} {P : A → Type 0} (Q : B → Type 0) (f : A → B) → ((x : A) → P x → Q (f x)) → (xs : List A) → All P xs → All Q (map f xs)
+pub made_each : {A B : Type 0} {P : A → Type 0} (Q : B → Type 0) (f : A → B) → ((x : A) → P x → Q (f x)) → (xs : List A)
+    → All P xs → All Q (map f xs)
 made_each {P = P} Q f each xs h = All-map Q f xs (All-weaker P (λ x. Q (f x)) each xs h)
 
 -- what holds of all that f gives holds of what f gives for each
 pub All-from_map : {A B : Type 0} (P : B → Type 0) (f : A → B) (xs : List A) → All P (map f xs) → All (λ x. P (f x)) xs
 All-from_map P f [] h = All-nil (λ x. P (f x))
-All-from_map P f (x ∷ xs) h = All-cons (λ x. P (f x)) x xs (All-head P (f x) (map f xs) h) (All-from_map P f xs (All-tail P (f x) (map f xs) h))
+All-from_map P f (x ∷ xs) h = All-cons (λ x. P (f x)) x xs (All-head P (f x) (map f xs) h)
+    (All-from_map P f xs (All-tail P (f x) (map f xs) h))
 
 -- it holds of all in two lists
 pub All-parts : {A : Type 0} (P : A → Type 0) (xs ys : List A) → All P (xs ++ ys) → All P xs × All P ys
@@ -29,11 +32,14 @@ All-parts P [] ys h = (All-nil P, h)
 All-parts P (x ∷ xs) ys h = search (rules, All-tail, All-cons, All-head, All-parts P xs ys (All-tail P x (xs ++ ys) h))
 
 -- it holds of all that each gives
-pub All-flat_map : {A B : Type 0} (P : B → Type 0) (f : A → List B) (xs : List A) → All (λ x. All P (f x)) xs → All P (flat_map f xs)
+pub All-flat_map : {A B : Type 0} (P : B → Type 0) (f : A → List B) (xs : List A) → All (λ x. All P (f x)) xs
+    → All P (flat_map f xs)
 All-flat_map P f [] all = All-nil P
-All-flat_map P f (x ∷ xs) all = search (rules, All-append, All-head, All-tail, All-flat_map P f xs (All-tail (λ z. All P (f z)) x xs all))
+All-flat_map P f (x ∷ xs) all =
+    search (rules, All-append, All-head, All-tail, All-flat_map P f xs (All-tail (λ z. All P (f z)) x xs all))
 
-pub All-from_flat_map : {A B : Type 0} (P : B → Type 0) (f : A → List B) (xs : List A) → All P (flat_map f xs) → All (λ x. All P (f x)) xs
+pub All-from_flat_map : {A B : Type 0} (P : B → Type 0) (f : A → List B) (xs : List A) → All P (flat_map f xs)
+    → All (λ x. All P (f x)) xs
 All-from_flat_map P f [] h = All-nil (λ x. All P (f x))
 All-from_flat_map P f (x ∷ xs) h =
     let both = All-parts P (f x) (flat_map f xs) h in
@@ -42,12 +48,14 @@ All-from_flat_map P f (x ∷ xs) h =
 -- tests that agree on each keep the same
 pub filter-agree : {A : Type 0} (p q : A → Bool) (xs : List A) → All (λ x. p x ≡ q x) xs → filter p xs ≡ filter q xs
 filter-agree p q [] all = refl
-filter-agree p q (x ∷ xs) all = search (rules, All-head, All-tail, filter-agree p q xs (All-tail (λ y. p y ≡ q y) x xs all))
+filter-agree p q (x ∷ xs) all =
+    search (rules, All-head, All-tail, filter-agree p q xs (All-tail (λ y. p y ≡ q y) x xs all))
 
 -- ---- one
 
 -- what is asked of the elements may be asked of what is made of them
-pub any_mapped : {A B : Type 0} (p : B → Bool) (f : A → B) (xs : List A) → list_any p (map f xs) ≡ list_any (λ x. p (f x)) xs
+pub any_mapped : {A B : Type 0} (p : B → Bool) (f : A → B) (xs : List A)
+    → list_any p (map f xs) ≡ list_any (λ x. p (f x)) xs
 any_mapped p f [] = refl
 any_mapped p f (x ∷ xs) = ap (λ b. p (f x) || b) (any_mapped p f xs)
 

@@ -34,14 +34,18 @@ no_number text h = none_of (number_at text) (λ n e. h n (number_sound text n e)
 pub not_digits : (text : List ℕ) → list_all is_ascii_digit text ≡ false → number_at text ≡ None
 not_digits text h = no_number text (λ n k. false≢true (sym h ∙ list_all-from_Are is_ascii_digit text k.digits.each))
 
-pub no_fault : {T E : Type 0} (r : Result T E) (P : T → Type 0) (Q : E → Type 0) → MatchResult r P Q → ((e : E) → Q e → ⊥) → result_ok r ≡ None → ⊥
+pub no_fault : {T E : Type 0} (r : Result T E) (P : T → Type 0) (Q : E → Type 0) → MatchResult r P Q
+    → ((e : E) → Q e → ⊥) → result_ok r ≡ None → ⊥
 no_fault x1 P Q h never e = search rules
 
-pub found_ok : {T E : Type 0} (r : Result T E) (P : T → Type 0) (Q : E → Type 0) (x : T) → MatchResult r P Q → result_ok r ≡ Some x → P x
+pub found_ok : {T E : Type 0} (r : Result T E) (P : T → Type 0) (Q : E → Type 0) (x : T) → MatchResult r P Q
+    → result_ok r ≡ Some x → P x
 found_ok x1 P Q x h e = search rules
 
-pub parsed : {E : Type 0} (text : List ℕ) (r : Result ℕ E) → list_all is_ascii_digit text ≡ true → ParsesUnsigned 64 10 text r → result_ok r ≡ number_at text
+pub parsed : {E : Type 0} (text : List ℕ) (r : Result ℕ E) → list_all is_ascii_digit text ≡ true
+    → ParsesUnsigned 64 10 text r → result_ok r ≡ number_at text
 parsed {E} text r digits h = as_parsed r (parse_digits own 64 text r h digits)
   where
-    as_parsed : (r : Result ℕ E) → OkIff r ((0 < length text) × (value_of_digits text < 2 ^ 64)) (value_of_digits text) → result_ok r ≡ number_at text
+    as_parsed : (r : Result ℕ E) → OkIff r ((0 < length text) × (value_of_digits text < 2 ^ 64)) (value_of_digits text)
+        → result_ok r ≡ number_at text
     as_parsed x1 k = search (rules, number_complete, Are-from_list_all, no_number)

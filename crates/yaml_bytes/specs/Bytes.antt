@@ -62,7 +62,8 @@ begins_item (b ∷ after) = (b == 45) && begins_gap after
 
 -- whether `---` or `...` comes first, and then a gap
 abbrev pub is_document_marker : List ℕ → Bool
-is_document_marker (a ∷ b ∷ c ∷ after) = (((a == 45) && ((b == 45) && (c == 45))) || ((a == 46) && ((b == 46) && (c == 46)))) && begins_gap after
+is_document_marker (a ∷ b ∷ c ∷ after) = (((a == 45) && ((b == 45) && (c == 45)))
+    || ((a == 46) && ((b == 46) && (c == 46)))) && begins_gap after
 is_document_marker _ = false
 
 -- whether a byte begins a character: in UTF-8 each byte does but 128 to 191
@@ -75,4 +76,5 @@ characters = count_by begins_character
 
 -- whether a character is allowed in no line: a control character other than tab, U+FEFF, U+FFFE and U+FFFF
 abbrev pub is_forbidden : ℕ → Bool
-is_forbidden c = (nat_lt c 32 && not (c == 9)) || ((nat_le 127 c && nat_lt c 160) || ((c == 65279) || ((c == 65534) || (c == 65535))))
+is_forbidden c = (nat_lt c 32 && not (c == 9))
+    || ((nat_le 127 c && nat_lt c 160) || ((c == 65279) || ((c == 65534) || (c == 65535))))

@@ -1,6 +1,6 @@
 -- Numbers as they are written, in decimal digits.
-use Rattle.std.specs.Prelude.{◌≡◌, ℕ, ◌+◌, ◌-◌, ◌*◌, ◌^◌, ◌<◌, nat_lt, Bool, ◌&&◌, if◌then◌else◌, Option, Some, None, List, [], ◌∷◌, length}
-use Rattle.std.specs.{List.list_all, Char.is_ascii_digit}
+use Rattle.std.specs.Prelude.{◌≡◌, ℕ, ◌+◌, ◌-◌, ◌*◌, ◌^◌, ◌<◌, nat_lt, Bool, ◌&&◌, if◌then◌else◌, Option, Some, None}
+use Rattle.std.specs.{Prelude.{List, [], ◌∷◌, length}, List.list_all, Char.is_ascii_digit}
 use Rattle.yaml_bytes.specs.Plain.{Are}
 
 -- the number that digits write: each is worth ten times the one after it

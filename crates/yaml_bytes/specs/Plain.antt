@@ -1,6 +1,6 @@
 -- Blanks, and words without quotes, on a line.
-use Rattle.std.specs.Prelude.{◌≡◌, ℕ, ◌<◌, Bool, true, false, ◌&&◌, ◌||◌, List, [], ◌∷◌, ◌++◌, length, drop, slice_index, ◌==◌}
-use Rattle.std.specs.List.{AllByRecursion}
+use Rattle.std.specs.Prelude.{◌≡◌, ℕ, ◌<◌, Bool, true, false, ◌&&◌, ◌||◌, List, [], ◌∷◌, ◌++◌, length, drop}
+use Rattle.std.specs.{Prelude.{slice_index, ◌==◌}, List.AllByRecursion}
 use Rattle.yaml_bytes.specs.Bytes.{is_blank, begins_blank, is_flow_indicator, begins_break, begins_word}
 
 -- every byte passes the test p
@@ -22,7 +22,8 @@ pub record IsBehindBlanks (text rest : List ℕ) : Type 0 where
 -- `, [ ] { }` or a `:` directly before one of these. The byte in front is given.
 abbrev pub ends_word : Bool → ℕ → List ℕ → Bool
 ends_word flow before [] = true
-ends_word flow before (b ∷ after) = (flow && is_flow_indicator b) || (((b == 35) && is_blank before) || ((b == 58) && begins_break flow after))
+ends_word flow before (b ∷ after) = (flow && is_flow_indicator b)
+    || (((b == 35) && is_blank before) || ((b == 58) && begins_break flow after))
 
 -- whether a plain word ends at the place n, if the text counts as one after a blank
 abbrev pub ends_word_at : Bool → List ℕ → ℕ → Bool

@@ -1,6 +1,6 @@
 -- What a pass over a line finds.
-use Rattle.std.specs.Prelude.{ℕ, suc, ◌+◌, ◌-◌, Bool, List, [], ◌∷◌, length, take, drop, Option, Some, None, ◌&&◌, if◌then◌else◌, ◌==◌}
-use Rattle.std.specs.List.{prefix_len}
+use Rattle.std.specs.Prelude.{ℕ, suc, ◌+◌, ◌-◌, Bool, List, [], ◌∷◌, length, take, drop, Option, Some, None, ◌&&◌}
+use Rattle.std.specs.{Prelude.{if◌then◌else◌, ◌==◌}, List.prefix_len}
 use Rattle.yaml_bytes.specs.{Bytes.{is_blank, begins_gap}, Plain.ends_word}
 
 -- how many bytes a plain word has up to where it ends, the blanks at its end too; `before` is the byte in front
@@ -14,9 +14,9 @@ onto_trimmed b [] = if is_blank b then [] else b ∷ []
 onto_trimmed b (c ∷ cs) = b ∷ c ∷ cs
 
 -- without the blanks at the end
-abbrev pub trimmed : List ℕ → List ℕ
-trimmed [] = []
-trimmed (b ∷ bs) = onto_trimmed b (trimmed bs)
+abbrev pub trim_blanks : List ℕ → List ℕ
+trim_blanks [] = []
+trim_blanks (b ∷ bs) = onto_trimmed b (trim_blanks bs)
 
 -- without the blanks at the front
 abbrev pub behind_blanks : List ℕ → List ℕ

@@ -1,7 +1,9 @@
 //! What the bytes of a line are.
 
 ghost use Rattle.std.specs.Prelude.{◌≡◌};
-ghost use Rattle.yaml_bytes.specs.Bytes.{is_blank, begins_blank, begins_gap, is_flow_indicator, begins_flow_indicator, begins_break, begins_bare_colon, is_over, is_indicator, is_mark, begins_word, begins_item, is_document_marker, begins_character, is_forbidden};
+ghost use Rattle.yaml_bytes.specs.Bytes.{is_blank, begins_blank, begins_gap, is_flow_indicator, begins_flow_indicator};
+ghost use Rattle.yaml_bytes.specs.Bytes.{begins_break, begins_bare_colon, is_over, is_indicator, is_mark, begins_word};
+ghost use Rattle.yaml_bytes.specs.Bytes.{begins_item, is_document_marker, begins_character, is_forbidden};
 
 /// Whether a byte is a space or a tab.
 pub fn is_blank(b: u8) -> bool

@@ -3,7 +3,7 @@
 //!
 //! The functions find the end of a line, blanks, the marks of items and entries, words without quotes,
 //! and numbers in decimal digits. All passes go from the first byte to the last, except that of
-//! `trimmed`, which goes the other way. `flow` says whether a line is read within brackets or braces.
+//! `trim_blanks`, which goes the other way. `flow` says whether a line is read within brackets or braces.
 //! The functions take no memory and find no faults: each has an answer for every text.
 //! `specs/Lines.antt` says what a line is, `specs/Bytes.antt` what a byte is, `specs/Plain.antt` what
 //! blanks and words are, wherever they are, `specs/Scanning.antt` what a pass finds,
@@ -27,5 +27,5 @@ pub use lines::split_line;
 pub use numbers::number;
 pub use scan::{
     before_colon, behind_blanks, behind_dash, behind_spaces, characters, spaces_len, split_word,
-    trimmed,
+    trim_blanks,
 };

@@ -4,7 +4,8 @@ ghost use Rattle.std.specs.Prelude.{◌≡◌, ◌≤◌, ◌&&◌, nat_le, leng
 ghost use Rattle.std.specs.List.{prefix_len};
 ghost use Rattle.yaml_bytes.specs.Bytes.{is_blank, characters};
 ghost use Rattle.yaml_bytes.specs.Plain.{ends_word};
-ghost use Rattle.yaml_bytes.specs.Scanning.{behind_blanks, trimmed, word_len, word_front, word_rest, spaces_len, behind_spaces, behind_dash, before_colon};
+ghost use Rattle.yaml_bytes.specs.Scanning.{behind_blanks, trim_blanks, word_len, word_front, word_rest, spaces_len};
+ghost use Rattle.yaml_bytes.specs.Scanning.{behind_spaces, behind_dash, before_colon};
 ghost use Rattle.yaml_bytes.specs.View.{option_slice};
 
 use crate::bytes::{begins_break, begins_character, begins_gap, is_blank, is_flow_indicator};
@@ -25,8 +26,8 @@ pub fn behind_blanks(text: &[u8]) -> &[u8]
 }
 
 /// A text without the blanks at its end.
-pub fn trimmed(text: &[u8]) -> &[u8]
-    ensures { result.now ≡ trimmed text.now }
+pub fn trim_blanks(text: &[u8]) -> &[u8]
+    ensures { result.now ≡ trim_blanks text.now }
 {
     let mut rest = text;
     while let [before @ .., b] = rest {

@@ -1,12 +1,15 @@
 -- A line has no blemish if it is UTF-8 without a forbidden character.
-use Rattle.std.proofs.Common.{rules, ◌≡◌, ℕ, zero, suc, ◌+◌, ◌-◌, ◌≤◌, ◌<◌, ltb, Bool, true, false, cond, List, [], ◌∷◌, length, take, drop, get_or, Option, Some, None, refl, sym, ap, subst, ◌∙◌, inl, inr, arith, length-take-le}
+use Rattle.std.proofs.Common.{rules, ◌≡◌, ℕ, zero, suc, ◌+◌, ◌-◌, ◌≤◌, ◌<◌, ltb, Bool, true, false, cond, List, [], ◌∷◌}
+use Rattle.std.proofs.Common.{length, take, drop, get_or, Option, Some, None, refl, sym, ap, subst, ◌∙◌, inl, inr}
+use Rattle.std.proofs.{Common.{arith, length-take-le}, Math.Seq.take-length}
 use Rattle.std.specs.{Char.len_utf8, List.{All, AllByRecursion, list_all}}
 use Rattle.std.specs.Str.{IsUtf8, is_utf8, chars, encode_utf8_all, Lossy.{utf8_valid_len, valid_len_up_to}}
-use Rattle.std.proofs.{Math.Seq.take-length, lemmas.List.{length-append, at_drop_more, Elements.{All-nil, All-cons}}}
+use Rattle.std.proofs.lemmas.List.{length-append, at_drop_more, Elements.{All-nil, All-cons}}
 use Rattle.std.proofs.lemmas.{Bool.{cases_Bool, and_parts, le-ltb, ltb-false}, Str.Ascii.IsAscii-from_all}
-use Rattle.std.proofs.lemmas.Str.{chars-IsAscii, IsUtf8-from_ascii, IsUtf8-nil, IsUtf8-from_is_utf8, utf8_valid_len_le, utf8_valid_len-IsUtf8, encodes-chars, length-encode, len_utf8_bounds}
-use Rattle.yaml_subset.specs.{declared.place.PlacedFault.PlacedFault, Inside.is_plain_byte}
-use Rattle.yaml_subset.specs.declared.fault.FaultKind.TheVariants.{NotInSubset, NotUtf8}
+use Rattle.std.proofs.lemmas.Str.{chars-IsAscii, IsUtf8-from_ascii, IsUtf8-nil, IsUtf8-from_is_utf8, utf8_valid_len_le}
+use Rattle.std.proofs.lemmas.Str.{utf8_valid_len-IsUtf8, encodes-chars, length-encode, len_utf8_bounds}
+use Rattle.yaml_subset.specs.{declared.place.PlacedFault.PlacedFault, ParserViews.is_plain_byte}
+use Rattle.yaml_subset.specs.declared.fault.TextFaultKind.TheVariants.{NotInSubset, NotUtf8}
 use Rattle.yaml_bytes.specs.Bytes.{is_forbidden}
 use Rattle.yaml_subset.specs.Reading.{forbidden_left, utf8_front, blemish_at}
 
@@ -96,9 +99,11 @@ clean_sound n raw e =
     let front = utf8_front raw in
     let left = forbidden_left (chars front) in
     let behind = length raw - length front in
-    let bad_bytes : Option PlacedFault = cond (ltb (length front) (length raw)) (Some (record { kind = NotUtf8; line = n; left = behind })) None in
-    let a = none_of (ltb 0 left) (record { kind = NotInSubset; line = n; left = left + behind }) bad_bytes e in
-    let b = none_of (ltb (length front) (length raw)) (record { kind = NotUtf8; line = n; left = behind }) None a.1 in
+    let bad_bytes : Option PlacedFault = cond (ltb (length front) (length raw))
+    (Some (record { kind = NotUtf8; line = n; bytes_left = behind })) None in
+    let a = none_of (ltb 0 left) (record { kind = NotInSubset; line = n; bytes_left = left + behind }) bad_bytes e in
+    let b = none_of (ltb (length front) (length raw)) (record { kind = NotUtf8; line = n; bytes_left = behind }) None
+    a.1 in
     let whole : front ≡ raw = full_front raw (ltb-false (length front) (length raw) b.0) in
     let all : AreAllowed (chars front) = none_left (chars front) (ltb-false 0 left a.0) in
     (subst IsUtf8 whole (front_is_utf8 raw), subst (λ bs. AreAllowed (chars bs)) whole all)

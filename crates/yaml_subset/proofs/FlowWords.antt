@@ -3,7 +3,8 @@ use Rattle.std.proofs.{Common.{rules, ◌≡◌, ℕ, ◌≤◌, true, false, Li
 use Rattle.yaml_subset.{specs.{Words.{IsWordAt, word_at}, Flow.begins_bracket}, proofs.FlowParts.{BeginsPart, Reads}}
 use Rattle.yaml_subset.proofs.WordTexts.{word_sound, word_complete, word_begins, word_shorter}
 
-pub word_begins_part : (text value rest : List ℕ) → IsWordAt true text value rest → BeginsPart text × (begins_bracket text ≡ false)
+pub word_begins_part : (text value rest : List ℕ) → IsWordAt true text value rest
+    → BeginsPart text × (begins_bracket text ≡ false)
 word_begins_part text value rest h = search (rules, word_begins, ne_eqb)
 
 pub word_reads : (n : ℕ) → Reads (word_at n true) (IsWordAt true)

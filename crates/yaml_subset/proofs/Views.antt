@@ -20,19 +20,25 @@ pair_step-map : (ps : List (Key × Tree)) → map pair_step (map (λ p. (p.0, no
 pair_step-map [] = refl
 pair_step-map (p ∷ ps) = ap (λ (rest : List Pair). pair_view p ∷ rest) (pair_step-map ps)
 
-pub node_view-Map : (n : ℕ) (pairs : Vec (Key × Tree) Global) → node_view (Map n pairs) ≡ mapping n (pairs_of (map pair_view pairs.items))
+pub node_view-Map : (n : ℕ) (pairs : Vec (Key × Tree) Global)
+    → node_view (Map n pairs) ≡ mapping n (pairs_of (map pair_view pairs.items))
 node_view-Map n pairs =
     ap node_view (sym (rolls-Map n pairs))
     ∙ fold-roll-Tree Node node_step (Tree-F.Map n pairs)
     ∙ ap (λ (ps : List Pair). mapping n (pairs_of ps)) (pair_step-map pairs.items)
 
-pub node_view-List : (n : ℕ) (items : Vec Tree Global) → node_view (ListTree n items) ≡ sequence n (nodes_of (map node_view items.items))
+pub node_view-List : (n : ℕ) (items : Vec Tree Global)
+    → node_view (ListTree n items) ≡ sequence n (nodes_of (map node_view items.items))
 node_view-List n items = ap node_view (sym (rolls-List n items)) ∙ fold-roll-Tree Node node_step (Tree-F.List n items)
 
 -- the pairs of a tree that is a mapping
-pub pairs_in-Map : (n : ℕ) (pairs : Vec (Key × Tree) Global) → pairs_in (node_view (Map n pairs)) ≡ Some (map pair_view pairs.items)
-pairs_in-Map n pairs = ap pairs_in (node_view-Map n pairs) ∙ ap (λ (ps : List Pair). Some ps) (list_pairs-pairs_of (map pair_view pairs.items))
+pub pairs_in-Map : (n : ℕ) (pairs : Vec (Key × Tree) Global)
+    → pairs_in (node_view (Map n pairs)) ≡ Some (map pair_view pairs.items)
+pairs_in-Map n pairs = ap pairs_in (node_view-Map n pairs)
+    ∙ ap (λ (ps : List Pair). Some ps) (list_pairs-pairs_of (map pair_view pairs.items))
 
 -- the nodes of a tree that is a list
-pub items_in-List : (n : ℕ) (items : Vec Tree Global) → items_in (node_view (ListTree n items)) ≡ Some (map node_view items.items)
-items_in-List n items = ap items_in (node_view-List n items) ∙ ap (λ (ts : List Node). Some ts) (list_nodes-nodes_of (map node_view items.items))
+pub items_in-List : (n : ℕ) (items : Vec Tree Global)
+    → items_in (node_view (ListTree n items)) ≡ Some (map node_view items.items)
+items_in-List n items = ap items_in (node_view-List n items)
+    ∙ ap (λ (ts : List Node). Some ts) (list_nodes-nodes_of (map node_view items.items))

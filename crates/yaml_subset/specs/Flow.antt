@@ -1,8 +1,8 @@
 -- Lists `[a, b]` and mappings `{k: v}` on one line.
-use Rattle.std.specs.Prelude.{◌≡◌, ℕ, zero, suc, ◌≤◌, ◌-◌, Bool, true, false, ◌&&◌, ◌||◌, nat_lt, List, [], ◌∷◌, ◌++◌, length, map, take, Result, Ok, Err, if◌then◌else◌, ◌==◌, ◌⊎◌}
-use Rattle.std.specs.List.{Contains}
+use Rattle.std.specs.Prelude.{◌≡◌, ℕ, zero, suc, ◌≤◌, ◌-◌, Bool, true, false, ◌&&◌, ◌||◌, nat_lt, List, [], ◌∷◌, ◌++◌}
+use Rattle.std.specs.{Prelude.{length, map, take, Result, Ok, Err, if◌then◌else◌, ◌==◌, ◌⊎◌}, List.Contains}
 use Rattle.yaml_subset.specs.declared.place.PlacedFault.{PlacedFault}
-use Rattle.yaml_subset.specs.declared.fault.FaultKind.TheVariants.{DuplicateKey, Flow, NotInSubset, TooDeep}
+use Rattle.yaml_subset.specs.declared.fault.TextFaultKind.TheVariants.{DuplicateKey, Flow, NotInSubset, TooDeep}
 use Rattle.yaml_bytes.specs.Bytes.{begins_blank, begins_gap, characters}
 use Rattle.yaml_subset.specs.Node.{Node, scalar, sequence, mapping, Pair, nodes_of, pairs_of}
 use Rattle.yaml_bytes.specs.{Results.◌>>=◌, Plain.IsBehindBlanks, Scanning.behind_blanks}
@@ -38,17 +38,20 @@ pub record IsClosed (close : ℕ) (text rest : List ℕ) : Type 0 where
 
 -- After a part: a comma, with what comes after it and the blanks that follow it; or else the closing byte is next.
 abbrev pub IsParted : ℕ → List ℕ → List ℕ → Type 0
-IsParted close text next = ((after : List ℕ) × (text ≡ 44 ∷ after) × IsBehindBlanks after next) ⊎ ((begins_with close text ≡ true) × (next ≡ text))
+IsParted close text next = ((after : List ℕ) × (text ≡ 44 ∷ after) × IsBehindBlanks after next)
+    ⊎ ((begins_with close text ≡ true) × (next ≡ text))
 
 module _ {A : Type 0} (close : ℕ) (IsPart : List A → List ℕ → A → List ℕ → Type 0) where
   -- Parts with commas between them, after those before; the last may have a comma too. Then the closing byte.
   abbrev pub ArePartsTo : List A → List ℕ → List A → List ℕ → Type 0
   ArePartsTo before text [] rest = IsClosed close text rest
   ArePartsTo before text (x ∷ xs) rest =
-      (more : List ℕ) × (next : List ℕ) × IsPart before text x more × IsParted close more next × ArePartsTo (before ++ x ∷ []) next xs rest
+      (more : List ℕ) × (next : List ℕ) × IsPart before text x more × IsParted close more next
+      × ArePartsTo (before ++ x ∷ []) next xs rest
 
 -- parts between an opening and a closing byte
-pub record IsBetween {A : Type 0} (opening close : ℕ) (IsPart : List A → List ℕ → A → List ℕ → Type 0) (text : List ℕ) (parts : List A) (rest : List ℕ) : Type 0 where
+pub record IsBetween {A : Type 0} (opening close : ℕ) (IsPart : List A → List ℕ → A → List ℕ → Type 0) (text : List ℕ)
+    (parts : List A) (rest : List ℕ) : Type 0 where
   pub after : List ℕ
   pub opens : text ≡ opening ∷ after
   pub body : List ℕ
@@ -57,7 +60,8 @@ pub record IsBetween {A : Type 0} (opening close : ℕ) (IsPart : List A → Lis
 
 -- A key that is none of those before it, `:` before a gap and at most 1,024 characters after the key's begin, and a
 -- value.
-pub record IsFlowPair (n : ℕ) (IsValue : List ℕ → Node → List ℕ → Type 0) (before : List Pair) (text : List ℕ) (p : Pair) (rest : List ℕ) : Type 0 where
+pub record IsFlowPair (n : ℕ) (IsValue : List ℕ → Node → List ℕ → Type 0) (before : List Pair) (text : List ℕ)
+    (p : Pair) (rest : List ℕ) : Type 0 where
   pub line : p.line ≡ n
   pub after : List ℕ
   pub is_key : IsWordAt true text p.key (58 ∷ after)
@@ -74,11 +78,13 @@ pub record IsFlowPair (n : ℕ) (IsValue : List ℕ → Node → List ℕ → Ty
 abbrev pub IsBracketed : ℕ → (List ℕ → Node → List ℕ → Type 0) → List ℕ → Node → List ℕ → Type 0
 IsBracketed n IsValue text t rest =
     ((items : List Node) × IsBetween 91 93 (λ before. IsValue) text items rest × (t ≡ sequence n (nodes_of items)))
-    ⊎ ((pairs : List Pair) × IsBetween 123 125 (IsFlowPair n IsValue) text pairs rest × (t ≡ mapping n (pairs_of pairs)))
+    ⊎ ((pairs : List Pair) × IsBetween 123 125 (IsFlowPair n IsValue) text pairs rest
+    × (t ≡ mapping n (pairs_of pairs)))
 
 -- a value in a list or mapping: a word, or one of these
 abbrev pub IsFlowValue : ℕ → (List ℕ → Node → List ℕ → Type 0) → List ℕ → Node → List ℕ → Type 0
-IsFlowValue n IsInner text t rest = ((value : List ℕ) × IsWordAt true text value rest × (t ≡ scalar n value)) ⊎ IsInner text t rest
+IsFlowValue n IsInner text t rest = ((value : List ℕ) × IsWordAt true text value rest × (t ≡ scalar n value))
+    ⊎ IsInner text t rest
 
 -- A text begins with a list or a mapping, at most so many of them one inside the other, all on the line n; this rest
 -- comes after it and the blanks after it.
@@ -95,29 +101,32 @@ is_ended blank (b ∷ bs) = blank && (b == 35)
 
 -- what comes after a bracket, a comma or a colon and the blanks that follow it
 unfoldable pub start_at : ℕ → List ℕ → Result (List ℕ) PlacedFault
-start_at n after = if is_ended (begins_blank after) (behind_blanks after) then fault_at Flow n 0 else Ok (behind_blanks after)
+start_at n after = if is_ended (begins_blank after) (behind_blanks after) then fault_at Flow n 0 else Ok
+    (behind_blanks after)
 
 -- what is wrong with a text in the place of a comma, of the closing byte, or of a key's colon
-unfoldable pub unexpected : ℕ → List ℕ → PlacedFault
-unexpected n text =
+unfoldable pub fault_in_flow : ℕ → List ℕ → PlacedFault
+fault_in_flow n text =
     if is_ended true text
-    then record { kind = Flow; line = n; left = 0 }
-    else record { kind = if begins_colon text then NotInSubset else Flow; line = n; left = length text }
+    then record { kind = Flow; line = n; bytes_left = 0 }
+    else record { kind = if begins_colon text then NotInSubset else Flow; line = n; bytes_left = length text }
 
 -- from the closing byte to what comes after it
 unfoldable pub behind_close_at : ℕ → List ℕ → Result (List ℕ) PlacedFault
 behind_close_at n [] = fault_at Flow n 0
-behind_close_at n (b ∷ after) = if begins_with 35 after then fault_at Flow n (length after) else Ok (behind_blanks after)
+behind_close_at n (b ∷ after) = if begins_with 35 after then fault_at Flow n (length after) else Ok
+    (behind_blanks after)
 
 -- from the end of a part to the next one, or to the closing byte
 unfoldable pub parted_at : ℕ → ℕ → List ℕ → Result (List ℕ) PlacedFault
-parted_at n close [] = Err (unexpected n [])
-parted_at n close (b ∷ after) = if b == 44 then start_at n after else (if b == close then Ok (b ∷ after) else Err (unexpected n (b ∷ after)))
+parted_at n close [] = Err (fault_in_flow n [])
+parted_at n close (b ∷ after) = if b == 44 then start_at n after else
+    (if b == close then Ok (b ∷ after) else Err (fault_in_flow n (b ∷ after)))
 
 -- from a key's colon to what comes after it
 unfoldable pub behind_colon_at : ℕ → List ℕ → Result (List ℕ) PlacedFault
-behind_colon_at n [] = Err (unexpected n [])
-behind_colon_at n (b ∷ after) = if begins_colon (b ∷ after) then Ok after else Err (unexpected n (b ∷ after))
+behind_colon_at n [] = Err (fault_in_flow n [])
+behind_colon_at n (b ∷ after) = if begins_colon (b ∷ after) then Ok after else Err (fault_in_flow n (b ∷ after))
 
 module _ {A : Type 0} (n close : ℕ) (part : List A → List ℕ → Result (A × List ℕ) PlacedFault) where
   -- The parts up to the closing byte, after those before: fewer than so many.
@@ -133,7 +142,8 @@ module _ {A : Type 0} (n close : ℕ) (part : List A → List ℕ → Result (A 
   between_at after = start_at n after >>= λ body. parts_at (suc (length body)) [] body
 
 -- the pair at the front, after pairs with these keys
-unfoldable pub flow_pair_at : ℕ → (List ℕ → Result (Node × List ℕ) PlacedFault) → List (List ℕ) → List ℕ → Result (Pair × List ℕ) PlacedFault
+unfoldable pub flow_pair_at : ℕ → (List ℕ → Result (Node × List ℕ) PlacedFault) → List (List ℕ) → List ℕ
+    → Result (Pair × List ℕ) PlacedFault
 flow_pair_at n value keys text =
     word_at n true text
     >>= λ w. behind_colon_at n w.1
@@ -145,13 +155,17 @@ flow_pair_at n value keys text =
     else (start_at n after >>= λ inner. value inner >>= λ v. Ok (record { line = n; key = w.0; value = v.0 }, v.1)))
 
 -- a list, and a mapping, after its opening byte
-unfoldable pub flow_list_at : ℕ → (List ℕ → Result (Node × List ℕ) PlacedFault) → List ℕ → Result (Node × List ℕ) PlacedFault
+unfoldable pub flow_list_at : ℕ → (List ℕ → Result (Node × List ℕ) PlacedFault) → List ℕ
+    → Result (Node × List ℕ) PlacedFault
 flow_list_at n value after = between_at n 93 (λ before. value) after >>= λ r. Ok (sequence n (nodes_of r.0), r.1)
 
-unfoldable pub flow_mapping_at : ℕ → (List ℕ → Result (Node × List ℕ) PlacedFault) → List ℕ → Result (Node × List ℕ) PlacedFault
-flow_mapping_at n value after = between_at n 125 (λ before. flow_pair_at n value (keys_of before)) after >>= λ r. Ok (mapping n (pairs_of r.0), r.1)
+unfoldable pub flow_mapping_at : ℕ → (List ℕ → Result (Node × List ℕ) PlacedFault) → List ℕ
+    → Result (Node × List ℕ) PlacedFault
+flow_mapping_at n value after = between_at n 125 (λ before. flow_pair_at n value (keys_of before)) after >>= λ r. Ok
+    (mapping n (pairs_of r.0), r.1)
 
-unfoldable pub bracketed_at : ℕ → (List ℕ → Result (Node × List ℕ) PlacedFault) → List ℕ → Result (Node × List ℕ) PlacedFault
+unfoldable pub bracketed_at : ℕ → (List ℕ → Result (Node × List ℕ) PlacedFault) → List ℕ
+    → Result (Node × List ℕ) PlacedFault
 bracketed_at n value [] = fault_at Flow n 0
 bracketed_at n value (b ∷ after) =
     if b == 91
@@ -159,8 +173,10 @@ bracketed_at n value (b ∷ after) =
     else (if b == 123 then flow_mapping_at n value after else fault_at Flow n (length (b ∷ after)))
 
 -- a value in a list or mapping
-unfoldable pub flow_value_at : ℕ → (List ℕ → Result (Node × List ℕ) PlacedFault) → List ℕ → Result (Node × List ℕ) PlacedFault
-flow_value_at n inner text = if begins_bracket text then inner text else (word_at n true text >>= λ w. Ok (scalar n w.0, w.1))
+unfoldable pub flow_value_at : ℕ → (List ℕ → Result (Node × List ℕ) PlacedFault) → List ℕ
+    → Result (Node × List ℕ) PlacedFault
+flow_value_at n inner text = if begins_bracket text then inner text else
+    (word_at n true text >>= λ w. Ok (scalar n w.0, w.1))
 
 -- The list or mapping at the front of a text, and what comes after it and the blanks that follow it.
 unfoldable pub flow_at : ℕ → ℕ → List ℕ → Result (Node × List ℕ) PlacedFault

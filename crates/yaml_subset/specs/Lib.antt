@@ -9,4 +9,4 @@ pub mod Placed
 pub mod Quoted
 pub mod Words
 pub mod Flow
-pub mod Inside
+pub mod ParserViews

@@ -16,7 +16,8 @@ pub record IsShortKey (text key after : List ℕ) : Type 0 where
 
 -- a word, or a list or mapping on one line, with at most so many of these one inside the other
 abbrev pub IsValueOf : ℕ → ℕ → List ℕ → Node → List ℕ → Type 0
-IsValueOf depth n text t rest = ((value : List ℕ) × IsWordAt false text value rest × (t ≡ scalar n value)) ⊎ IsFlow depth n text t rest
+IsValueOf depth n text t rest = ((value : List ℕ) × IsWordAt false text value rest × (t ≡ scalar n value))
+    ⊎ IsFlow depth n text t rest
 
 -- a value on the line n, and nothing after it but a comment
 abbrev pub IsNode : ℕ → ℕ → List ℕ → Node → Type 0
@@ -25,4 +26,5 @@ IsNode depth n text t = (rest : List ℕ) × IsValueOf depth n text t rest × (i
 -- what comes after the colon of an entry or the `-` of an item on the line n: a value or nothing
 abbrev pub IsInline : ℕ → ℕ → List ℕ → Option Node → Type 0
 IsInline depth n text None = (rest : List ℕ) × IsBehindBlanks text rest × (is_over rest ≡ true)
-IsInline depth n text (Some t) = (rest : List ℕ) × IsBehindBlanks text rest × (is_over rest ≡ false) × IsNode depth n rest t
+IsInline depth n text (Some t) = (rest : List ℕ) × IsBehindBlanks text rest × (is_over rest ≡ false)
+    × IsNode depth n rest t

@@ -1,7 +1,7 @@
 -- What contracts see of a tree, and of an answer.
 use Rattle.std.specs.{Prelude.{◌≡◌, ℕ, List, map, Option, Some, None, Result, Ok, Err}, Cow.cow_slice_items}
 pub use Rattle.yaml_bytes.specs.View.{option_slice}
-use Rattle.yaml_subset.specs.declared.fault.{Fault.Fault, YamlFault.YamlFault}
+use Rattle.yaml_subset.specs.declared.fault.{TextFault.TextFault, YamlFault.YamlFault}
 use Rattle.yaml_subset.specs.declared.fault.YamlFault.TheVariants as faults
 use Rattle.yaml_subset.specs.declared.tree.{Key.Key, Tree.{Tree, fold-Tree, TheOpen.Tree-F}, Word.Word}
 use Rattle.yaml_subset.specs.declared.tree.Word.TheVariants as words
@@ -51,10 +51,10 @@ pairs_in (mapping n pairs) = Some (list_pairs pairs)
 pairs_in _ = None
 
 -- An answer, seen by view, is what reading gives, unless memory ran out.
-abbrev pub FailsTree : {Y : Type 0} → YamlFault → Result Y Fault → Type 0
+abbrev pub FailsTree : {Y : Type 0} → YamlFault → Result Y TextFault → Type 0
 FailsTree faults.NoMemory read = Unit {0}
 FailsTree (faults.Text f) read = read ≡ Err f
 
-abbrev pub GivesTree : {X Y : Type 0} → (X → Y) → Result X YamlFault → Result Y Fault → Type 0
+abbrev pub GivesTree : {X Y : Type 0} → (X → Y) → Result X YamlFault → Result Y TextFault → Type 0
 GivesTree view (Ok x) read = read ≡ Ok (view x)
 GivesTree view (Err e) read = FailsTree e read

@@ -1,18 +1,21 @@
 //! Blocks of lines.
 
-ghost use Rattle.std.specs.Prelude.{◌≡◌, ℕ, ◌≤◌, List, [], ◌∷◌, ◌++◌, length, map, drop, get_or, Option, Some, None, IfOk};
+ghost use Rattle.std.specs.Prelude.{◌≡◌, ℕ, ◌≤◌, List, [], ◌∷◌, ◌++◌, length, map, drop, get_or, Option, Some, None};
+ghost use Rattle.std.specs.Prelude.{IfOk};
 ghost use Rattle.yaml_subset.specs.Keys.{copies_view, HasNoneOrAll};
 ghost use Rattle.yaml_subset.specs.Flow.{keys_of};
 ghost use Rattle.yaml_subset.specs.Node.{scalar};
-ghost use Rattle.yaml_subset.specs.Reading.{hangs, chunks, groups_of, hanging_len, misplaced, closed_at, entry_value_at, pair_at, mapping_at, inner, sequence_item_at, sequence_at, tree_at};
+ghost use Rattle.yaml_subset.specs.Reading.{hangs, chunks, groups_of, hanging_len, misplaced_line, closed_at};
+ghost use Rattle.yaml_subset.specs.Reading.{entry_value_at, pair_at, mapping_at, inner, sequence_item_at, sequence_at};
+ghost use Rattle.yaml_subset.specs.Reading.{tree_at};
 ghost use Rattle.yaml_subset.specs.Placed.{GivesOrHalts};
 ghost use Rattle.yaml_subset.specs.View.{node_view, pair_view};
-ghost use Rattle.yaml_subset.specs.Inside.{line_view, lines_view, node_option_view};
+ghost use Rattle.yaml_subset.specs.ParserViews.{line_view, lines_view, node_option_view};
 
-use crate::entry::{Head, head_of, inline, key_of};
-use crate::fault::FaultKind;
+use crate::entry::{LineHead, head_of, inline, key_of};
+use crate::fault::TextFaultKind;
 use crate::keys::{KeyHashing, KeySet, is_too_long, no_keys, take_next};
-use crate::line::Line;
+use crate::line::TextLine;
 use crate::place::Halt;
 use crate::tree::{Key, Tree, Word};
 use std::alloc::Global;
@@ -22,14 +25,14 @@ use yaml_bytes::{
 };
 
 // Whether a line hangs from an entry, or else from an item, at an indentation.
-fn hangs(entry: bool, indent: usize, line: &Line) -> bool
+fn hangs(entry: bool, indent: usize, line: &TextLine) -> bool
     ensures { result ≡ hangs entry indent (line_view line.now) }
 {
     indent < line.indent || (entry && line.indent == indent && begins_item(line.text()))
 }
 
 // How many lines at the front hang.
-fn hanging_len(entry: bool, indent: usize, lines: &[Line]) -> usize
+fn hanging_len(entry: bool, indent: usize, lines: &[TextLine]) -> usize
     ensures within { result ≤ length lines.now }
     ensures value { result ≡ hanging_len (hangs entry indent) (lines_view lines.now) }
 {
@@ -49,17 +52,18 @@ fn hanging_len(entry: bool, indent: usize, lines: &[Line]) -> usize
 fn split_below<'a, 'b>(
     entry: bool,
     indent: usize,
-    lines: &'a [Line<'b>],
-) -> (&'a [Line<'b>], &'a [Line<'b>])
+    lines: &'a [TextLine<'b>],
+) -> (&'a [TextLine<'b>], &'a [TextLine<'b>])
     ensures within { length result.0.now ≤ length lines.now }
     ensures after { result.1.now ≡ drop (length result.0.now) lines.now }
-    ensures parts { chunks (hangs entry indent) (lines_view lines.now) ≡ (lines_view result.0.now, groups_of (hangs entry indent) (lines_view result.1.now)) }
+    ensures parts { chunks (hangs entry indent) (lines_view lines.now)
+        ≡ (lines_view result.0.now, groups_of (hangs entry indent) (lines_view result.1.now)) }
 {
     lines.split_at(hanging_len(entry, indent, lines))
 }
 
 // How many lines do not hang: so many entries or items come after the first.
-fn apart_count(entry: bool, indent: usize, lines: &[Line]) -> usize
+fn apart_count(entry: bool, indent: usize, lines: &[TextLine]) -> usize
     ensures { result ≤ length lines.now }
 {
     lines
@@ -69,7 +73,7 @@ fn apart_count(entry: bool, indent: usize, lines: &[Line]) -> usize
 }
 
 // The line of a block at a place, where the first is given apart from the others.
-fn line_at<'a>(first: &Line<'a>, others: &[Line<'a>], at: usize) -> Line<'a>
+fn line_at<'a>(first: &TextLine<'a>, others: &[TextLine<'a>], at: usize) -> TextLine<'a>
     requires { at ≤ length others.now }
     ensures { result ≡ get_or (first.now ∷ others.now) at first.now }
 {
@@ -77,15 +81,21 @@ fn line_at<'a>(first: &Line<'a>, others: &[Line<'a>], at: usize) -> Line<'a>
 }
 
 // The fault of a line that has no place in its block.
-fn misplaced(around: Option<usize>, line: &Line) -> Halt
-    ensures { result ≡ Halt.At (record { kind = misplaced around (line_view line.now); line = line.now.number; left = length (drop line.now.indent line.now.raw.now) }) }
+fn misplaced_line(around: Option<usize>, line: &TextLine) -> Halt
+    ensures { result
+        ≡ Halt.At
+        (record {
+          kind = misplaced_line around (line_view line.now);
+          line = line.now.number;
+          bytes_left = length (drop line.now.indent line.now.raw.now);
+        }) }
 {
     let kind = match around {
-        None => FaultKind::Indent,
+        None => TextFaultKind::Indent,
         Some(around) => if line.indent == around {
-            FaultKind::NotInSubset
+            TextFaultKind::NotInSubset
         } else {
-            FaultKind::Indent
+            TextFaultKind::Indent
         },
     };
     line.fault(kind)
@@ -93,12 +103,16 @@ fn misplaced(around: Option<usize>, line: &Line) -> Halt
 
 // A value that is on a line, below which no line may be.
 #[tactic(auto, unfolding(crate::specs::Reading::closed_at))]
-fn closed<'a>(around: Option<usize>, value: Tree<'a>, below: &[Line]) -> Result<Tree<'a>, Halt>
+fn close_block<'a>(
+    around: Option<usize>,
+    value: Tree<'a>,
+    below: &[TextLine],
+) -> Result<Tree<'a>, Halt>
     ensures { GivesOrHalts node_view result (closed_at around (node_view value.entry) (lines_view below.now)) }
 {
     match below {
         [] => Ok(value),
-        [first, ..] => Err(misplaced(around, first)),
+        [first, ..] => Err(misplaced_line(around, first)),
     }
 }
 
@@ -119,13 +133,14 @@ fn value<'a>(
     number: u32,
     indent: usize,
     inline: Option<Tree<'a>>,
-    below: &[Line<'a>],
+    below: &[TextLine<'a>],
     levels: u8,
 ) -> Result<Tree<'a>, Halt>
-    ensures { GivesOrHalts node_view result (entry_value_at (tree_at levels 8) number indent (node_option_view inline.entry) (lines_view below.now)) }
+    ensures { GivesOrHalts node_view result
+        (entry_value_at (tree_at levels 8) number indent (node_option_view inline.entry) (lines_view below.now)) }
 {
     match inline {
-        Some(value) => closed(Some(indent), value, below),
+        Some(value) => close_block(Some(indent), value, below),
         None => match below {
             [] => {
                 let value = empty(number);
@@ -145,30 +160,33 @@ fn pair<'a>(
     hashing: KeyHashing,
     around: Option<usize>,
     indent: usize,
-    line: &Line<'a>,
-    below: &[Line<'a>],
+    line: &TextLine<'a>,
+    below: &[TextLine<'a>],
     pairs: &[(Key<'a>, Tree<'a>)],
     keys: &mut KeySet<'a>,
     levels: u8,
 ) -> Result<(Key<'a>, Tree<'a>), Halt>
     requires { HasNoneOrAll (copies_view keys.old) (keys_of (map pair_view pairs.now)) }
-    ensures value { GivesOrHalts pair_view result (pair_at 8 (tree_at levels 8) around indent (keys_of (map pair_view pairs.now)) (record { head = line_view line.now; below = lines_view below.now })) }
-    ensures known { IfOk result (λ pair. HasNoneOrAll (copies_view keys.new) (keys_of (map pair_view pairs.now) ++ (pair_view pair).key ∷ [])) }
+    ensures value { GivesOrHalts pair_view result
+        (pair_at 8 (tree_at levels 8) around indent (keys_of (map pair_view pairs.now))
+        (record { head = line_view line.now; below = lines_view below.now })) }
+    ensures known { IfOk result (λ pair. HasNoneOrAll (copies_view keys.new)
+        (keys_of (map pair_view pairs.now) ++ (pair_view pair).key ∷ [])) }
 {
     let number = line.number;
     if line.indent != indent {
-        return Err(misplaced(around, line));
+        return Err(misplaced_line(around, line));
     }
     let (key, after) = match key_of(alloc, number, line.text())? {
         Some(found) => found,
-        None => return Err(line.fault(FaultKind::NotInSubset)),
+        None => return Err(line.fault(TextFaultKind::NotInSubset)),
     };
     let fresh = take_next(keys, pairs, &key)?;
     if !fresh {
-        return Err(line.fault(FaultKind::DuplicateKey));
+        return Err(line.fault(TextFaultKind::DuplicateKey));
     }
     if is_too_long(before_colon(line.text(), after)) {
-        return Err(Halt::at(FaultKind::NotInSubset, number, after.len() + 1));
+        return Err(Halt::at(TextFaultKind::NotInSubset, number, after.len() + 1));
     }
     let inline = inline(alloc, hashing, number, after)?;
     let value = value(alloc, hashing, number, indent, inline, below, levels)?;
@@ -188,11 +206,12 @@ fn mapping<'a>(
     alloc: Global,
     hashing: KeyHashing,
     around: Option<usize>,
-    first: &Line<'a>,
-    others: &[Line<'a>],
+    first: &TextLine<'a>,
+    others: &[TextLine<'a>],
     levels: u8,
 ) -> Result<Tree<'a>, Halt>
-    ensures { GivesOrHalts node_view result (mapping_at 8 (tree_at levels 8) around (line_view first.now) (lines_view others.now)) }
+    ensures { GivesOrHalts node_view result
+        (mapping_at 8 (tree_at levels 8) around (line_view first.now) (lines_view others.now)) }
 {
     let indent = first.indent;
     let mut keys = no_keys(alloc, hashing);
@@ -212,11 +231,11 @@ fn mapping<'a>(
 }
 
 // What comes after the `-` of a line and the spaces there, as a line at its own column.
-fn inner<'a>(line: &Line<'a>, after: &[u8]) -> Line<'a>
+fn inner<'a>(line: &TextLine<'a>, after: &[u8]) -> TextLine<'a>
     requires { drop line.now.indent line.now.raw.now ≡ 45 ∷ after.now }
     ensures { line_view result ≡ inner (line_view line.now) after.now }
 {
-    Line {
+    TextLine {
         number: line.number,
         indent: line.indent + 1 + spaces_len(after),
         raw: line.raw,
@@ -231,31 +250,33 @@ fn item<'a>(
     hashing: KeyHashing,
     around: Option<usize>,
     indent: usize,
-    line: &Line<'a>,
-    below: &[Line<'a>],
+    line: &TextLine<'a>,
+    below: &[TextLine<'a>],
     levels: u8,
 ) -> Result<Tree<'a>, Halt>
-    ensures { GivesOrHalts node_view result (sequence_item_at 8 (tree_at levels 8) around indent (record { head = line_view line.now; below = lines_view below.now })) }
+    ensures { GivesOrHalts node_view result
+        (sequence_item_at 8 (tree_at levels 8) around indent
+        (record { head = line_view line.now; below = lines_view below.now })) }
 {
     let number = line.number;
     if line.indent != indent {
-        return Err(misplaced(around, line));
+        return Err(misplaced_line(around, line));
     }
     let after = match behind_dash(line.text()) {
         Some(after) => after,
-        None => return Err(line.fault(FaultKind::NotInSubset)),
+        None => return Err(line.fault(TextFaultKind::NotInSubset)),
     };
     let rest = behind_blanks(after);
     if is_over(rest) {
         return value(alloc, hashing, number, indent, None, below, levels);
     }
     match head_of(alloc, hashing, number, rest)? {
-        Head::Item(_) => Err(Halt::at(FaultKind::NotInSubset, number, rest.len())),
-        Head::Alone(node) => value(alloc, hashing, number, indent, Some(node), below, levels),
-        Head::Entry(_, _) => {
+        LineHead::Item(_) => Err(Halt::at(TextFaultKind::NotInSubset, number, rest.len())),
+        LineHead::Alone(node) => value(alloc, hashing, number, indent, Some(node), below, levels),
+        LineHead::Entry(_, _) => {
             let key = behind_spaces(after);
             if begins_blank(key) {
-                return Err(Halt::at(FaultKind::Tab, number, key.len()));
+                return Err(Halt::at(TextFaultKind::Tab, number, key.len()));
             }
             block(
                 alloc,
@@ -276,11 +297,12 @@ fn sequence<'a>(
     alloc: Global,
     hashing: KeyHashing,
     around: Option<usize>,
-    first: &Line<'a>,
-    others: &[Line<'a>],
+    first: &TextLine<'a>,
+    others: &[TextLine<'a>],
     levels: u8,
 ) -> Result<Tree<'a>, Halt>
-    ensures { GivesOrHalts node_view result (sequence_at 8 (tree_at levels 8) around (line_view first.now) (lines_view others.now)) }
+    ensures { GivesOrHalts node_view result
+        (sequence_at 8 (tree_at levels 8) around (line_view first.now) (lines_view others.now)) }
 {
     let indent = first.indent;
     let mut items = Vec::with_capacity(alloc, 1 + apart_count(false, indent, others))?;
@@ -304,17 +326,17 @@ fn block<'a>(
     alloc: Global,
     hashing: KeyHashing,
     around: Option<usize>,
-    first: &Line<'a>,
-    others: &[Line<'a>],
+    first: &TextLine<'a>,
+    others: &[TextLine<'a>],
     levels: u8,
 ) -> Result<Tree<'a>, Halt>
     ensures { GivesOrHalts node_view result (tree_at levels 8 around (line_view first.now ∷ lines_view others.now)) }
 {
     match head_of(alloc, hashing, first.number, first.text())? {
-        Head::Alone(value) => closed(around, value, others),
-        _ if levels == 0 => Err(first.fault(FaultKind::TooDeep)),
-        Head::Item(_) => sequence(alloc, hashing, around, first, others, levels - 1),
-        Head::Entry(_, _) => mapping(alloc, hashing, around, first, others, levels - 1),
+        LineHead::Alone(value) => close_block(around, value, others),
+        _ if levels == 0 => Err(first.fault(TextFaultKind::TooDeep)),
+        LineHead::Item(_) => sequence(alloc, hashing, around, first, others, levels - 1),
+        LineHead::Entry(_, _) => mapping(alloc, hashing, around, first, others, levels - 1),
     }
 }
 
@@ -323,7 +345,7 @@ fn block<'a>(
 pub fn tree<'a>(
     alloc: Global,
     hashing: KeyHashing,
-    lines: &[Line<'a>],
+    lines: &[TextLine<'a>],
     levels: u8,
 ) -> Result<Tree<'a>, Halt>
     ensures { GivesOrHalts node_view result (tree_at levels 8 None (lines_view lines.now)) }

@@ -3,9 +3,9 @@
 ghost use Rattle.std.specs.Prelude.{◌≡◌, IfOk};
 ghost use Rattle.yaml_subset.specs.Placed.{GivesOrHalts};
 ghost use Rattle.yaml_subset.specs.Reading.{text_head, head_at, key_at, inline_at};
-ghost use Rattle.yaml_subset.specs.Inside.{node_option_view, head_view, key_option_view};
+ghost use Rattle.yaml_subset.specs.ParserViews.{node_option_view, head_view, key_option_view};
 
-use crate::fault::FaultKind;
+use crate::fault::TextFaultKind;
 use crate::flow::{begins_bracket, flow};
 use crate::keys::KeyHashing;
 use crate::place::Halt;
@@ -20,7 +20,7 @@ pub const MAX_DEPTH: u8 = 8;
 
 /// What a line begins.
 #[derive(Drop)]
-pub enum Head<'a> {
+pub enum LineHead<'a> {
     /// An item: the text after its `-`.
     Item(&'a [u8]),
     /// An entry: its key, and the text after its colon.
@@ -31,20 +31,25 @@ pub enum Head<'a> {
 
 // What a line begins that is no item: an entry or a value.
 #[tactic(auto, unfolding(crate::specs::Reading::text_head, crate::specs::Reading::word_head, crate::specs::Reading::flow_head))]
-fn text_head(alloc: Global, hashing: KeyHashing, number: u32, text: &[u8]) -> Result<Head<'_>, Halt>
+fn text_head(
+    alloc: Global,
+    hashing: KeyHashing,
+    number: u32,
+    text: &[u8],
+) -> Result<LineHead<'_>, Halt>
     ensures { GivesOrHalts head_view result (text_head 8 number text.now) }
 {
     if begins_bracket(text) {
         let (value, rest) = flow(alloc, hashing, MAX_DEPTH, number, text)?;
         if !is_over(rest) {
-            return Err(Halt::at(FaultKind::Flow, number, rest.len()));
+            return Err(Halt::at(TextFaultKind::Flow, number, rest.len()));
         }
-        return Ok(Head::Alone(value));
+        return Ok(LineHead::Alone(value));
     }
     let (value, rest) = word(alloc, number, false, text)?;
     match rest {
-        [b':', after @ ..] => Ok(Head::Entry(value, after)),
-        _ => Ok(Head::Alone(Tree::scalar(alloc, number, value)?)),
+        [b':', after @ ..] => Ok(LineHead::Entry(value, after)),
+        _ => Ok(LineHead::Alone(Tree::scalar(alloc, number, value)?)),
     }
 }
 
@@ -55,11 +60,11 @@ pub fn head_of(
     hashing: KeyHashing,
     number: u32,
     text: &[u8],
-) -> Result<Head<'_>, Halt>
+) -> Result<LineHead<'_>, Halt>
     ensures { GivesOrHalts head_view result (head_at 8 number text.now) }
 {
     if let Some(after) = behind_dash(text) {
-        return Ok(Head::Item(after));
+        return Ok(LineHead::Item(after));
     }
     text_head(alloc, hashing, number, text)
 }
@@ -96,8 +101,12 @@ pub fn inline(
         return Ok(None);
     }
     match head_of(alloc, hashing, number, rest)? {
-        Head::Alone(value) => Ok(Some(value)),
-        Head::Item(_) => Err(Halt::at(FaultKind::NotInSubset, number, rest.len())),
-        Head::Entry(_, after) => Err(Halt::at(FaultKind::NotInSubset, number, after.len() + 1)),
+        LineHead::Alone(value) => Ok(Some(value)),
+        LineHead::Item(_) => Err(Halt::at(TextFaultKind::NotInSubset, number, rest.len())),
+        LineHead::Entry(_, after) => Err(Halt::at(
+            TextFaultKind::NotInSubset,
+            number,
+            after.len() + 1,
+        )),
     }
 }

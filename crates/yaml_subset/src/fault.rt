@@ -8,7 +8,7 @@ use thiserror::Error;
 
 /// What is wrong with a text at a line.
 #[derive(Clone, Copy, Debug, Error)]
-pub enum FaultKind {
+pub enum TextFaultKind {
     /// The bytes of the line are not UTF-8.
     #[error("NotUtf8")]
     NotUtf8,
@@ -47,8 +47,8 @@ pub enum FaultKind {
 /// A fault and the line where it is, counted from 1.
 #[derive(Clone, Copy, Debug, Error)]
 #[error("{kind} at line {line}")]
-pub struct Fault {
-    pub kind: FaultKind,
+pub struct TextFault {
+    pub kind: TextFaultKind,
     pub line: u32,
 }
 
@@ -60,24 +60,24 @@ pub enum YamlFault {
     NoMemory,
     /// The text has a fault: the first one.
     #[error(transparent)]
-    Text(Fault),
+    Text(TextFault),
 }
 
-impl Fault {
+impl TextFault {
     /// A fault of a kind at a line.
-    pub fn new(kind: FaultKind, line: u32) -> Self
+    pub fn new(kind: TextFaultKind, line: u32) -> Self
         ensures { result ≡ record { kind = kind; line = line } }
     {
-        Fault { kind, line }
+        TextFault { kind, line }
     }
 }
 
 impl YamlFault {
     /// The error that a text has a fault of a kind at a line.
-    pub fn at(kind: FaultKind, line: u32) -> Self
+    pub fn at(kind: TextFaultKind, line: u32) -> Self
         ensures { result ≡ YamlFault.Text (record { kind = kind; line = line }) }
     {
-        YamlFault::Text(Fault::new(kind, line))
+        YamlFault::Text(TextFault::new(kind, line))
     }
 }
 

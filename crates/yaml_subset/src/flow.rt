@@ -3,12 +3,14 @@
 ghost use Rattle.std.specs.Prelude.{◌≡◌, [], ◌∷◌, ◌++◌, map, IfOk};
 ghost use Rattle.yaml_subset.specs.Keys.{copies_view, HasNoneOrAll};
 ghost use Rattle.yaml_subset.specs.Placed.{GivesOrHalts};
-ghost use Rattle.yaml_subset.specs.Flow.{keys_of, begins_with, begins_colon, begins_bracket, is_ended, start_at, unexpected, behind_close_at, parted_at, behind_colon_at, flow_pair_at, flow_list_at, flow_mapping_at, bracketed_at, flow_value_at, flow_at};
+ghost use Rattle.yaml_subset.specs.Flow.{keys_of, begins_with, begins_colon, begins_bracket, is_ended, start_at};
+ghost use Rattle.yaml_subset.specs.Flow.{fault_in_flow, behind_close_at, parted_at, behind_colon_at, flow_pair_at};
+ghost use Rattle.yaml_subset.specs.Flow.{flow_list_at, flow_mapping_at, bracketed_at, flow_value_at, flow_at};
 ghost use Rattle.yaml_subset.specs.View.{pair_view};
 ghost use Rattle.yaml_bytes.specs.View.{rest_view};
-ghost use Rattle.yaml_subset.specs.Inside.{flow_view, flow_pair_view};
+ghost use Rattle.yaml_subset.specs.ParserViews.{flow_view, flow_pair_view};
 
-use crate::fault::FaultKind;
+use crate::fault::TextFaultKind;
 use crate::keys::{KeyHashing, KeySet, is_too_long, no_keys, take_next};
 use crate::place::{Halt, PlacedFault};
 use crate::tree::{Key, Tree};
@@ -63,24 +65,24 @@ fn start(number: u32, after: &[u8]) -> Result<&[u8], Halt>
 {
     let text = behind_blanks(after);
     if is_ended(begins_blank(after), text) {
-        return Err(Halt::at(FaultKind::Flow, number, 0));
+        return Err(Halt::at(TextFaultKind::Flow, number, 0));
     }
     Ok(text)
 }
 
 // What is wrong with a text in the place of a comma, of the closing byte, or of a
 // key's colon.
-#[tactic(auto, unfolding(crate::specs::Flow::unexpected))]
-fn unexpected(number: u32, text: &[u8]) -> PlacedFault
-    ensures { result ≡ unexpected number text.now }
+#[tactic(auto, unfolding(crate::specs::Flow::fault_in_flow))]
+fn fault_in_flow(number: u32, text: &[u8]) -> PlacedFault
+    ensures { result ≡ fault_in_flow number text.now }
 {
     if is_ended(true, text) {
-        return PlacedFault::new(FaultKind::Flow, number, 0);
+        return PlacedFault::new(TextFaultKind::Flow, number, 0);
     }
     let kind = if begins_colon(text) {
-        FaultKind::NotInSubset
+        TextFaultKind::NotInSubset
     } else {
-        FaultKind::Flow
+        TextFaultKind::Flow
     };
     PlacedFault::new(kind, number, text.len())
 }
@@ -91,10 +93,10 @@ fn behind_close(number: u32, text: &[u8]) -> Result<&[u8], Halt>
     ensures { GivesOrHalts rest_view result (behind_close_at number text.now) }
 {
     match text {
-        [] => Err(Halt::at(FaultKind::Flow, number, 0)),
+        [] => Err(Halt::at(TextFaultKind::Flow, number, 0)),
         [_, after @ ..] => {
             if begins_with(b'#', after) {
-                return Err(Halt::at(FaultKind::Flow, number, after.len()));
+                return Err(Halt::at(TextFaultKind::Flow, number, after.len()));
             }
             Ok(behind_blanks(after))
         }
@@ -103,13 +105,13 @@ fn behind_close(number: u32, text: &[u8]) -> Result<&[u8], Halt>
 
 // From the end of a part to the next one, or to the closing byte.
 #[tactic(auto, unfolding(crate::specs::Flow::parted_at))]
-fn parted(number: u32, close: u8, text: &[u8]) -> Result<&[u8], Halt>
+fn behind_part(number: u32, close: u8, text: &[u8]) -> Result<&[u8], Halt>
     ensures { GivesOrHalts rest_view result (parted_at number close text.now) }
 {
     match text {
         [b',', after @ ..] => start(number, after),
         [b, ..] if *b == close => Ok(text),
-        _ => Err(Halt::At(unexpected(number, text))),
+        _ => Err(Halt::At(fault_in_flow(number, text))),
     }
 }
 
@@ -120,7 +122,7 @@ fn behind_colon(number: u32, text: &[u8]) -> Result<&[u8], Halt>
 {
     match text {
         [b':', after @ ..] if begins_gap(after) => Ok(after),
-        _ => Err(Halt::At(unexpected(number, text))),
+        _ => Err(Halt::At(fault_in_flow(number, text))),
     }
 }
 
@@ -156,17 +158,20 @@ fn pair<'a>(
     text: &'a [u8],
 ) -> Result<((Key<'a>, Tree<'a>), &'a [u8]), Halt>
     requires { HasNoneOrAll (copies_view keys.old) (keys_of (map pair_view pairs.now)) }
-    ensures value { GivesOrHalts flow_pair_view result (flow_pair_at number (flow_value_at number (flow_at levels number)) (keys_of (map pair_view pairs.now)) text.now) }
-    ensures known { IfOk result (λ r. HasNoneOrAll (copies_view keys.new) (keys_of (map pair_view pairs.now) ++ (pair_view r.0).key ∷ [])) }
+    ensures value { GivesOrHalts flow_pair_view result
+        (flow_pair_at number (flow_value_at number (flow_at levels number)) (keys_of (map pair_view pairs.now))
+        text.now) }
+    ensures known { IfOk result (λ r. HasNoneOrAll (copies_view keys.new)
+        (keys_of (map pair_view pairs.now) ++ (pair_view r.0).key ∷ [])) }
 {
     let (key, colon) = word(alloc, number, true, text)?;
     let after = behind_colon(number, colon)?;
     let fresh = take_next(keys, pairs, &key)?;
     if !fresh {
-        return Err(Halt::at(FaultKind::DuplicateKey, number, text.len()));
+        return Err(Halt::at(TextFaultKind::DuplicateKey, number, text.len()));
     }
     if is_too_long(&text[..text.len() - colon.len()]) {
-        return Err(Halt::at(FaultKind::NotInSubset, number, colon.len()));
+        return Err(Halt::at(TextFaultKind::NotInSubset, number, colon.len()));
     }
     let (value, rest) = value(alloc, hashing, levels, number, start(number, after)?)?;
     Ok((
@@ -211,14 +216,15 @@ fn list(
     number: u32,
     after: &[u8],
 ) -> Result<(Tree<'_>, &[u8]), Halt>
-    ensures { GivesOrHalts flow_view result (flow_list_at number (flow_value_at number (flow_at levels number)) after.now) }
+    ensures { GivesOrHalts flow_view result
+        (flow_list_at number (flow_value_at number (flow_at levels number)) after.now) }
 {
     let mut text = start(number, after)?;
     let mut items = Vec::with_capacity(alloc, likely_items(text))?;
     while !begins_with(b']', text) {
         let (item, rest) = value(alloc, hashing, levels, number, text)?;
         items.push(item)?;
-        text = parted(number, b']', rest)?;
+        text = behind_part(number, b']', rest)?;
     }
     let rest = behind_close(number, text)?;
     items.shrink_to_fit();
@@ -235,7 +241,8 @@ fn mapping(
     number: u32,
     after: &[u8],
 ) -> Result<(Tree<'_>, &[u8]), Halt>
-    ensures { GivesOrHalts flow_view result (flow_mapping_at number (flow_value_at number (flow_at levels number)) after.now) }
+    ensures { GivesOrHalts flow_view result
+        (flow_mapping_at number (flow_value_at number (flow_at levels number)) after.now) }
 {
     let mut keys = no_keys(alloc, hashing);
     let mut text = start(number, after)?;
@@ -243,7 +250,7 @@ fn mapping(
     while !begins_with(b'}', text) {
         let (next, rest) = pair(alloc, hashing, levels, number, &pairs, &mut keys, text)?;
         pairs.push(next)?;
-        text = parted(number, b'}', rest)?;
+        text = behind_part(number, b'}', rest)?;
     }
     let rest = behind_close(number, text)?;
     pairs.shrink_to_fit();
@@ -271,11 +278,11 @@ pub fn flow(
     ensures { GivesOrHalts flow_view result (flow_at levels number text.now) }
 {
     if levels == 0 {
-        return Err(Halt::at(FaultKind::TooDeep, number, text.len()));
+        return Err(Halt::at(TextFaultKind::TooDeep, number, text.len()));
     }
     match text {
         [b'[', after @ ..] => list(alloc, hashing, levels - 1, number, after),
         [b'{', after @ ..] => mapping(alloc, hashing, levels - 1, number, after),
-        _ => Err(Halt::at(FaultKind::Flow, number, text.len())),
+        _ => Err(Halt::at(TextFaultKind::Flow, number, text.len())),
     }
 }

@@ -44,7 +44,9 @@ pub fn no_keys<'t>(alloc: Global, hashing: KeyHashing) -> KeySet<'t>
 /// Takes a key, and says whether it is new. If memory runs out, it may be taken or not.
 pub fn take_key<'t>(keys: &mut KeySet<'t>, key: CowSlice<'t, u8>) -> Result<bool, AllocError>
     ensures fresh { IfOk result (λ fresh. fresh ≡ not (is_among (copies_view keys.old) (cow_slice_items key.entry))) }
-    ensures known { IfOk result (λ fresh. (q : List ℕ) → is_among (copies_view keys.new) q ≡ (bytes_eq (cow_slice_items key.entry) q || is_among (copies_view keys.old) q)) }
+    ensures known { IfOk result (λ fresh. (q : List ℕ)
+        → is_among (copies_view keys.new) q
+        ≡ (bytes_eq (cow_slice_items key.entry) q || is_among (copies_view keys.old) q)) }
 {
     let fresh = keys.insert(key)?;
     Ok(fresh)
@@ -53,7 +55,9 @@ pub fn take_key<'t>(keys: &mut KeySet<'t>, key: CowSlice<'t, u8>) -> Result<bool
 // Takes a copy of a key, and says whether it is new. If memory runs out, it may be taken or not.
 fn take_copy<'t>(keys: &mut KeySet<'t>, key: &CowSlice<'t, u8>) -> Result<bool, AllocError>
     ensures fresh { IfOk result (λ fresh. fresh ≡ not (is_among (copies_view keys.old) (cow_slice_items key.now))) }
-    ensures known { IfOk result (λ fresh. (q : List ℕ) → is_among (copies_view keys.new) q ≡ (bytes_eq (cow_slice_items key.now) q || is_among (copies_view keys.old) q)) }
+    ensures known { IfOk result (λ fresh. (q : List ℕ)
+        → is_among (copies_view keys.new) q
+        ≡ (bytes_eq (cow_slice_items key.now) q || is_among (copies_view keys.old) q)) }
 {
     // The copy of a part of the text is the same part.
     let copy = key.clone()?;
@@ -63,7 +67,9 @@ fn take_copy<'t>(keys: &mut KeySet<'t>, key: &CowSlice<'t, u8>) -> Result<bool, 
 
 // Takes copies of the keys of pairs.
 fn take_all<'t>(keys: &mut KeySet<'t>, pairs: &[(Key<'t>, Tree<'t>)]) -> Result<(), AllocError>
-    ensures { IfOk result (λ _. (q : List ℕ) → is_among (copies_view keys.new) q ≡ (is_among (copies_view keys.old) q || is_among (keys_of (map pair_view pairs.now)) q)) }
+    ensures { IfOk result (λ _. (q : List ℕ)
+        → is_among (copies_view keys.new) q
+        ≡ (is_among (copies_view keys.old) q || is_among (keys_of (map pair_view pairs.now)) q)) }
 {
     let mut rest = pairs;
     while let [(key, _), after @ ..] = rest {
@@ -89,8 +95,10 @@ pub(crate) fn take_next<'t>(
     key: &CowSlice<'t, u8>,
 ) -> Result<bool, AllocError>
     requires { HasNoneOrAll (copies_view keys.old) (keys_of (map pair_view pairs.now)) }
-    ensures fresh { IfOk result (λ fresh. fresh ≡ not (is_among (keys_of (map pair_view pairs.now)) (cow_slice_items key.now))) }
-    ensures known { IfOk result (λ fresh. HasNoneOrAll (copies_view keys.new) (keys_of (map pair_view pairs.now) ++ cow_slice_items key.now ∷ [])) }
+    ensures fresh { IfOk result (λ fresh. fresh
+        ≡ not (is_among (keys_of (map pair_view pairs.now)) (cow_slice_items key.now))) }
+    ensures known { IfOk result (λ fresh. HasNoneOrAll (copies_view keys.new)
+        (keys_of (map pair_view pairs.now) ++ cow_slice_items key.now ∷ [])) }
 {
     if keys.is_empty() {
         if pairs.len() < FEW_KEYS {

@@ -31,6 +31,6 @@ pub mod reader;
 pub mod tree;
 mod words;
 
-pub use fault::{Fault, FaultKind, YamlFault};
+pub use fault::{TextFault, TextFaultKind, YamlFault};
 pub use reader::{read, read_hashed};
 pub use tree::{Key, Tree};

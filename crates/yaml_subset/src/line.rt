@@ -2,12 +2,12 @@
 
 ghost use Rattle.std.specs.Prelude.{◌≡◌, drop, length};
 
-use crate::fault::FaultKind;
+use crate::fault::TextFaultKind;
 use crate::place::Halt;
 
 /// A line of a text, read from a column on.
 #[derive(Clone, Copy)]
-pub struct Line<'a> {
+pub struct TextLine<'a> {
     /// The number of the line, counted from 1.
     pub number: u32,
     /// The column from which on it is read: the number of spaces at its front.
@@ -16,7 +16,7 @@ pub struct Line<'a> {
     pub raw: &'a [u8],
 }
 
-impl<'a> Line<'a> {
+impl<'a> TextLine<'a> {
     /// What comes from the column on.
     pub fn text(&self) -> &'a [u8]
         ensures { result.now ≡ drop self.now.indent self.now.raw.now }
@@ -31,8 +31,9 @@ impl<'a> Line<'a> {
     }
 
     /// The error that the line has a fault of a kind at its beginning.
-    pub fn fault(&self, kind: FaultKind) -> Halt
-        ensures { result ≡ Halt.At (record { kind = kind; line = self.now.number; left = length (drop self.now.indent self.now.raw.now) }) }
+    pub fn fault(&self, kind: TextFaultKind) -> Halt
+        ensures { result ≡ Halt.At (record
+            { kind = kind; line = self.now.number; bytes_left = length (drop self.now.indent self.now.raw.now) }) }
     {
         Halt::at(kind, self.number, self.text().len())
     }

@@ -6,10 +6,10 @@ ghost use Rattle.std.specs.Option.{option_to_list};
 ghost use Rattle.std.specs.Str.{chars};
 ghost use Rattle.yaml_bytes.specs.Lines.{lines_of};
 ghost use Rattle.yaml_subset.specs.Reading.{utf8_front, forbidden_left, blemish_at, content_at, contents_from};
-ghost use Rattle.yaml_subset.specs.Inside.{is_plain_byte, lines_view, line_option_view, GivesOrFaults};
+ghost use Rattle.yaml_subset.specs.ParserViews.{is_plain_byte, lines_view, line_option_view, GivesOrFaults};
 
-use crate::fault::FaultKind;
-use crate::line::Line;
+use crate::fault::TextFaultKind;
+use crate::line::TextLine;
 use crate::place::PlacedFault;
 use std::alloc::{AllocError, Global};
 use yaml_bytes::{
@@ -35,12 +35,12 @@ fn forbidden_left(text: &str) -> usize
     ensures within { result ≤ length text.now }
     ensures value { result ≡ forbidden_left (chars text.now) }
 {
-    let mut left = text.len();
+    let mut size = text.len();
     for c in text.chars() {
         if is_forbidden(c) {
-            return left;
+            return size;
         }
-        left -= c.len_utf8();
+        size -= c.len_utf8();
     }
     0
 }
@@ -76,19 +76,19 @@ fn blemish(number: u32, raw: &[u8]) -> Option<PlacedFault>
     }
     let front = utf8_front(raw);
     let behind = raw.len() - front.len();
-    let left = forbidden_left(front);
-    if left > 0 {
-        return Some(PlacedFault::new(FaultKind::NotInSubset, number, left + behind));
+    let size = forbidden_left(front);
+    if size > 0 {
+        return Some(PlacedFault::new(TextFaultKind::NotInSubset, number, size + behind));
     }
     if front.len() < raw.len() {
-        return Some(PlacedFault::new(FaultKind::NotUtf8, number, behind));
+        return Some(PlacedFault::new(TextFaultKind::NotUtf8, number, behind));
     }
     None
 }
 
 // The content of a line, or nothing if it is blank or a comment.
 #[tactic(auto, unfolding(crate::specs::Reading::content_at))]
-fn content(number: u32, raw: &[u8]) -> Result<Option<Line<'_>>, PlacedFault>
+fn content(number: u32, raw: &[u8]) -> Result<Option<TextLine<'_>>, PlacedFault>
     ensures { GivesOrFaults line_option_view result (content_at number raw.now) }
 {
     if is_over(behind_blanks(raw)) {
@@ -96,12 +96,12 @@ fn content(number: u32, raw: &[u8]) -> Result<Option<Line<'_>>, PlacedFault>
     }
     let text = behind_spaces(raw);
     if begins_blank(text) {
-        return Err(PlacedFault::new(FaultKind::Tab, number, text.len()));
+        return Err(PlacedFault::new(TextFaultKind::Tab, number, text.len()));
     }
     if is_document_marker(raw) {
-        return Err(PlacedFault::new(FaultKind::NotInSubset, number, raw.len()));
+        return Err(PlacedFault::new(TextFaultKind::NotInSubset, number, raw.len()));
     }
-    Ok(Some(Line {
+    Ok(Some(TextLine {
         number,
         indent: spaces_len(raw),
         raw,
@@ -112,15 +112,19 @@ fn content(number: u32, raw: &[u8]) -> Result<Option<Line<'_>>, PlacedFault>
 /// only the line's characters are at fault, it is the last of the lines.
 #[derive(Drop)]
 pub struct Contents<'a> {
-    pub lines: Vec<Line<'a>>,
+    pub lines: Vec<TextLine<'a>>,
     pub fault: Option<PlacedFault>,
 }
 
 // Puts a line after others, if there is one.
-fn push_line<'a>(lines: &mut Vec<Line<'a>>, found: Option<Line<'a>>) -> Result<(), AllocError>
-    ensures { IfOk result (λ _. lines_view lines.new.items ≡ lines_view lines.old.items ++ option_to_list (line_option_view found.entry)) }
+fn push_line<'a>(
+    lines: &mut Vec<TextLine<'a>>,
+    kept_line: Option<TextLine<'a>>,
+) -> Result<(), AllocError>
+    ensures { IfOk result (λ _. lines_view lines.new.items
+        ≡ lines_view lines.old.items ++ option_to_list (line_option_view kept_line.entry)) }
 {
-    if let Some(line) = found {
+    if let Some(line) = kept_line {
         lines.push(line)?;
     }
     Ok(())
@@ -129,15 +133,16 @@ fn push_line<'a>(lines: &mut Vec<Line<'a>>, found: Option<Line<'a>>) -> Result<(
 /// The lines of a text that have content.
 pub fn content_lines(alloc: Global, text: &[u8]) -> Result<Contents<'_>, AllocError>
     requires { length text.now ≤ 2 ^ 20 }
-    ensures { IfOk result (λ found. contents_from 1 (lines_of text.now) ≡ (lines_view found.lines.items, found.fault)) }
+    ensures { IfOk result (λ kept_line. contents_from 1 (lines_of text.now)
+        ≡ (lines_view kept_line.lines.items, kept_line.fault)) }
 {
     let mut lines = Vec::new(alloc);
     let mut number = 1;
     let mut rest = Some(text);
     while let Some(current) = rest {
         let (raw, after) = split_line(current);
-        let found = match content(number, raw) {
-            Ok(found) => found,
+        let kept_line = match content(number, raw) {
+            Ok(kept_line) => kept_line,
             Err(fault) => {
                 return Ok(Contents {
                     lines,
@@ -145,7 +150,7 @@ pub fn content_lines(alloc: Global, text: &[u8]) -> Result<Contents<'_>, AllocEr
                 });
             }
         };
-        push_line(&mut lines, found)?;
+        push_line(&mut lines, kept_line)?;
         if let Some(fault) = blemish(number, raw) {
             return Ok(Contents {
                 lines,

@@ -4,24 +4,28 @@ ghost use Rattle.std.specs.Prelude.{◌≡◌};
 ghost use Rattle.yaml_subset.specs.Reading.{is_before, first_fault};
 ghost use Rattle.yaml_subset.specs.declared.place.Halt.TheVariants.{NoMemory};
 
-use crate::fault::FaultKind;
+use crate::fault::TextFaultKind;
 use std::alloc::{AllocError, AllocFailed};
 
 /// A fault and its place, which is the number of its line's bytes from there to the end. Of two
 /// faults on a line, the left one has more bytes left.
 #[derive(Clone, Copy)]
 pub struct PlacedFault {
-    pub kind: FaultKind,
+    pub kind: TextFaultKind,
     pub line: u32,
-    pub left: usize,
+    pub bytes_left: usize,
 }
 
 impl PlacedFault {
     /// A fault of a kind on a line where so many of its bytes are left.
-    pub fn new(kind: FaultKind, line: u32, left: usize) -> Self
-        ensures { result ≡ record { kind = kind; line = line; left = left } }
+    pub fn new(kind: TextFaultKind, line: u32, bytes_left: usize) -> Self
+        ensures { result ≡ record { kind = kind; line = line; bytes_left = bytes_left } }
     {
-        PlacedFault { kind, line, left }
+        PlacedFault {
+            kind,
+            line,
+            bytes_left,
+        }
     }
 
     /// Whether the fault is on an earlier line than another, or to the left of it on the same
@@ -29,7 +33,7 @@ impl PlacedFault {
     pub fn is_before(&self, other: &PlacedFault) -> bool
         ensures { result ≡ is_before self.now other.now }
     {
-        self.line < other.line || (self.line == other.line && other.left < self.left)
+        self.line < other.line || (self.line == other.line && other.bytes_left < self.bytes_left)
     }
 
     /// The first of the fault and one that may be known. In the same place that is the known one.
@@ -54,10 +58,10 @@ pub enum Halt {
 
 impl Halt {
     /// The error that a line has a fault of a kind where so many of its bytes are left.
-    pub fn at(kind: FaultKind, line: u32, left: usize) -> Self
-        ensures { result ≡ Halt.At (record { kind = kind; line = line; left = left }) }
+    pub fn at(kind: TextFaultKind, line: u32, bytes_left: usize) -> Self
+        ensures { result ≡ Halt.At (record { kind = kind; line = line; bytes_left = bytes_left }) }
     {
-        Halt::At(PlacedFault::new(kind, line, left))
+        Halt::At(PlacedFault::new(kind, line, bytes_left))
     }
 }
 

@@ -3,10 +3,11 @@
 ghost use Rattle.std.specs.Prelude.{◌≡◌, ◌≤◌, length};
 ghost use Rattle.std.specs.List.{prefix_len};
 ghost use Rattle.yaml_subset.specs.Placed.{GivesOrHalts};
-ghost use Rattle.yaml_subset.specs.Quoted.{begins_single, is_itself_in_single, is_itself_in_double, single_at, double_byte_at, double_at, unescaped};
-ghost use Rattle.yaml_subset.specs.Inside.{quoted_view, word_view, byte_view};
+ghost use Rattle.yaml_subset.specs.Quoted.{begins_single, is_itself_in_single, is_itself_in_double, single_at};
+ghost use Rattle.yaml_subset.specs.Quoted.{double_byte_at, double_at, unescape};
+ghost use Rattle.yaml_subset.specs.ParserViews.{quoted_view, word_view, byte_view};
 
-use crate::fault::FaultKind;
+use crate::fault::TextFaultKind;
 use crate::place::Halt;
 use std::alloc::Global;
 use std::borrow::CowSlice;
@@ -45,7 +46,7 @@ fn each_single(alloc: Global, number: u32, text: &[u8]) -> Result<(Vec<u8>, &[u8
         }
         value.push(*b)?;
     }
-    Err(Halt::at(FaultKind::Quote, number, 0))
+    Err(Halt::at(TextFaultKind::Quote, number, 0))
 }
 
 /// The value of a text in single quotes, read from after the first quote on, and what follows the last.
@@ -64,8 +65,8 @@ pub fn single(alloc: Global, number: u32, text: &[u8]) -> Result<(CowSlice<'_, u
 }
 
 // What comes after a backslash for a byte.
-fn unescaped(b: u8) -> Option<u8>
-    ensures { result ≡ unescaped b }
+fn unescape(b: u8) -> Option<u8>
+    ensures { result ≡ unescape b }
 {
     match b {
         b'\\' => Some(b'\\'),
@@ -82,13 +83,13 @@ fn double_byte(number: u32, text: &[u8]) -> Result<(u8, &[u8]), Halt>
     ensures { GivesOrHalts byte_view result (double_byte_at number text.now) }
 {
     match text {
-        [b'\\', e, after @ ..] => match unescaped(*e) {
+        [b'\\', e, after @ ..] => match unescape(*e) {
             Some(b) => Ok((b, after)),
-            None => Err(Halt::at(FaultKind::Quote, number, text.len())),
+            None => Err(Halt::at(TextFaultKind::Quote, number, text.len())),
         },
-        [b'\\'] => Err(Halt::at(FaultKind::Quote, number, 1)),
+        [b'\\'] => Err(Halt::at(TextFaultKind::Quote, number, 1)),
         [b, after @ ..] => Ok((*b, after)),
-        [] => Err(Halt::at(FaultKind::Quote, number, 0)),
+        [] => Err(Halt::at(TextFaultKind::Quote, number, 0)),
     }
 }
 
@@ -121,7 +122,7 @@ fn each_double(alloc: Global, number: u32, text: &[u8]) -> Result<(Vec<u8>, &[u8
         value.push(byte)?;
         rest = more;
     }
-    Err(Halt::at(FaultKind::Quote, number, 0))
+    Err(Halt::at(TextFaultKind::Quote, number, 0))
 }
 
 /// The value of a text in double quotes, read from after the first quote on, and what follows the last.

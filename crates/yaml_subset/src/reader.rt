@@ -7,7 +7,7 @@ ghost use Rattle.yaml_subset.specs.Reading.{read_at};
 ghost use Rattle.yaml_subset.specs.View.{node_view, GivesTree};
 
 use crate::block::tree;
-use crate::fault::{FaultKind, YamlFault};
+use crate::fault::{TextFaultKind, YamlFault};
 use crate::keys::KeyHashing;
 use crate::lines::content_lines;
 use crate::place::Halt;
@@ -31,17 +31,17 @@ fn read_exactly<'a>(
     ensures { GivesTree node_view result (read_at text.now) }
 {
     if text.len() > MAX_BYTES {
-        return Err(YamlFault::at(FaultKind::TooLong, 1));
+        return Err(YamlFault::at(TextFaultKind::TooLong, 1));
     }
-    let found = content_lines(alloc, text)?;
-    match tree(alloc, hashing, &found.lines, MAX_LEVELS) {
-        Ok(tree) => match found.fault {
+    let text_lines = content_lines(alloc, text)?;
+    match tree(alloc, hashing, &text_lines.lines, MAX_LEVELS) {
+        Ok(tree) => match text_lines.fault {
             None => Ok(tree),
             Some(fault) => Err(YamlFault::at(fault.kind, fault.line)),
         },
         Err(Halt::NoMemory) => Err(YamlFault::NoMemory),
         Err(Halt::At(fault)) => {
-            let first = fault.or_known(found.fault);
+            let first = fault.or_known(text_lines.fault);
             Err(YamlFault::at(first.kind, first.line))
         }
     }
@@ -60,10 +60,12 @@ pub fn read(alloc: Global, text: &[u8]) -> Result<Tree<'_>, YamlFault>
     ensures found { IfOk result (λ tree. IsTreeOf 32 8 text.now (node_view tree)) }
 
     // The text has no other tree, however many levels are allowed.
-    ensures only { IfOk result (λ tree. (levels depth : ℕ) (t : Node) → IsTreeOf levels depth text.now t → t ≡ node_view tree) }
+    ensures only { IfOk result (λ tree. (levels depth : ℕ) (t : Node) → IsTreeOf levels depth text.now t
+        → t ≡ node_view tree) }
 
     // A text that is refused has no tree within the limits.
-    ensures refused { IfErr result (λ e. e ≢ YamlFault.NoMemory → (levels depth : ℕ) (t : Node) → IsTreeOf levels depth text.now t → IsTextAbove levels depth text.now) }
+    ensures refused { IfErr result (λ e. e ≢ YamlFault.NoMemory → (levels depth : ℕ) (t : Node)
+        → IsTreeOf levels depth text.now t → IsTextAbove levels depth text.now) }
 
     // Which fault it is, and its line, is what reading line by line gives.
     ensures exact { GivesTree node_view result (read_at text.now) }
@@ -86,10 +88,12 @@ pub fn read_hashed<'a>(
     ensures found { IfOk result (λ tree. IsTreeOf 32 8 text.now (node_view tree)) }
 
     // The text has no other tree, however many levels are allowed.
-    ensures only { IfOk result (λ tree. (levels depth : ℕ) (t : Node) → IsTreeOf levels depth text.now t → t ≡ node_view tree) }
+    ensures only { IfOk result (λ tree. (levels depth : ℕ) (t : Node) → IsTreeOf levels depth text.now t
+        → t ≡ node_view tree) }
 
     // A text that is refused has no tree within the limits.
-    ensures refused { IfErr result (λ e. e ≢ YamlFault.NoMemory → (levels depth : ℕ) (t : Node) → IsTreeOf levels depth text.now t → IsTextAbove levels depth text.now) }
+    ensures refused { IfErr result (λ e. e ≢ YamlFault.NoMemory → (levels depth : ℕ) (t : Node)
+        → IsTreeOf levels depth text.now t → IsTextAbove levels depth text.now) }
 
     // Which fault it is, and its line, is what reading line by line gives.
     ensures exact { GivesTree node_view result (read_at text.now) }

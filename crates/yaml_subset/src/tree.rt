@@ -3,7 +3,8 @@
 ghost use Rattle.std.specs.Prelude.{◌≡◌, IfOk, map};
 ghost use Rattle.std.specs.Cow.{cow_slice_items};
 ghost use Rattle.yaml_subset.specs.Node.{scalar};
-ghost use Rattle.yaml_subset.specs.View.{word_bytes, node_view, pair_view, line_of, text_in, items_in, pairs_in, option_slice};
+ghost use Rattle.yaml_subset.specs.View.{word_bytes, node_view, pair_view, line_of, text_in, items_in, pairs_in};
+ghost use Rattle.yaml_subset.specs.View.{option_slice};
 
 use std::alloc::{AllocError, Global};
 use std::borrow::CowSlice;

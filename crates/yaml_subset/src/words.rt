@@ -4,16 +4,16 @@ ghost use Rattle.std.specs.Prelude.{◌≡◌};
 ghost use Rattle.yaml_subset.specs.Placed.{GivesOrHalts};
 ghost use Rattle.yaml_subset.specs.Words.{breaks_flow, may_follow, misfit, plain_word_at, behind_quote, word_at};
 ghost use Rattle.yaml_bytes.specs.View.{rest_view};
-ghost use Rattle.yaml_subset.specs.Inside.{word_view};
+ghost use Rattle.yaml_subset.specs.ParserViews.{word_view};
 
-use crate::fault::FaultKind;
+use crate::fault::TextFaultKind;
 use crate::place::Halt;
 use crate::quotes::{double, single};
 use std::alloc::Global;
 use std::borrow::CowSlice;
 use yaml_bytes::{
     begins_bare_colon, begins_blank, begins_flow_indicator, begins_gap, begins_word, behind_blanks,
-    is_flow_indicator, is_mark, split_word, trimmed,
+    is_flow_indicator, is_mark, split_word, trim_blanks,
 };
 
 // Whether in flow a `:` comes first, and directly after it one of `, [ ] { }`.
@@ -38,7 +38,7 @@ fn may_follow(flow: bool, blank: bool, text: &[u8]) -> bool
 }
 
 // Why no word begins so.
-fn misfit(flow: bool, text: &[u8]) -> FaultKind
+fn misfit(flow: bool, text: &[u8]) -> TextFaultKind
     ensures { result ≡ misfit flow text.now }
 {
     let in_flow = match text {
@@ -48,9 +48,9 @@ fn misfit(flow: bool, text: &[u8]) -> FaultKind
         }
     };
     if flow && in_flow {
-        FaultKind::Flow
+        TextFaultKind::Flow
     } else {
-        FaultKind::NotInSubset
+        TextFaultKind::NotInSubset
     }
 }
 
@@ -64,9 +64,9 @@ fn plain(number: u32, flow: bool, text: &[u8]) -> Result<(CowSlice<'_, u8>, &[u8
     }
     let (front, rest) = split_word(flow, text);
     if breaks_flow(flow, rest) {
-        return Err(Halt::at(FaultKind::Flow, number, rest.len()));
+        return Err(Halt::at(TextFaultKind::Flow, number, rest.len()));
     }
-    Ok((CowSlice::Borrowed(trimmed(front)), rest))
+    Ok((CowSlice::Borrowed(trim_blanks(front)), rest))
 }
 
 // What comes after a text in quotes and the blanks that follow it, read from after the closing quote on.
@@ -79,9 +79,9 @@ fn behind_quote(number: u32, flow: bool, after: &[u8]) -> Result<&[u8], Halt>
         return Ok(rest);
     }
     let kind = if breaks_flow(flow, rest) {
-        FaultKind::Flow
+        TextFaultKind::Flow
     } else {
-        FaultKind::Quote
+        TextFaultKind::Quote
     };
     Err(Halt::at(kind, number, rest.len()))
 }

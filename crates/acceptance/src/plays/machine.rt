@@ -2,7 +2,7 @@
 
 use crate::plays::live::play_live;
 use arrayvec::ArrayVec;
-use coil_guard::{Board, FuseBoard, MemoryBoard, Taken};
+use coil_guard::{Board, FuseBoard, MemoryBoard, SharedCommands};
 use config_checker::Checked;
 use pinball_shell::{ShellFault, Verdict, play_text};
 use plan_tables::DeviceRow;
@@ -85,8 +85,8 @@ fn answer<B: Board>(
 }
 
 /// A board that faults at this command alone, or from it on, and the list of what it takes.
-fn fuse_board(alloc: Global, first: u64, onwards: bool) -> Option<(FuseBoard, Taken)> {
-    let taken: Taken = Rc::new(alloc, RefCell::new(ArrayVec::new())).ok()?;
+fn fuse_board(alloc: Global, first: u64, onwards: bool) -> Option<(FuseBoard, SharedCommands)> {
+    let taken: SharedCommands = Rc::new(alloc, RefCell::new(ArrayVec::new())).ok()?;
     let board = FuseBoard::new(first, onwards, taken.clone().ok()?);
     Some((board, taken))
 }
@@ -98,7 +98,7 @@ fn add_answer(pen: &mut Pen, answer: Result<Verdict, ShellFault>) {
     }
 }
 
-fn add_count(pen: &mut Pen, taken: &Taken) {
+fn add_count(pen: &mut Pen, taken: &SharedCommands) {
     pen.put(" ");
     match taken.try_borrow() {
         Ok(commands) => pen.value(commands.len()),

@@ -4,4 +4,5 @@ use Rattle.cascade_rank.proofs.costs.measure_devices.Given as goal
 
 -- the calls so far
 abbrev pub invariant-loop-row : goal.invariant-loop-row
-invariant-loop-row g l = g.M.Measure.Measures l.fn.measure (each_of (λ r. cost_of_call l.plan r l.call) (take l.row-index l.row-items)) l.measure l.total
+invariant-loop-row g l = g.M.Measure.Measures l.fn.measure
+    (each_of (λ r. cost_of_call l.plan r l.call) (take l.row-index l.row-items)) l.measure l.total

@@ -5,4 +5,6 @@ use Rattle.cascade_rank.proofs.costs.measure_ends.Given as goal
 
 -- the multiballs so far
 abbrev pub invariant-loop-number : goal.invariant-loop-number
-invariant-loop-number g l = g.M.Measure.Measures l.fn.measure (each_of (λ r. cost_of_call l.plan r (calls.Act End)) (passed l.plan (λ r. is_multiball (row_at l.plan r).settings) l.number)) l.measure l.total
+invariant-loop-number g l = g.M.Measure.Measures l.fn.measure
+    (each_of (λ r. cost_of_call l.plan r (calls.Act End))
+    (passed l.plan (λ r. is_multiball (row_at l.plan r).settings) l.number)) l.measure l.total

@@ -13,13 +13,18 @@ loop-number-preserved g c =
     let n = c.loop-number.number in
     let passes = λ (r : RowId). is_save (row_at c.args.plan.now r).settings in
     let cost = λ (r : RowId). cost_of_call c.args.plan.now r (calls.Act Save) in
-    let there : c.loop-number.number < length c.args.plan.now.rows = omega (arith, c.loop-number-test.true, ap (λ rows. length rows) c.rows-number-end.ensures.rows) in
-    let is : is_save (row_at c.args.plan.now (record { 0 = c.loop-number.number })).settings ≡ c.is_save.result = ap (λ (row : DeviceRow). is_save row.settings) (sym c.row.ensures.row) ∙ sym c.is_save.ensures in
+    let there : c.loop-number.number < length c.args.plan.now.rows =
+    omega (arith, c.loop-number-test.true, ap (λ rows. length rows) c.rows-number-end.ensures.rows) in
+    let is : is_save (row_at c.args.plan.now (record { 0 = c.loop-number.number })).settings ≡ c.is_save.result =
+    ap (λ (row : DeviceRow). is_save row.settings) (sym c.row.ensures.row) ∙ sym c.is_save.ensures in
     elim c.if-is_save.branch [
       | then-is_save w ↦ rw w.measure-is (rw w.dearest-is
-          (g.met.M.Measure.alike _ _ _ _ _ (dearest_passed plan passes cost n there (is ∙ w.if-is_save.true)) (w.greater-dearest.ensures _ _ _ _ c.loop-number.invariant w.measure_call-cost.ensures)))
+          (g.met.M.Measure.alike _ _ _ _ _ (dearest_passed plan passes cost n there (is ∙ w.if-is_save.true))
+          (w.greater-dearest.ensures _ _ _ _ c.loop-number.invariant w.measure_call-cost.ensures)))
       | else-is_save w ↦ rw w.measure-is (rw w.dearest-is
-          (subst (λ rows. g.M.Measure.Measures c.args.measure.now (dearest_of cost rows) c.loop-number.measure c.loop-number.dearest) (sym (passed_over plan passes n there (is ∙ w.if-is_save.false))) c.loop-number.invariant))
+          (subst (λ rows. g.M.Measure.Measures c.args.measure.now (dearest_of cost rows) c.loop-number.measure
+          c.loop-number.dearest) (sym (passed_over plan passes n there (is ∙ w.if-is_save.false)))
+          c.loop-number.invariant))
     ]
 
 pub returns : goal.returns

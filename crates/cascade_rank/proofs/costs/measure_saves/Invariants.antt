@@ -5,4 +5,6 @@ use Rattle.cascade_rank.proofs.costs.measure_saves.Given as goal
 
 -- the dearest of the ball saves so far
 abbrev pub invariant-loop-number : goal.invariant-loop-number
-invariant-loop-number g l = g.M.Measure.Measures l.fn.measure (dearest_of (λ r. cost_of_call l.plan r (calls.Act Save)) (passed l.plan (λ r. is_save (row_at l.plan r).settings) l.number)) l.measure l.dearest
+invariant-loop-number g l = g.M.Measure.Measures l.fn.measure
+    (dearest_of (λ r. cost_of_call l.plan r (calls.Act Save))
+    (passed l.plan (λ r. is_save (row_at l.plan r).settings) l.number)) l.measure l.dearest

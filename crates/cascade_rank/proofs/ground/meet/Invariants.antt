@@ -3,4 +3,5 @@ use Rattle.cascade_rank.specs.Order.{Meets}
 use Rattle.cascade_rank.proofs.ground.meet.Given as goal
 
 abbrev pub invariant-loop-event : goal.invariant-loop-event
-invariant-loop-event l = Meets l.leaders (take l.event-index l.leaders) l.fn.left l.fn.order.items l.left l.order.items
+invariant-loop-event l = Meets l.leaders (take l.event-index l.leaders) l.fn.unmet_counts l.fn.order.items
+    l.unmet_counts l.order.items

@@ -14,11 +14,15 @@ loop-list-preserved c =
     let rows = ap (λ r. list_count r.settings) c.row.ensures.row in
     let few = few_lists c.row.result.settings c.row.ensures.limits in
     let within : list < count = omega (arith, c.loop-list-test.true, c.list_count-count.ensures, rows, few) in
-    let here : get_or (range_with_len 0 count) list 0 ≡ list = omega (arith, get_or-range_with_len 0 count list 0 within) in
-    marked-more (λ k. actions_at plan (list_of_row plan row k)) (range_with_len 0 count) list 0 c.args.marks.now c.loop-list.marks c.mark_actions.new.marks
+    let here : get_or (range_with_len 0 count) list 0 ≡ list =
+    omega (arith, get_or-range_with_len 0 count list 0 within) in
+    marked-more (λ k. actions_at plan (list_of_row plan row k)) (range_with_len 0 count) list 0 c.args.marks.now
+    c.loop-list.marks c.mark_actions.new.marks
     (omega (arith, within, length-range_with_len 0 count)) c.loop-list.invariant
-    (subst (λ k. AreMarked c.loop-list.marks (actions_at plan (list_of_row plan row k)) c.mark_actions.new.marks) (sym here)
-    (subst (λ acts. AreMarked c.loop-list.marks acts c.mark_actions.new.marks) (c.list.ensures.actions ∙ ap (actions_at plan) c.list_of_row.ensures.list) c.mark_actions.ensures))
+    (subst (λ k. AreMarked c.loop-list.marks (actions_at plan (list_of_row plan row k)) c.mark_actions.new.marks)
+    (sym here)
+    (subst (λ acts. AreMarked c.loop-list.marks acts c.mark_actions.new.marks)
+    (c.list.ensures.actions ∙ ap (actions_at plan) c.list_of_row.ensures.list) c.mark_actions.ensures))
 
 pub returns : goal.returns
 returns c = search (rules, few_lists, take_all, length-range_with_len)

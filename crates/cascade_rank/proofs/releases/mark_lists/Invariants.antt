@@ -4,4 +4,6 @@ use Rattle.cascade_rank.specs.Marks.{AreMarked}
 use Rattle.cascade_rank.proofs.releases.mark_lists.Given as goal
 
 abbrev pub invariant-loop-list : goal.invariant-loop-list
-invariant-loop-list l = AreMarked l.initial.marks (flat_map (λ k. actions_at l.plan (list_of_row l.plan l.row k)) (take l.list (range_with_len 0 (list_count (row_at l.plan l.row).settings)))) l.marks
+invariant-loop-list l = AreMarked l.initial.marks
+    (flat_map (λ k. actions_at l.plan (list_of_row l.plan l.row k))
+    (take l.list (range_with_len 0 (list_count (row_at l.plan l.row).settings)))) l.marks

@@ -6,4 +6,5 @@ use Rattle.cascade_rank.proofs.stimuli.measure_alarms.Given as goal
 
 -- the dearest of the alarms so far
 abbrev pub invariant-loop-number : goal.invariant-loop-number
-invariant-loop-number g l = g.M.Measure.Measures l.fn.measure (dearest_of (λ r. cost_of_call l.plan r calls.Fire) (take l.number (row_numbers l.plan))) l.measure l.dearest
+invariant-loop-number g l = g.M.Measure.Measures l.fn.measure
+    (dearest_of (λ r. cost_of_call l.plan r calls.Fire) (take l.number (row_numbers l.plan))) l.measure l.dearest

@@ -7,6 +7,7 @@ overflow_cast-result c = search (rules, switch-within_bound)
 
 pub returns : goal.returns
 returns c =
-    let same = ap (λ (ws : List ℕ). price (weight_of ws) (cost_of_switch c.args.plan.now c.args.switch)) c.as_slice-weights.ensures in
+    let same = ap (λ (ws : List ℕ). price (weight_of ws) (cost_of_switch c.args.plan.now c.args.switch))
+    c.as_slice-weights.ensures in
     let within = switch-within_bound c.args.plan.now 0 (weight_of c.args.weights.now) c.args.switch c.requires.switch in
     omega (arith, same, within, c.requires.limit.bound_within, c.measure_switch.ensures.1)

@@ -10,9 +10,13 @@ pub returns-in-Some-clause-exact : goal.returns-in-Some-clause-exact
 returns-in-Some-clause-exact c =
     let same = ap length c.as_slice-weights.ensures in
     let count : length c.args.weights.now ≡ length c.args.plan.now.events = omega (arith, same) in
-    let found : IsFirstShort c.args.plan.now c.args.weights.now c.in-Some.event c.in-Some.needed
-    = subst (λ (ws : List ℕ). IsFirstShort c.args.plan.now ws c.in-Some.event c.in-Some.needed) c.as_slice-weights.ensures c.in-Some.ensures.short in
-    (short c.in-Some.event c.in-Some.needed, refl, verified_at-short c.args.plan.now c.args.weights.now count c.in-Some.event c.in-Some.needed found)
+    let found : IsFirstShort c.args.plan.now c.args.weights.now c.in-Some.event c.in-Some.least_weight
+    = subst (λ (ws : List ℕ). IsFirstShort c.args.plan.now ws c.in-Some.event c.in-Some.least_weight)
+    c.as_slice-weights.ensures c.in-Some.ensures.short in (
+      short c.in-Some.event c.in-Some.least_weight,
+      refl,
+      verified_at-short c.args.plan.now c.args.weights.now count c.in-Some.event c.in-Some.least_weight found,
+    )
 
 pub returns-in-None-clause-exact : goal.returns-in-None-clause-exact
 returns-in-None-clause-exact c = search (rules, GivesBound-limited)

@@ -1,4 +1,5 @@
-use Rattle.coil_guard.proofs.Lawful.{answers_are_by_commands, states_say_what_is_on, states_say_who_holds, lowest_is_on, lowest_is_released}
+use Rattle.coil_guard.proofs.Lawful.{answers_are_by_commands, states_say_what_is_on, states_say_who_holds, lowest_is_on}
+use Rattle.coil_guard.proofs.Lawful.{lowest_is_released}
 use Rattle.coil_guard.proofs.law.answers_are_by_commands.Goals as goal
 
 pub returns-clause-answers : goal.returns-clause-answers

@@ -8,8 +8,12 @@ unfolding pinball_app
 returns c =
     let top = λ (a : App). a.top in
     let one_is : app_of c.in_ok-command.command ≡ with_subcommand program_app check_app.top =
-    c.in_ok-command.ensures.shape c.in_ok-check.ensures.local ∙ ap₂ with_subcommand c.in_ok-top.ensures (ap top c.in_ok-check.ensures.shape) in
-    let two_is : app_of c.in_ok-command-2.command ≡ with_subcommand (with_subcommand program_app check_app.top) verify_app.top =
-    c.in_ok-command-2.ensures.shape c.in_ok-verify.ensures.local ∙ ap₂ with_subcommand one_is (ap top c.in_ok-verify.ensures.shape) in
+    c.in_ok-command.ensures.shape c.in_ok-check.ensures.local
+    ∙ ap₂ with_subcommand c.in_ok-top.ensures (ap top c.in_ok-check.ensures.shape) in
+    let two_is : app_of c.in_ok-command-2.command
+    ≡ with_subcommand (with_subcommand program_app check_app.top) verify_app.top =
+    c.in_ok-command-2.ensures.shape c.in_ok-verify.ensures.local
+    ∙ ap₂ with_subcommand one_is (ap top c.in_ok-verify.ensures.shape) in
     IfOk-weaker c.subcommand-3.result _ _
-    (λ r h. h.shape c.in_ok-play.ensures.local ∙ ap₂ with_subcommand two_is (ap top c.in_ok-play.ensures.shape)) c.subcommand-3.ensures
+    (λ r h. h.shape c.in_ok-play.ensures.local ∙ ap₂ with_subcommand two_is (ap top c.in_ok-play.ensures.shape))
+    c.subcommand-3.ensures

@@ -1,6 +1,7 @@
 use Rattle.std.proofs.Common.{◌≡◌, [], List, Global, IsSome, map, string_bytes, sym, ap, ◌∙◌, subst}
 use Rattle.std.proofs.lemmas.Result.{IfErr-weaker, IfOk-weaker}
-use Rattle.clap.specs.Words.{App, HasKind, Text, fault_of, is_simple, is_simple_and_free, subcommand_of, subcommand_rows_of}
+use Rattle.clap.specs.Words.{App, HasKind, Text, fault_of, is_simple, is_simple_and_free, subcommand_of}
+use Rattle.clap.specs.Words.{subcommand_rows_of}
 use Rattle.command_line.specs.CommandLine.{pinball_app, asked_of, asked_at}
 use Rattle.command_line.proofs.Words.{pinball_app_is_simple, pinball_app_is_free, answered, out_of_memory}
 use Rattle.command_line.proofs.ask.read_words.Goals as goal
@@ -13,7 +14,8 @@ returns-in-Ok-clause-asked c =
     (c.in-Ok.ensures.matches (ap is_simple c.in_ok-pinball.ensures ∙ pinball_app_is_simple)).1
     ∙ ap (λ (a : App). subcommand_of a words) c.in_ok-pinball.ensures in
     let none : fault_of pinball_app words ≡ [] =
-    sym (ap (λ (a : App). fault_of a words) c.in_ok-pinball.ensures) ∙ c.in-Ok.ensures.kinds (ap is_simple_and_free c.in_ok-pinball.ensures ∙ pinball_app_is_free) in
+    sym (ap (λ (a : App). fault_of a words) c.in_ok-pinball.ensures)
+    ∙ c.in-Ok.ensures.kinds (ap is_simple_and_free c.in_ok-pinball.ensures ∙ pinball_app_is_free) in
     IfOk-weaker c.ask_of.result _ _ (λ ask h. answered _ _ none ∙ ap asked_of (sym met) ∙ h) c.ask_of.ensures.asked
 
 pub returns-in-Ok-clause-only : goal.returns-in-Ok-clause-only
@@ -24,13 +26,16 @@ returns-in-Ok-clause-only c =
     (c.in-Ok.ensures.matches (ap is_simple c.in_ok-pinball.ensures ∙ pinball_app_is_simple)).1
     ∙ ap (λ (a : App). subcommand_of a words) c.in_ok-pinball.ensures in
     let none : fault_of pinball_app words ≡ [] =
-    sym (ap (λ (a : App). fault_of a words) c.in_ok-pinball.ensures) ∙ c.in-Ok.ensures.kinds (ap is_simple_and_free c.in_ok-pinball.ensures ∙ pinball_app_is_free) in
-    IfErr-weaker c.ask_of.result _ _ (λ fault h some. h (subst IsSome (answered _ _ none ∙ ap asked_of (sym met)) some)) c.ask_of.ensures.only
+    sym (ap (λ (a : App). fault_of a words) c.in_ok-pinball.ensures)
+    ∙ c.in-Ok.ensures.kinds (ap is_simple_and_free c.in_ok-pinball.ensures ∙ pinball_app_is_free) in
+    IfErr-weaker c.ask_of.result _ _ (λ fault h some. h (subst IsSome (answered _ _ none ∙ ap asked_of (sym met)) some))
+    c.ask_of.ensures.only
 
 pub returns-in-Err-clause-only : goal.returns-in-Err-clause-only
 unfolding asked_at
 returns-in-Err-clause-only c =
     let words : List Text = map (string_bytes {Z = Global}) c.args.words.now in
     let kinds : HasKind (fault_of pinball_app words) c.in-Err.error =
-    subst (λ (a : App). HasKind (fault_of a words) c.in-Err.error) c.in_ok-pinball.ensures (c.in-Err.ensures.kinds (ap is_simple_and_free c.in_ok-pinball.ensures ∙ pinball_app_is_free)) in
+    subst (λ (a : App). HasKind (fault_of a words) c.in-Err.error) c.in_ok-pinball.ensures
+    (c.in-Err.ensures.kinds (ap is_simple_and_free c.in_ok-pinball.ensures ∙ pinball_app_is_free)) in
     λ some. c.fault_of.ensures (out_of_memory _ _ c.in-Err.error kinds some)

@@ -13,8 +13,10 @@ returns-in-Ok-clause-asked c =
     (c.in-Ok.ensures.matches (ap is_simple c.in_ok-pinball_live.ensures ∙ live_app_is_simple)).0
     ∙ ap (λ (a : App). matches_of a words) c.in_ok-pinball_live.ensures in
     let none : fault_of live_app words ≡ [] =
-    sym (ap (λ (a : App). fault_of a words) c.in_ok-pinball_live.ensures) ∙ c.in-Ok.ensures.kinds (ap is_simple_and_free c.in_ok-pinball_live.ensures ∙ live_app_is_free) in
-    IfOk-weaker c.asked_of.result _ _ (λ ask h. live_answered _ _ none ∙ ap asked_in (sym met) ∙ h) c.asked_of.ensures.asked
+    sym (ap (λ (a : App). fault_of a words) c.in_ok-pinball_live.ensures)
+    ∙ c.in-Ok.ensures.kinds (ap is_simple_and_free c.in_ok-pinball_live.ensures ∙ live_app_is_free) in
+    IfOk-weaker c.asked_of.result _ _ (λ ask h. live_answered _ _ none ∙ ap asked_in (sym met) ∙ h)
+    c.asked_of.ensures.asked
 
 pub returns-in-Ok-clause-only : goal.returns-in-Ok-clause-only
 unfolding live_asked_at
@@ -24,13 +26,16 @@ returns-in-Ok-clause-only c =
     (c.in-Ok.ensures.matches (ap is_simple c.in_ok-pinball_live.ensures ∙ live_app_is_simple)).0
     ∙ ap (λ (a : App). matches_of a words) c.in_ok-pinball_live.ensures in
     let none : fault_of live_app words ≡ [] =
-    sym (ap (λ (a : App). fault_of a words) c.in_ok-pinball_live.ensures) ∙ c.in-Ok.ensures.kinds (ap is_simple_and_free c.in_ok-pinball_live.ensures ∙ live_app_is_free) in
-    IfErr-weaker c.asked_of.result _ _ (λ fault h some. h (subst IsSome (live_answered _ _ none ∙ ap asked_in (sym met)) some)) c.asked_of.ensures.only
+    sym (ap (λ (a : App). fault_of a words) c.in_ok-pinball_live.ensures)
+    ∙ c.in-Ok.ensures.kinds (ap is_simple_and_free c.in_ok-pinball_live.ensures ∙ live_app_is_free) in
+    IfErr-weaker c.asked_of.result _ _ (λ fault h some. h
+    (subst IsSome (live_answered _ _ none ∙ ap asked_in (sym met)) some)) c.asked_of.ensures.only
 
 pub returns-in-Err-clause-only : goal.returns-in-Err-clause-only
 unfolding live_asked_at
 returns-in-Err-clause-only c =
     let words : List Text = map (string_bytes {Z = Global}) c.args.words.now in
     let kinds : HasKind (fault_of live_app words) c.in-Err.error =
-    subst (λ (a : App). HasKind (fault_of a words) c.in-Err.error) c.in_ok-pinball_live.ensures (c.in-Err.ensures.kinds (ap is_simple_and_free c.in_ok-pinball_live.ensures ∙ live_app_is_free)) in
+    subst (λ (a : App). HasKind (fault_of a words) c.in-Err.error) c.in_ok-pinball_live.ensures
+    (c.in-Err.ensures.kinds (ap is_simple_and_free c.in_ok-pinball_live.ensures ∙ live_app_is_free)) in
     λ some. c.fault_of.ensures (no_memory _ _ c.in-Err.error kinds some)

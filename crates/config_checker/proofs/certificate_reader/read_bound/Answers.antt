@@ -7,4 +7,5 @@ returns-then-eq c =
     let word = c.in_ok-word.word.now in
     let number = c.in_ok-word.number.now in
     c.read_number.ensures
-    ∙ sym (bound_of_two word number c.args.line.now c.in_ok-word.ensures ∙ cond-true (bytes_eq word (codes "bound")) (number_in number) None (sym c.eq.ensures ∙ c.if-eq.true))
+    ∙ sym (bound_of_two word number c.args.line.now c.in_ok-word.ensures
+    ∙ cond-true (bytes_eq word (codes "bound")) (number_in number) None (sym c.eq.ensures ∙ c.if-eq.true))

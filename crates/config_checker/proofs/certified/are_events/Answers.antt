@@ -1,5 +1,6 @@
 use Rattle.std.proofs.Common.{rules, below_more}
-use Rattle.config_checker.proofs.Names.{same_names-count, same_names-other, same_names-all, length-names_of, place-other, place-same}
+use Rattle.config_checker.proofs.Names.{same_names-count, same_names-other, same_names-all, length-names_of}
+use Rattle.config_checker.proofs.Names.{place-other, place-same}
 use Rattle.config_checker.proofs.certified.are_events.Goals as goal
 
 pub returns-then-lines-event_count : goal.returns-then-lines-event_count

@@ -4,4 +4,5 @@ use Rattle.config_checker.proofs.certified.are_events.Given as goal
 
 -- the names so far are those of the events
 abbrev pub invariant-loop-number : goal.invariant-loop-number
-invariant-loop-number l = (k : ℕ) → k < l.number → get_or l.plan.events k [] ≡ get_or (names_of (lines_view l.lines)) k []
+invariant-loop-number l = (k : ℕ) → k < l.number
+    → get_or l.plan.events k [] ≡ get_or (names_of (lines_view l.lines)) k []

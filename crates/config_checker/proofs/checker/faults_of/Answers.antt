@@ -1,13 +1,15 @@
 use Rattle.std.proofs.Common.{rules, ◌≡◌, refl, ◌++◌, List, [], ◌∷◌, length, map, reverse, append_assoc, ap, ◌∙◌, arith}
 use Rattle.std.proofs.lemmas.List.{map-append, append-nil, reverse-append, reverse-reverse}
 use Rattle.row_faults.specs.{declared.fault.RowFault.RowFault, View.row_faults_view}
-use Rattle.config_checker.specs.{declared.report.Fault.Fault, FaultView.{FaultView, row}, View.faults_view}
-use Rattle.config_checker.specs.declared.report.Fault.TheVariants as faults
+use Rattle.config_checker.specs.{declared.report.CheckFault.CheckFault, FaultView.{FaultView, row}, View.faults_view}
+use Rattle.config_checker.specs.declared.report.CheckFault.TheVariants as faults
 use Rattle.config_checker.proofs.checker.faults_of.Goals as goal
 
 -- a fault that was left is there now
-moved : (old new : List Fault) (f : RowFault) (before after : List RowFault) (all : List FaultView) → new ≡ old ++ faults.Row f ∷ [] → before ≡ after ++ f ∷ []
-    → faults_view old ++ map row (row_faults_view (reverse before)) ≡ all → faults_view new ++ map row (row_faults_view (reverse after)) ≡ all
+moved : (old new : List CheckFault) (f : RowFault) (before after : List RowFault) (all : List FaultView)
+    → new ≡ old ++ faults.Row f ∷ [] → before ≡ after ++ f ∷ []
+    → faults_view old ++ map row (row_faults_view (reverse before)) ≡ all
+    → faults_view new ++ map row (row_faults_view (reverse after)) ≡ all
 moved old new f before after all more next h =
     let turned : reverse before ≡ f ∷ reverse after = ap reverse next ∙ reverse-append after (f ∷ []) in
     search (rules, map-append, append_assoc)

@@ -12,4 +12,6 @@ returns-clause-none c = always c.plan_within.result c.in_ok-refuse_own.ensures.n
     always x1 p = search rules
 
 pub returns-clause-refused : goal.returns-clause-refused
-returns-clause-refused c = IfErr-weaker c.plan_within.result _ _ (λ report one. no-plan-limit c.args.definitions.now report c.in_ok-refuse_own.ensures.none one) c.plan_within.ensures.limit
+returns-clause-refused c = IfErr-weaker c.plan_within.result _ _
+    (λ report one. no-plan-limit c.args.definitions.now report c.in_ok-refuse_own.ensures.none one)
+    c.plan_within.ensures.limit

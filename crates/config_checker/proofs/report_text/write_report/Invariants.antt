@@ -5,4 +5,5 @@ use Rattle.config_checker.proofs.report_text.write_report.Given as goal
 -- the lines of the faults so far are written
 abbrev pub invariant-loop-fault : goal.invariant-loop-fault
 invariant-loop-fault g l =
-    Appends (g.W.Write.contents l.fn.writer) (g.W.Write.contents l.writer) (flat_map (λ f. report_line (fault_view f)) (take l.fault-index l.faults))
+    Appends (g.W.Write.contents l.fn.writer) (g.W.Write.contents l.writer)
+    (flat_map (λ f. report_line (fault_view f)) (take l.fault-index l.faults))

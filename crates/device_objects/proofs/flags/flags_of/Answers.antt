@@ -20,4 +20,5 @@ loop-i-preserved c =
 
 pub returns : goal.returns
 returns c =
-    sym (flags-are c.args.mask c.loop-i.all c.loop-i.invariant.0 (λ k below. c.loop-i.invariant.1 k (omega (arith, below))))
+    sym (flags-are c.args.mask c.loop-i.all c.loop-i.invariant.0
+    (λ k below. c.loop-i.invariant.1 k (omega (arith, below))))

@@ -1,4 +1,4 @@
-use Rattle.event_queue.{specs.Inside.HasOrders, proofs.Handling.first_of}
+use Rattle.event_queue.{specs.OrderedLists.HasOrders, proofs.Handling.first_of}
 use Rattle.event_queue.proofs.orders.first_orders.Given as goal
 
 abbrev pub invariant-loop-number : goal.invariant-loop-number

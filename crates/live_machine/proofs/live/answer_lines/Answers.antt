@@ -13,10 +13,11 @@ loop-number-init g c =
     let first = c.args.player.now in
     let ready = c.requires.ready in
     record {
-      next = record { going = ready.going; page = ready.page; sent = c.requires.sent };
+      next = record { going = ready.going; page = ready.page; wire = c.requires.sent };
       plan = refl;
       same = refl;
-      going = going-none first.plan first.rig.checked.bound g.L.Link.shows_lines first.rig (wire_report g.L.Link.report c.args.wire.now) ready.running ready.rest;
+      going = going-none first.plan first.rig.checked.bound g.L.Link.shows_lines first.rig
+          (wire_report g.L.Link.report c.args.wire.now) ready.running ready.rest;
     }
 
 pub returns-in-Ok-None-clause-lines : goal.returns-in-Ok-None-clause-lines
@@ -25,9 +26,11 @@ returns-in-Ok-None-clause-lines g c =
     let first = c.args.player.now in
     let before : Option LinkView = wire_report report c.loop-number.wire in
     let after : Option LinkView = wire_report report c.hear.new.wire in
-    going-over first.plan first.rig.checked.bound g.L.Link.shows_lines c.loop-number.number first.rig c.loop-number.player.rig (wire_report report c.args.wire.now) before after
+    going-over first.plan first.rig.checked.bound g.L.Link.shows_lines c.loop-number.number first.rig
+    c.loop-number.player.rig (wire_report report c.args.wire.now) before after
     c.loop-number.verdict c.loop-number.invariant.going
-    (heard-none g.L.Link.shows_lines c.hear.new.room before after c.hear.result c.in-Ok-None.field-0 c.in-Ok-None.is c.in-Ok-None.field-0-is c.hear.ensures.heard)
+    (heard-none g.L.Link.shows_lines c.hear.new.room before after c.hear.result c.in-Ok-None.field-0 c.in-Ok-None.is
+    c.in-Ok-None.field-0-is c.hear.ensures.heard)
 
 pub returns-in-Err-clause-lines : goal.returns-in-Err-clause-lines
 returns-in-Err-clause-lines g c =
@@ -36,8 +39,10 @@ returns-in-Err-clause-lines g c =
     let before : Option LinkView = wire_report report c.loop-number.wire in
     let after : Option LinkView = wire_report report c.hear.new.wire in
     let size = c.hear.auto.room in
-    broken-goes first.plan g.L.Link.shows_lines first.rig c.loop-number.player.rig (wire_report report c.args.wire.now) after c.in-Err.fault c.in-Err.ensures.failed
-    (going-broken first.plan first.rig.checked.bound g.L.Link.shows_lines c.loop-number.number first.rig c.loop-number.player.rig (wire_report report c.args.wire.now) before after
+    broken-goes first.plan g.L.Link.shows_lines first.rig c.loop-number.player.rig (wire_report report c.args.wire.now)
+    after c.in-Err.fault c.in-Err.ensures.failed
+    (going-broken first.plan first.rig.checked.bound g.L.Link.shows_lines c.loop-number.number first.rig
+    c.loop-number.player.rig (wire_report report c.args.wire.now) before after
     c.loop-number.verdict c.loop-number.invariant.going _ c.in-Err.fault (omega (arith, size)) c.in-Err.ensures.heard)
 
 pub returns-in-Err-Board-clause-lines : goal.returns-in-Err-Board-clause-lines
@@ -57,19 +62,27 @@ returns-in-Err-Board-clause-lines g c =
     let end : Option LinkView = wire_report report c.refuse_last.new.wire in
     let written : Option (List ℕ) = append_known (wire_contents report c.hear.new.wire) now.page in
     let grown : Option (List ℕ) = append_known (wire_contents report c.answer_line.new.wire) next.page in
-    let heard = heard-line shows c.hear.new.room line c.in-Ok-Some.len before after c.hear.result c.in-Ok-Some.field-0 c.in-Ok-Some.is c.in-Ok-Some.field-0-is c.front.ensures c.hear.ensures.heard in
-    let fault = fault-same plan first.rig now.rig now.plan c.loop-number.invariant.plan c.loop-number.invariant.same number line next.rig written grown
-    (halts-in c.answer_line.result _ _ (c.in-Err-Board.is ∙ ap Err c.in-Err-Board.field-0-is) c.answer_line.ensures.answers) in
-    subst (λ (r : RigView). AnswersLines plan shows first.rig r begun end c.refuse_last.result) (sym (ap (λ (p : PlayerView). p.rig) c.refuse_last.ensures.kept))
+    let heard = heard-line shows c.hear.new.room line c.in-Ok-Some.len before after c.hear.result c.in-Ok-Some.field-0
+    c.in-Ok-Some.is c.in-Ok-Some.field-0-is c.front.ensures c.hear.ensures.heard in
+    let fault = fault-same plan first.rig now.rig now.plan c.loop-number.invariant.plan c.loop-number.invariant.same
+    number line next.rig written grown
+    (halts-in c.answer_line.result _ _ (c.in-Err-Board.is ∙ ap Err c.in-Err-Board.field-0-is)
+    c.answer_line.ensures.answers) in
+    subst (λ (r : RigView). AnswersLines plan shows first.rig r begun end c.refuse_last.result)
+    (sym (ap (λ (p : PlayerView). p.rig) c.refuse_last.ensures.kept))
     (refused-goes plan shows first.rig next.rig begun end c.refuse_last.result _
     (λ told v is.
-    going-fault plan bound shows number first.rig now.rig begun before after c.loop-number.verdict line c.loop-number.invariant.going heard next.rig end written grown v fault
-    (fault-told plan bound number line now.rig next.rig (report (writer_inner c.hear.new.wire).link) (report (writer_inner c.refuse_last.new.wire).link)
-    (writer_buffer c.hear.new.wire) (writer_buffer c.refuse_last.new.wire) grown now.page c.loop-number.invariant.next.page fault told) is)
+    going-fault plan bound shows number first.rig now.rig begun before after c.loop-number.verdict line
+    c.loop-number.invariant.going heard next.rig end written grown v fault
+    (fault-told plan bound number line now.rig next.rig (report (writer_inner c.hear.new.wire).link)
+    (report (writer_inner c.refuse_last.new.wire).link)
+    (writer_buffer c.hear.new.wire) (writer_buffer c.refuse_last.new.wire) grown now.page
+    c.loop-number.invariant.next.page fault told) is)
     c.refuse_last.ensures.written c.refuse_last.ensures.verdict c.refuse_last.ensures.failed)
 
 pub returns-in-Err-Board-clause-plan : goal.returns-in-Err-Board-clause-plan
-returns-in-Err-Board-clause-plan g c = ap (λ (p : PlayerView). p.plan) c.refuse_last.ensures.kept ∙ c.answer_line.ensures.plan ∙ c.loop-number.invariant.plan
+returns-in-Err-Board-clause-plan g c = ap (λ (p : PlayerView). p.plan) c.refuse_last.ensures.kept
+    ∙ c.answer_line.ensures.plan ∙ c.loop-number.invariant.plan
 
 pub loop-number-preserved : goal.loop-number-preserved
 loop-number-preserved g c =
@@ -83,14 +96,18 @@ loop-number-preserved g c =
     let before : Option LinkView = wire_report report c.loop-number.wire in
     let after : Option LinkView = wire_report report c.hear.new.wire in
     let last : Option LinkView = wire_report report c.answer_line.new.wire in
-    let heard = heard-line shows c.hear.new.room line c.in-Ok-Some.len before after c.hear.result c.in-Ok-Some.field-0 c.in-Ok-Some.is c.in-Ok-Some.field-0-is c.front.ensures c.hear.ensures.heard in
-    let answered = answered-same first.plan first.rig now.rig next.rig now.plan c.loop-number.invariant.plan c.loop-number.invariant.same number line after last c.in-Ok.found c.in-Ok.ensures.answers in
+    let heard = heard-line shows c.hear.new.room line c.in-Ok-Some.len before after c.hear.result c.in-Ok-Some.field-0
+    c.in-Ok-Some.is c.in-Ok-Some.field-0-is c.front.ensures c.hear.ensures.heard in
+    let answered = answered-same first.plan first.rig now.rig next.rig now.plan c.loop-number.invariant.plan
+    c.loop-number.invariant.same number line after last c.in-Ok.found c.in-Ok.ensures.answers in
     record {
       next = c.in-Ok.ensures.next;
       plan = c.answer_line.ensures.plan ∙ c.loop-number.invariant.plan;
-      same = answered.served.checked_is ∙ c.loop-number.invariant.same;
+      same = answered.service.checked_is ∙ c.loop-number.invariant.same;
       going =
-          going-more first.plan first.rig.checked.bound shows number first.rig now.rig (wire_report report c.args.wire.now) before after c.loop-number.verdict line c.loop-number.invariant.going heard
+          going-more first.plan first.rig.checked.bound shows number first.rig now.rig
+          (wire_report report c.args.wire.now) before after c.loop-number.verdict line c.loop-number.invariant.going
+          heard
           next.rig last c.worse-verdict.result c.in-Ok.found answered c.worse-verdict.ensures;
     }
 
@@ -99,5 +116,7 @@ returns-clause-lines g c =
     let report = g.L.Link.report in
     let first = c.args.player.now in
     let now : Option LinkView = wire_report report c.loop-number.wire in
-    going-many first.plan first.rig.checked.bound g.L.Link.shows_lines c.loop-number.number first.rig c.loop-number.player.rig (wire_report report c.args.wire.now) now now
-    c.loop-number.verdict c.loop-number.invariant.going (omega (arith, c.loop-number-test.false)) (reported-same now _ (λ v. refl))
+    going-many first.plan first.rig.checked.bound g.L.Link.shows_lines c.loop-number.number first.rig
+    c.loop-number.player.rig (wire_report report c.args.wire.now) now now
+    c.loop-number.verdict c.loop-number.invariant.going (omega (arith, c.loop-number-test.false))
+    (reported-same now _ (λ v. refl))

@@ -8,6 +8,7 @@ invariant-loop-number g l = record {
   next : IsNextReady l.player (writer_buffer l.wire);
   plan : l.player.plan ≡ l.fn.player.plan;
   same : l.player.rig.checked ≡ l.fn.player.rig.checked;
-  going : AreGoing l.fn.player.plan l.fn.player.rig.checked.bound g.L.Link.shows_lines l.number l.fn.player.rig l.player.rig
+  going : AreGoing l.fn.player.plan l.fn.player.rig.checked.bound g.L.Link.shows_lines l.number l.fn.player.rig
+      l.player.rig
       (wire_report g.L.Link.report l.fn.wire) (wire_report g.L.Link.report l.wire) l.verdict;
 }

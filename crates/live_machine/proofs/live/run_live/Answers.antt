@@ -9,7 +9,9 @@ use Rattle.live_machine.proofs.live.run_live.Goals as goal
 pub returns-in_err-player-clause-runs : goal.returns-in_err-player-clause-runs
 returns-in_err-player-clause-runs g c =
     let p = err_from_is_err_and c.from_residual.result c.from_residual.ensures.1 in
-    silent c.args.checked.now g.L.Link.shows_lines (board_view g.B.Board.told g.B.Board.fault_count g.B.Board.answers c.args.board) (wire_report g.L.Link.report c.args.wire.now) c.from_residual.result c.in_err-player.field-0.0
+    silent c.args.checked.now g.L.Link.shows_lines
+    (board_view g.B.Board.command_list g.B.Board.fault_count g.B.Board.answers c.args.board)
+    (wire_report g.L.Link.report c.args.wire.now) c.from_residual.result c.in_err-player.field-0.0
     (p.1 ∙ ap Err p.2) c.in_err-player.ensures.failed
 
 pub returns-in_err-player-clause-sent : goal.returns-in_err-player-clause-sent
@@ -20,13 +22,19 @@ returns-in_err-player-clause-sent g c =
 pub returns-in_err-player-clause-wrong : goal.returns-in_err-player-clause-wrong
 returns-in_err-player-clause-wrong g c =
     let p = err_from_is_err_and c.from_residual.result c.from_residual.ensures.1 in
-    subst (λ r. IsErrOf r faults.WrongDevice → IsFit c.args.checked.now.plan (map g.D.Device.row_of c.args.devices.items) (map g.D.Device.state_of c.args.devices.items) → ⊥) (sym (p.1 ∙ ap Err p.2)) (λ is. c.in_err-player.ensures.wrong (err-as c.in_err-player.field-0.0 faults.WrongDevice is))
+    subst (λ r. IsErrOf r faults.WrongDevice
+    → IsFit c.args.checked.now.plan (map g.D.Device.row_of c.args.devices.items)
+    (map g.D.Device.state_of c.args.devices.items) → ⊥) (sym (p.1 ∙ ap Err p.2))
+    (λ is. c.in_err-player.ensures.wrong (err-as c.in_err-player.field-0.0 faults.WrongDevice is))
 
 pub returns-clause-runs : goal.returns-clause-runs
 returns-clause-runs g c =
     let report = g.L.Link.report in
-    new-run c.in_ok-player.player.plan c.args.checked.now c.in_ok-player.player.rig (board_view g.B.Board.told g.B.Board.fault_count g.B.Board.answers c.args.board) g.L.Link.shows_lines
-    (wire_report report c.args.wire.now) (wire_report report c.run_player.new.wire) c.run_player.result (ap (λ (p : PlayerView). p.plan) c.in_ok-player.ensures.ready) (ap (λ (p : PlayerView). p.rig) c.in_ok-player.ensures.ready)
+    new-run c.in_ok-player.player.plan c.args.checked.now c.in_ok-player.player.rig
+    (board_view g.B.Board.command_list g.B.Board.fault_count g.B.Board.answers c.args.board) g.L.Link.shows_lines
+    (wire_report report c.args.wire.now) (wire_report report c.run_player.new.wire) c.run_player.result
+    (ap (λ (p : PlayerView). p.plan) c.in_ok-player.ensures.ready)
+    (ap (λ (p : PlayerView). p.rig) c.in_ok-player.ensures.ready)
     c.run_player.ensures.runs
 
 pub returns-clause-fit : goal.returns-clause-fit

@@ -10,15 +10,18 @@ returns-in-Ok-clause-runs g c =
     let report = g.L.Link.report in
     let first = c.args.player in
     let now = c.answer_lines-end.new.player in
-    let last : BoardView = board_view g.B.Board.told g.B.Board.fault_count g.B.Board.answers c.in-Ok._board in
+    let last : BoardView = board_view g.B.Board.command_list g.B.Board.fault_count g.B.Board.answers c.in-Ok._board in
     let begun : Option LinkView = wire_report report c.tell_due.new.wire in
     let mid : Option LinkView = wire_report report c.answer_lines-end.new.wire in
     let end : Option LinkView = wire_report report c.end_machine.new.wire in
     rig-run first.plan g.L.Link.shows_lines first.rig now.rig last (wire_report report c.args.wire.now) begun mid end
-    (due-told first.plan first.rig.machine c.next_due.result (report (writer_inner c.args.wire.now).link) (report (writer_inner c.tell_due.new.wire).link) (writer_buffer c.args.wire.now) (writer_buffer c.tell_due.new.wire) c.next_due.ensures c.requires.rest
+    (due-told first.plan first.rig.machine c.next_due.result (report (writer_inner c.args.wire.now).link)
+    (report (writer_inner c.tell_due.new.wire).link) (writer_buffer c.args.wire.now)
+    (writer_buffer c.tell_due.new.wire) c.next_due.ensures c.requires.rest
     (was-told c.tell_due.result _ (sym c.is_err.ensures.value ∙ c.if-is_err.false) c.tell_due.ensures.written))
     (subst (λ (p : PlanView). IsEnded p now.rig last mid end) c.answer_lines-end.ensures.plan c.in-Ok.ensures.done)
     c.answer_lines-end.result c.answer_lines-end.ensures.lines
 
 pub returns-in-Ok-clause-sent : goal.returns-in-Ok-clause-sent
-returns-in-Ok-clause-sent g c = is-sent c.answer_lines-end.result (writer_buffer c.end_machine.new.wire) c.in-Ok.ensures.sent
+returns-in-Ok-clause-sent g c = is-sent c.answer_lines-end.result (writer_buffer c.end_machine.new.wire)
+    c.in-Ok.ensures.sent

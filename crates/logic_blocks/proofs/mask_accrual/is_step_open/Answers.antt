@@ -17,7 +17,8 @@ returns-else-i-lt16-clause-open c =
       | inl past ↦
           let shut : false ≡ (nat_lt c.args.i c.args.settings.now.steps && rest) =
           never (nat_lt c.args.i c.args.settings.now.steps)
-          ∙ sym (ap (λ o. nat_lt c.args.i c.args.settings.now.steps && is_open o) (flags-past c.args.done c.args.i past.1)) in
+          ∙ sym (ap (λ o. nat_lt c.args.i c.args.settings.now.steps && is_open o)
+          (flags-past c.args.done c.args.i past.1)) in
           first_of (cc, grind (arith, common_steps, shut))
       | inr beyond ↦
           let shut : false ≡ (nat_lt c.args.i c.args.settings.now.steps && rest) =

@@ -1,12 +1,15 @@
 use Rattle.std.proofs.Common.{rules}
-use Rattle.machine_core.proofs.Entering.{booked-room, event-room, entered-there, entered-calls, tell-room, entered-awaited, drain-game, drain-room, entered-other}
+use Rattle.machine_core.proofs.Entering.{booked-room, event-room, entered-there, entered-calls, tell-room}
+use Rattle.machine_core.proofs.Entering.{entered-awaited, drain-game, drain-room, entered-other}
 use Rattle.machine_core.proofs.actions.enter.Goals as goal
 
 pub book-requires-clause-room : goal.book-requires-clause-room
-book-requires-clause-room g c = booked-room g.T.Tells.tell c.requires.goes c.args.owner c.args.device c.args.drain c.args.event c.args.core.now c.requires.room
+book-requires-clause-room g c = booked-room g.T.Tells.tell c.requires.goes c.args.owner c.args.device c.args.drain
+    c.args.event c.args.core.now c.requires.room
 
 pub post-requires : goal.post-requires
-post-requires g c = event-room g.T.Tells.tell c.requires.goes c.args.owner c.args.device c.args.drain c.args.event c.args.core.now c.requires.room c.book.new.self c.book.ensures
+post-requires g c = event-room g.T.Tells.tell c.requires.goes c.args.owner c.args.device c.args.drain c.args.event
+    c.args.core.now c.requires.room c.book.new.self c.book.ensures
 
 pub tell-requires-clause-there : goal.tell-requires-clause-there
 tell-requires-clause-there g c = search (rules, entered-there)
@@ -23,8 +26,8 @@ post_drain-requires-clause-game g c = search (rules, drain-game)
 pub post_drain-requires-clause-room : goal.post_drain-requires-clause-room
 post_drain-requires-clause-room g c = search (rules, drain-room)
 
-pub returns-then-awaited : goal.returns-then-awaited
-returns-then-awaited g c = search (rules, entered-awaited)
+pub returns-then-is_awaited : goal.returns-then-is_awaited
+returns-then-is_awaited g c = search (rules, entered-awaited)
 
-pub returns-else-awaited : goal.returns-else-awaited
-returns-else-awaited g c = search (rules, entered-other)
+pub returns-else-is_awaited : goal.returns-else-is_awaited
+returns-else-is_awaited g c = search (rules, entered-other)

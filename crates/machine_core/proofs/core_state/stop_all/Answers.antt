@@ -12,6 +12,8 @@ pub returns : goal.returns
 returns g c =
     let devices = c.args.devices.now in
     record {
-      rows = rows-stay g.D.Device.row_of g.D.Device.state_of c.args.moment c.args.world devices c.loop-device.device-items c.loop-device.device-index c.loop-device-test.false c.loop-device.invariant;
-      states = states-stopped g.D.Device.row_of g.D.Device.state_of c.args.moment c.args.world devices c.loop-device.device-items c.loop-device.device-index c.loop-device-test.false c.loop-device.invariant;
+      rows = rows-stay g.D.Device.row_of g.D.Device.state_of c.args.moment c.args.world devices
+          c.loop-device.device-items c.loop-device.device-index c.loop-device-test.false c.loop-device.invariant;
+      states = states-stopped g.D.Device.row_of g.D.Device.state_of c.args.moment c.args.world devices
+          c.loop-device.device-items c.loop-device.device-index c.loop-device-test.false c.loop-device.invariant;
     }

@@ -21,12 +21,18 @@ call_device-requires-clause-room g c =
     let i = c.loop-number.number in
     let call = calls.Act End in
     let same = ap (λ (p : PlanView). length p.rows) c.plan-plan.ensures in
-    let there : i < length plan.rows = omega (arith, same, c.loop-number-test.true, ap (λ rows. length rows) c.rows-number-end.ensures.rows) in
-    let row_is : c.row.result ≡ row_at plan (record { 0 = i }) = c.row.ensures.row ∙ ap (λ (p : PlanView). row_at p (record { 0 = i })) c.plan-plan.ensures in
-    let meant : multiplies plan (record { 0 = i }) ≡ true = ap (λ (row : DeviceRow). is_multiball row.settings) (sym row_is) ∙ sym c.is_multiball.ensures ∙ c.if-is_multiball.true in
-    room-first (λ (p : PlanView). call_device p call) (λ (p : PlanView) (r : RowId) (s : Machine). (goes-call p call r s).grows) c.loop-number.core
+    let there : i < length plan.rows = omega
+    (arith, same, c.loop-number-test.true, ap (λ rows. length rows) c.rows-number-end.ensures.rows) in
+    let row_is : c.row.result ≡ row_at plan (record { 0 = i }) = c.row.ensures.row
+    ∙ ap (λ (p : PlanView). row_at p (record { 0 = i })) c.plan-plan.ensures in
+    let meant : multiplies plan (record { 0 = i }) ≡ true =
+    ap (λ (row : DeviceRow). is_multiball row.settings) (sym row_is) ∙ sym c.is_multiball.ensures
+    ∙ c.if-is_multiball.true in
+    room-first (λ (p : PlanView). call_device p call)
+    (λ (p : PlanView) (r : RowId) (s : Machine). (goes-call p call r s).grows) c.loop-number.core
     (after (all_do (call_device plan call) (multiball_rows plan)) c.args.core.now)
-    (record { 0 = i }) (multiballs_from plan (i + 1)) (multiballs_from plan i) (row-first plan (multiplies plan) i there meant) c.loop-number.invariant.0 c.requires.room
+    (record { 0 = i }) (multiballs_from plan (i + 1)) (multiballs_from plan i)
+    (row-first plan (multiplies plan) i there meant) c.loop-number.invariant.0 c.requires.room
 
 pub loop-number-preserved : goal.loop-number-preserved
 loop-number-preserved g c =
@@ -37,18 +43,26 @@ loop-number-preserved g c =
     let left = multiballs_from plan i in
     let rest = multiballs_from plan (i + 1) in
     let same = ap (λ (p : PlanView). length p.rows) c.plan-plan.ensures in
-    let there : i < length plan.rows = omega (arith, same, c.loop-number-test.true, ap (λ rows. length rows) c.rows-number-end.ensures.rows) in
-    let row_is : c.row.result ≡ row_at plan (record { 0 = i }) = c.row.ensures.row ∙ ap (λ (p : PlanView). row_at p (record { 0 = i })) c.plan-plan.ensures in
-    let is : multiplies plan (record { 0 = i }) ≡ c.is_multiball.result = ap (λ (row : DeviceRow). is_multiball row.settings) (sym row_is) ∙ sym c.is_multiball.ensures in
+    let there : i < length plan.rows = omega
+    (arith, same, c.loop-number-test.true, ap (λ rows. length rows) c.rows-number-end.ensures.rows) in
+    let row_is : c.row.result ≡ row_at plan (record { 0 = i }) = c.row.ensures.row
+    ∙ ap (λ (p : PlanView). row_at p (record { 0 = i })) c.plan-plan.ensures in
+    let is : multiplies plan (record { 0 = i }) ≡ c.is_multiball.result =
+    ap (λ (row : DeviceRow). is_multiball row.settings) (sym row_is) ∙ sym c.is_multiball.ensures in
     elim c.if-is_multiball.branch [
       | then-is_multiball w ↦ (
-        all_do-first (λ (p : PlanView). call_device p call) c.loop-number.core c.if-is_multiball.core all (record { 0 = i }) rest left (row-first plan (multiplies plan) i there (is ∙ w.if-is_multiball.true)) c.loop-number.invariant.0
+        all_do-first (λ (p : PlanView). call_device p call) c.loop-number.core c.if-is_multiball.core all
+            (record { 0 = i }) rest left (row-first plan (multiplies plan) i there (is ∙ w.if-is_multiball.true))
+            c.loop-number.invariant.0
             (w.core-is ∙ w.call_device.ensures),
-        call-calls call (record { 0 = i }) c.loop-number.core c.if-is_multiball.core (w.core-is ∙ w.call_device.ensures) c.loop-number.invariant.1,
+        call-calls call (record { 0 = i }) c.loop-number.core c.if-is_multiball.core (w.core-is ∙ w.call_device.ensures)
+            c.loop-number.invariant.1,
       )
       | else-is_multiball w ↦ (
         subst (λ (core : CoreView). after (all_do (call_device core.plan call) rest) core ≡ all) (sym w.core-is)
-            (subst (λ (rs : List RowId). after (all_do (call_device c.loop-number.core.plan call) rs) c.loop-number.core ≡ all) (row-other plan (multiplies plan) i there (is ∙ w.if-is_multiball.false)) c.loop-number.invariant.0),
+            (subst (λ (rs : List RowId). after (all_do (call_device c.loop-number.core.plan call) rs) c.loop-number.core
+            ≡ all) (row-other plan (multiplies plan) i there (is ∙ w.if-is_multiball.false))
+            c.loop-number.invariant.0),
         subst CanCall (sym w.core-is) c.loop-number.invariant.1,
       )
     ]

@@ -4,4 +4,5 @@ use Rattle.machine_core.proofs.fit.first_wrong.Given as goal
 
 -- the devices before are right
 abbrev pub invariant-loop-number : goal.invariant-loop-number
-invariant-loop-number g l = (other : ℕ) → other < l.number → IsRight l.plan (map g.D.Device.row_of l.devices) (map g.D.Device.state_of l.devices) other
+invariant-loop-number g l = (other : ℕ) → other < l.number
+    → IsRight l.plan (map g.D.Device.row_of l.devices) (map g.D.Device.state_of l.devices) other

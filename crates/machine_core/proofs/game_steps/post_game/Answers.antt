@@ -8,7 +8,8 @@ pub post-requires : goal.post-requires
 post-requires g c =
     let events = c.args.events.now in
     let i = c.loop-event.event-index in
-    game-room c.loop-event.core (after (all_do (post_game c.args.core.now.plan) events) c.args.core.now) (get_or events i SwStart) (drop (i + 1) events) (drop i events)
+    game-room c.loop-event.core (after (all_do (post_game c.args.core.now.plan) events) c.args.core.now)
+    (get_or events i SwStart) (drop (i + 1) events) (drop i events)
     (drop_more events i SwStart c.loop-event-test.true) c.loop-event.invariant c.requires.room
 
 pub loop-event-preserved : goal.loop-event-preserved

@@ -12,8 +12,10 @@ tell_score-requires-clause-room g c =
     let there : place < count = omega arith in
     let tells : c.args.tells ≡ true = search (rules, c.if-not-tells.false) in
     let room : IsWithin c.args.core.now.room (all_do (write_final plan) players c.args.core.now.machine) =
-    subst (λ (b : Bool). IsWithin c.args.core.now.room (write_finals plan b c.args.core.now.machine)) tells c.requires in
-    final-room c.loop-place.core (after (all_do (write_final plan) players) c.args.core.now) (place + 1) (range_with_len (place + 1 + 1) (count - (place + 1))) (range_with_len (place + 1) (count - place))
+    subst (λ (b : Bool). IsWithin c.args.core.now.room (write_finals plan b c.args.core.now.machine)) tells c.requires
+    in
+    final-room c.loop-place.core (after (all_do (write_final plan) players) c.args.core.now) (place + 1)
+    (range_with_len (place + 1 + 1) (count - (place + 1))) (range_with_len (place + 1) (count - place))
     (finals-first place count there) c.loop-place.invariant.0 room
 
 pub loop-place-preserved : goal.loop-place-preserved

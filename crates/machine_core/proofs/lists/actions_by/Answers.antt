@@ -19,8 +19,12 @@ run_by-requires-clause-room g c =
     let actions = c.args.actions.now in
     let i = c.loop-action.action-index in
     let run = λ (p : PlanView) (a : Action). do_action_by p (g.T.Tells.tell p) owner a in
-    room-first run (λ (p : PlanView) (a : Action) (s : Machine). (goes-action_by p (g.T.Tells.tell p) (c.requires.goes p) owner a s).grows) c.loop-action.core (after (all_do (do_action_by c.args.core.now.plan (g.T.Tells.tell c.args.core.now.plan) owner) actions) c.args.core.now)
-    (get_or actions i none) (drop (i + 1) actions) (drop i actions) (drop_more actions i none c.loop-action-test.true) c.loop-action.invariant.0 c.requires.room
+    room-first run (λ (p : PlanView) (a : Action) (s : Machine).
+    (goes-action_by p (g.T.Tells.tell p) (c.requires.goes p) owner a s).grows) c.loop-action.core
+    (after (all_do (do_action_by c.args.core.now.plan (g.T.Tells.tell c.args.core.now.plan) owner) actions)
+    c.args.core.now)
+    (get_or actions i none) (drop (i + 1) actions) (drop i actions) (drop_more actions i none c.loop-action-test.true)
+    c.loop-action.invariant.0 c.requires.room
 
 pub loop-action-preserved : goal.loop-action-preserved
 unfolding none
@@ -30,7 +34,12 @@ loop-action-preserved g c =
     let actions = c.args.actions.now in
     let i = c.loop-action.action-index in
     let a = get_or actions i none in (
-      all_do-first (λ (p : PlanView). do_action_by p (g.T.Tells.tell p) owner) core c.run_by.new.core (after (all_do (do_action_by c.args.core.now.plan (g.T.Tells.tell c.args.core.now.plan) owner) actions) c.args.core.now) a (drop (i + 1) actions) (drop i actions)
+      all_do-first (λ (p : PlanView). do_action_by p (g.T.Tells.tell p) owner) core c.run_by.new.core
+          (after (all_do (do_action_by c.args.core.now.plan (g.T.Tells.tell c.args.core.now.plan) owner) actions)
+          c.args.core.now) a (drop (i + 1) actions) (drop i actions)
           (drop_more actions i none c.loop-action-test.true) c.loop-action.invariant.0 c.run_by.ensures,
-      subst CanCall (sym c.run_by.ensures) (goes-can core (do_action_by core.plan (g.T.Tells.tell core.plan) owner a) (goes-action_by core.plan (g.T.Tells.tell core.plan) (c.requires.goes core.plan) owner a core.machine) c.loop-action.invariant.1),
+      subst CanCall (sym c.run_by.ensures)
+          (goes-can core (do_action_by core.plan (g.T.Tells.tell core.plan) owner a)
+          (goes-action_by core.plan (g.T.Tells.tell core.plan) (c.requires.goes core.plan) owner a core.machine)
+          c.loop-action.invariant.1),
     )

@@ -11,8 +11,10 @@ pub run_accepted-requires-clause-room : goal.run_accepted-requires-clause-room
 run_accepted-requires-clause-room g c =
     let core = c.args.core.now in
     let changed = set_switches (after_change c.args.switch c.args.level c.args.at core.machine.switches) core.machine in
-    subst (λ (v : CoreView). IsWithin v.room (do_accepted v.plan c.in-Some.change v.machine)) (sym c.change.ensures.changed)
-    (subst (λ (o : Option Change). IsWithin core.room (do_if_accepted core.plan o changed)) (sym c.in-Some.ensures.reported) c.requires.room)
+    subst (λ (v : CoreView). IsWithin v.room (do_accepted v.plan c.in-Some.change v.machine))
+    (sym c.change.ensures.changed)
+    (subst (λ (o : Option Change). IsWithin core.room (do_if_accepted core.plan o changed))
+    (sym c.in-Some.ensures.reported) c.requires.room)
 
 pub returns-in-Some : goal.returns-in-Some
 returns-in-Some g c =
@@ -20,4 +22,5 @@ returns-in-Some g c =
     let changed = set_switches (after_change c.args.switch c.args.level c.args.at core.machine.switches) core.machine in
     c.run_accepted.ensures
     ∙ ap (λ (v : CoreView). after (do_accepted v.plan c.in-Some.change) v) c.change.ensures.changed
-    ∙ ap (λ (o : Option Change). record core { machine = do_if_accepted core.plan o changed }) c.in-Some.ensures.reported
+    ∙ ap (λ (o : Option Change). record core { machine = do_if_accepted core.plan o changed })
+    c.in-Some.ensures.reported

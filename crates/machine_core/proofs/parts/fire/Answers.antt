@@ -17,5 +17,7 @@ run_accepted-requires-clause-room g c = search (rules, fired-room)
 
 pub returns-in-Switch : goal.returns-in-Switch
 returns-in-Switch g c =
-    fired-done c.args.core.now (source_view c.args.source) c.requires.next c.in-Switch.field-0 (ap source_view c.in-Switch.is)
-    c.fire-change.result c.fire-change.ensures.reported c.fire-change.new.self c.fire-change.ensures.fired c.run_accepted.new.core c.run_accepted.ensures
+    fired-done c.args.core.now (source_view c.args.source) c.requires.next c.in-Switch.field-0
+    (ap source_view c.in-Switch.is)
+    c.fire-change.result c.fire-change.ensures.reported c.fire-change.new.self c.fire-change.ensures.fired
+    c.run_accepted.new.core c.run_accepted.ensures

@@ -8,8 +8,10 @@ use Rattle.machine_core.proofs.parts.handle.Given as goal
 -- what is left to run, run now, is all, run at the start
 abbrev pub invariant-loop-place : goal.invariant-loop-place
 invariant-loop-place g l =
-    (after (all_do (do_handler l.core.plan) (drop l.k (in_order l.fn.core.plan (running_of l.fn.core.machine.modes) l.event))) l.core
-    ≡ after (all_do (do_handler l.fn.core.plan) (in_order l.fn.core.plan (running_of l.fn.core.machine.modes) l.event)) l.fn.core)
+    (after (all_do (do_handler l.core.plan)
+    (drop l.k (in_order l.fn.core.plan (running_of l.fn.core.machine.modes) l.event))) l.core
+    ≡ after (all_do (do_handler l.fn.core.plan) (in_order l.fn.core.plan (running_of l.fn.core.machine.modes) l.event))
+    l.fn.core)
     × CanCall l.core
 
 abbrev pub decreases-loop-place : goal.decreases-loop-place

@@ -6,8 +6,8 @@ use Rattle.machine_core.{specs.Core.{after, follow}, proofs.Releasing.{stopped-r
 use Rattle.machine_core.proofs.Following.{follow-still, release-still, stop-still, ended-follows}
 use Rattle.machine_core.proofs.parts.mode_after.Goals as goal
 
-pub returns-then-kept : goal.returns-then-kept
-returns-then-kept g c = search (rules, follow-still, stop-still)
+pub returns-then-keeps_stop : goal.returns-then-keeps_stop
+returns-then-keeps_stop g c = search (rules, follow-still, stop-still)
 
 pub returns-in-Stopped : goal.returns-in-Stopped
 returns-in-Stopped g c = search (rules, follow-still, release-still)
@@ -19,11 +19,14 @@ returns-in-Stopping g c =
     let mode_is = c.mode.ensures.mode ∙ ap (λ (p : PlanView). (mode_at p m).mode) c.plan.ensures in
     c.post-in-Stopping.ensures
     ∙ ap (λ (e : EventId). after (post Machine e) c.end.new.self) (ap (λ (x : ModeValue). x.events.stopped) mode_is)
-    ∙ ended-follows c.args.kept core c.call_devices.new.core c.release_coils.new.core c.end.new.self m c.requires.handlers c.call_devices.ensures c.release_coils.ensures c.end.ensures
-    ∙ ap (λ (w : Work). follow (do_after core.plan c.args.kept w) core) (sym (ap (Mode c.args.mode) c.in-Stopping.is))
+    ∙ ended-follows c.args.keeps_stop core c.call_devices.new.core c.release_coils.new.core c.end.new.self m
+    c.requires.handlers c.call_devices.ensures c.release_coils.ensures c.end.ensures
+    ∙ ap (λ (w : Work). follow (do_after core.plan c.args.keeps_stop w) core)
+    (sym (ap (Mode c.args.mode) c.in-Stopping.is))
 
 pub call_devices-requires-clause-room : goal.call_devices-requires-clause-room
 call_devices-requires-clause-room g c = search (rules, stopped-room)
 
 pub release_coils-requires-clause-coils : goal.release_coils-requires-clause-coils
-release_coils-requires-clause-coils g c = stopped-coils c.args.mode c.args.core.now c.call_devices.new.core c.call_devices.ensures c.requires.calls
+release_coils-requires-clause-coils g c = stopped-coils c.args.mode c.args.core.now c.call_devices.new.core
+    c.call_devices.ensures c.requires.calls

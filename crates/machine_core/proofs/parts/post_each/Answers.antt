@@ -12,5 +12,6 @@ unfolding none
 post-requires g c =
     let events = c.args.events.now in
     let i = c.loop-event.event-index in
-    post-room c.args.owner c.loop-event.core (after (all_do (post c.args.owner) events) c.args.core.now) (get_or events i none) (drop (i + 1) events) (drop i events)
+    post-room c.args.owner c.loop-event.core (after (all_do (post c.args.owner) events) c.args.core.now)
+    (get_or events i none) (drop (i + 1) events) (drop i events)
     (drop_more events i none c.loop-event-test.true) c.loop-event.invariant c.requires

@@ -7,7 +7,8 @@ loop-command-init g c = record { left = refl; all = c.requires.coils }
 
 pub write-requires : goal.write-requires
 write-requires g c =
-    releasing-room c.args.core.now.plan c.args.owner c.args.core.now c.loop-command.core c.loop-command.invariant c.in-Some.command c.in-Some.ensures.command
+    releasing-room c.args.core.now.plan c.args.owner c.args.core.now c.loop-command.core c.loop-command.invariant
+    c.in-Some.command c.in-Some.ensures.command
     c.release.new.self c.in-Some.ensures.released _ refl c.requires.room
 
 pub loop-command-smaller : goal.loop-command-smaller

@@ -16,5 +16,8 @@ loop-smaller g c =
 pub loop-preserved : goal.loop-preserved
 loop-preserved g c =
     let (count, is, can) = c.loop.invariant in
-    let (waits, new_is) = c.loop-test.ensures.advanced in
-    (count + 1, advanced-steps c.args.core.now c.loop.core c.requires.room count is c.advance.new.core new_is, c.loop-test.ensures.calls)
+    let (waits, new_is) = c.loop-test.ensures.advanced in (
+      count + 1,
+      advanced-steps c.args.core.now c.loop.core c.requires.room count is c.advance.new.core new_is,
+      c.loop-test.ensures.calls,
+    )

@@ -2,14 +2,16 @@ use Rattle.std.proofs.Common.{rules, refl}
 use Rattle.plan_tables.specs.PlanView.{work_of}
 use Rattle.written_machine.specs.EventStep.{is_kept, do_before}
 use Rattle.machine_core.specs.Core.{follow}
-use Rattle.machine_core.proofs.Stepping.{before-room, before-calls, handled-calls, kept-none, kept-some, none-is, ready-handles, ready-room, then-handles, then-room, last-is}
+use Rattle.machine_core.proofs.Stepping.{before-room, before-calls, handled-calls, kept-none, kept-some, none-is}
+use Rattle.machine_core.proofs.Stepping.{ready-handles, ready-room, then-handles, then-room, last-is}
 use Rattle.machine_core.proofs.parts.take_step.Goals as goal
 
-pub work_before-kept-requires-clause-room : goal.work_before-kept-requires-clause-room
-work_before-kept-requires-clause-room g c =
+pub work_before-keeps_stop-requires-clause-room : goal.work_before-keeps_stop-requires-clause-room
+work_before-keeps_stop-requires-clause-room g c =
     let core = c.args.core.now in
     let work = work_of core.plan c.args.event in
-    before-room c.args.event core c.requires.room work refl (follow (do_before core.plan work) core) refl (is_kept work core.machine) refl
+    before-room c.args.event core c.requires.room work refl (follow (do_before core.plan work) core) refl
+    (is_kept work core.machine) refl
 
 pub handle-requires-clause-handlers : goal.handle-requires-clause-handlers
 handle-requires-clause-handlers g c = search (rules, ready-handles)

@@ -10,7 +10,8 @@ pub mode_after-requires-clause-room : goal.mode_after-requires-clause-room
 mode_after-requires-clause-room g c = search rules
 
 pub play-requires-clause-game : goal.play-requires-clause-game
-play-requires-clause-game g c = subst HasGame c.plan.ensures (subst (IsWorkOf c.plan.result.now) c.in-Game.is c.work_of.ensures.of_plan)
+play-requires-clause-game g c = subst HasGame c.plan.ensures
+    (subst (IsWorkOf c.plan.result.now) c.in-Game.is c.work_of.ensures.of_plan)
 
 pub play-requires-clause-room : goal.play-requires-clause-room
 play-requires-clause-room g c = search rules

@@ -5,5 +5,7 @@ use Rattle.machine_definitions.proofs.definitions.add_ball_devices.Given as goal
 
 abbrev pub invariant-loop-entry : goal.invariant-loop-entry
 invariant-loop-entry l =
-    (name : List ℕ) → fold (latest_ball_device name) (found_ball_device l.devices name) (map ball_device_of (map entry_view (drop l.entry-index l.entries)))
-    ≡ fold (latest_ball_device name) (found_ball_device l.initial.devices name) (map ball_device_of (map entry_view l.entries))
+    (name : List ℕ) → fold (latest_ball_device name) (found_ball_device l.devices name)
+    (map ball_device_of (map entry_view (drop l.entry-index l.entries)))
+    ≡ fold (latest_ball_device name) (found_ball_device l.initial.devices name)
+    (map ball_device_of (map entry_view l.entries))

@@ -5,5 +5,7 @@ use Rattle.machine_definitions.proofs.definitions.add_switches.Given as goal
 
 abbrev pub invariant-loop-entry : goal.invariant-loop-entry
 invariant-loop-entry l =
-    (name : List ℕ) → (is_found l.names name || list_any (λ s. bytes_eq name s.name.text) (map switch_of (map entry_view (drop l.entry-index l.entries))))
-    ≡ (is_found l.initial.names name || list_any (λ s. bytes_eq name s.name.text) (map switch_of (map entry_view l.entries)))
+    (name : List ℕ) → (is_found l.names name
+    || list_any (λ s. bytes_eq name s.name.text) (map switch_of (map entry_view (drop l.entry-index l.entries))))
+    ≡ (is_found l.initial.names name || list_any (λ s. bytes_eq name s.name.text)
+    (map switch_of (map entry_view l.entries)))

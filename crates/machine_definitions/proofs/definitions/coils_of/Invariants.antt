@@ -5,5 +5,6 @@ use Rattle.machine_definitions.proofs.definitions.coils_of.Given as goal
 
 abbrev pub invariant-loop-section : goal.invariant-loop-section
 invariant-loop-section l =
-    (name : List ℕ) → fold (latest_coil name) (found_coil l.coils name) (flat_map coils_in (map section_view (drop l.section-index l.sections)))
+    (name : List ℕ) → fold (latest_coil name) (found_coil l.coils name)
+    (flat_map coils_in (map section_view (drop l.section-index l.sections)))
     ≡ coil_called (map section_view l.sections) name

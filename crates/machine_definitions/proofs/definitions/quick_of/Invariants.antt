@@ -5,5 +5,6 @@ use Rattle.machine_definitions.proofs.definitions.quick_of.Given as goal
 
 abbrev pub invariant-loop-section : goal.invariant-loop-section
 invariant-loop-section l =
-    (name : List ℕ) → (is_found l.names name || list_any (bytes_eq name) (flat_map quick_switches (map section_view (drop l.section-index l.sections))))
+    (name : List ℕ) → (is_found l.names name
+    || list_any (bytes_eq name) (flat_map quick_switches (map section_view (drop l.section-index l.sections))))
     ≡ makes_quick (map section_view l.sections) name

@@ -5,5 +5,7 @@ use Rattle.machine_definitions.proofs.definitions.switches_of.Given as goal
 
 abbrev pub invariant-loop-section : goal.invariant-loop-section
 invariant-loop-section l =
-    (name : List ℕ) → (is_found l.names name || list_any (λ s. bytes_eq name s.name.text) (flat_map switches_in (map section_view (drop l.section-index l.sections))))
+    (name : List ℕ) → (is_found l.names name
+    || list_any (λ s. bytes_eq name s.name.text)
+    (flat_map switches_in (map section_view (drop l.section-index l.sections))))
     ≡ has_switch (map section_view l.sections) name

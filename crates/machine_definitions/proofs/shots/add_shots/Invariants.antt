@@ -5,5 +5,6 @@ use Rattle.machine_definitions.proofs.shots.add_shots.Given as goal
 
 abbrev pub invariant-loop-entry : goal.invariant-loop-entry
 invariant-loop-entry l =
-    (name : List ℕ) → fold (latest_shot name) (found_shot l.shots name) (map shot_of (map entry_view (drop l.entry-index l.entries)))
+    (name : List ℕ) → fold (latest_shot name) (found_shot l.shots name)
+    (map shot_of (map entry_view (drop l.entry-index l.entries)))
     ≡ fold (latest_shot name) (found_shot l.initial.shots name) (map shot_of (map entry_view l.entries))

@@ -13,9 +13,14 @@ loop-section-preserved c = λ name.
     let profiles = λ (sections : List _). map profile_of (flat_map shot_profiles_in (map section_view sections)) in
     let rest = drop (l.section-index + 1) c.args.sections.now in
     let section = section_view c.section-item.result in
-    let own = ap (λ es. map profile_of (map shot_profile_of es)) c.entries_of.ensures ∙ ap (map profile_of) (shot_profiles_are section) in
-    ap (λ (o : Option Profile). latest o (profiles rest)) (c.in_ok-add_profiles.ensures name ∙ ap (latest (found_profile l.profiles name)) own)
-    ∙ sym (fold-append (latest_profile name) (found_profile l.profiles name) (map profile_of (shot_profiles_in section)) (profiles rest))
-    ∙ ap (latest (found_profile l.profiles name)) (sym (map-append profile_of (shot_profiles_in section) (flat_map shot_profiles_in (map section_view rest))))
-    ∙ next-is (λ sections. latest (found_profile l.profiles name) (profiles sections)) c.args.sections.now l.section-index c.section-item.result c.loop-section-test.true c.section-item.is
+    let own = ap (λ es. map profile_of (map shot_profile_of es)) c.entries_of.ensures
+    ∙ ap (map profile_of) (shot_profiles_are section) in
+    ap (λ (o : Option Profile). latest o (profiles rest))
+    (c.in_ok-add_profiles.ensures name ∙ ap (latest (found_profile l.profiles name)) own)
+    ∙ sym (fold-append (latest_profile name) (found_profile l.profiles name) (map profile_of (shot_profiles_in section))
+    (profiles rest))
+    ∙ ap (latest (found_profile l.profiles name))
+    (sym (map-append profile_of (shot_profiles_in section) (flat_map shot_profiles_in (map section_view rest))))
+    ∙ next-is (λ sections. latest (found_profile l.profiles name) (profiles sections)) c.args.sections.now
+    l.section-index c.section-item.result c.loop-section-test.true c.section-item.is
     ∙ l.invariant name

@@ -1,5 +1,5 @@
 use Rattle.std.{proofs.{Common.{map, length, ap, arith}, lemmas.List.length-map}, specs.List.filter_map}
-use Rattle.mpf_sections.specs.{Rows.{Written, ShotProfile}, TypedShots.state_of, View.{entry_view, fields_view}}
+use Rattle.mpf_sections.specs.{Rows.{WrittenName, ShotProfile}, TypedShots.state_of, View.{entry_view, fields_view}}
 use Rattle.mpf_sections.proofs.ShotRows.{shot_profile_short}
 use Rattle.machine_definitions.proofs.shots.profile_of.Goals as goal
 
@@ -12,7 +12,7 @@ invariant_of-result c =
         arith,
         length-map names (λ n. n.now),
         ap length c.in_ok-states_of.ensures,
-        length-map written (λ (w : Written). w.text),
+        length-map written (λ (w : WrittenName). w.text),
         ap (λ (p : ShotProfile). length p.states) c.as_shot_profile-row.ensures,
         shot_profile_short (entry_view c.args.entry.now),
       );

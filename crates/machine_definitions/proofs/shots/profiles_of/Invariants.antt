@@ -6,5 +6,7 @@ use Rattle.machine_definitions.proofs.shots.profiles_of.Given as goal
 
 abbrev pub invariant-loop-mode : goal.invariant-loop-mode
 invariant-loop-mode l =
-    (name : List ℕ) → fold (latest_profile name) (found_profile l.profiles name) (map profile_of (flat_map shot_profiles_in (flat_map (λ m. m.sections) (map mode_view (drop l.mode-index l.modes)))))
+    (name : List ℕ) → fold (latest_profile name) (found_profile l.profiles name)
+    (map profile_of (flat_map shot_profiles_in
+    (flat_map (λ m. m.sections) (map mode_view (drop l.mode-index l.modes)))))
     ≡ profile_called (rows_view l.config) name

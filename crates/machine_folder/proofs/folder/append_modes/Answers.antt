@@ -4,7 +4,10 @@ use Rattle.machine_folder.proofs.folder.append_modes.Goals as goal
 pub loop-mode-preserved : goal.loop-mode-preserved
 loop-mode-preserved g c = record {
   joined =
-      joined-more (g.T.Texts.text_at c.args.texts.now) c.args.folder.now c.args.modes.now c.loop-mode.mode-index c.mode-item.result c.deref.result.now c.args.bundle.now.items c.loop-mode.bundle.items c.append_mode.new.bundle.items
-      c.loop-mode-test.true c.mode-item.is c.deref.ensures.value c.loop-mode.invariant.joined c.in_ok-append_mode.ensures.joined;
+      joined-more (g.T.Texts.text_at c.args.texts.now) c.args.folder.now c.args.modes.now c.loop-mode.mode-index
+      c.mode-item.result c.deref.result.now c.args.bundle.now.items c.loop-mode.bundle.items
+      c.append_mode.new.bundle.items
+      c.loop-mode-test.true c.mode-item.is c.deref.ensures.value c.loop-mode.invariant.joined
+      c.in_ok-append_mode.ensures.joined;
   within = c.in_ok-append_mode.ensures.within;
 }

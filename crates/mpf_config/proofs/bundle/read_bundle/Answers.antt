@@ -10,8 +10,11 @@ returns c =
     let r = c.read_exactly.result in
     let h = c.read_exactly.ensures in
     record {
-      found = is_found within_limits rows_view read (λ sizes rows. IsRowsOf sizes bundle rows) (λ sizes rows. IsAbove sizes bundle rows) (rows_sound bundle) r h;
-      only = is_only within_limits rows_view read (λ sizes rows. IsRowsOf sizes bundle rows) (λ sizes rows. IsAbove sizes bundle rows) (rows_or bundle) r h;
-      refused = is_refused within_limits rows_view read (λ sizes rows. IsRowsOf sizes bundle rows) (λ sizes rows. IsAbove sizes bundle rows) (rows_or bundle) r h;
+      found = is_found within_limits rows_view read (λ sizes rows. IsRowsOf sizes bundle rows)
+          (λ sizes rows. IsAbove sizes bundle rows) (rows_sound bundle) r h;
+      only = is_only within_limits rows_view read (λ sizes rows. IsRowsOf sizes bundle rows)
+          (λ sizes rows. IsAbove sizes bundle rows) (rows_or bundle) r h;
+      refused = is_refused within_limits rows_view read (λ sizes rows. IsRowsOf sizes bundle rows)
+          (λ sizes rows. IsAbove sizes bundle rows) (rows_or bundle) r h;
       exact = h;
     }

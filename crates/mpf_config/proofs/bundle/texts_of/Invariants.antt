@@ -1,5 +1,5 @@
 use Rattle.std.proofs.Common.{◌≡◌, take, map}
-use Rattle.mpf_config.specs.{View.name_view, Inside.names_only_view}
+use Rattle.mpf_config.specs.{View.name_view, CodeViews.names_only_view}
 use Rattle.mpf_config.proofs.bundle.texts_of.Given as goal
 
 abbrev pub invariant-loop-name : goal.invariant-loop-name

@@ -9,6 +9,7 @@ loop-section-preserved c =
     let i = c.loop-section.section-index in
     let section = c.section-item.result in
     let first = mapped_at section_view sections i section c.loop-section-test.true c.section-item.is in
-    none_here (section_view section) (map section_view (drop (i + 1) sections)) (map section_view (drop i sections)) entry_view c.entries.result.now first c.entries.ensures
+    none_here (section_view section) (map section_view (drop (i + 1) sections)) (map section_view (drop i sections))
+    entry_view c.entries.result.now first c.entries.ensures
     (sym c.is_empty.ensures ∙ c.if-not-is_empty.false)
     ∙ c.loop-section.invariant

@@ -1,5 +1,5 @@
 use Rattle.std.proofs.Common.{◌≡◌, drop}
-use Rattle.mpf_config.specs.{Reading.machine_at, Inside.texts_view}
+use Rattle.mpf_config.specs.{Reading.machine_at, CodeViews.texts_view}
 use Rattle.mpf_config.proofs.texts.machine_text.Given as goal
 
 abbrev pub invariant-loop-text : goal.invariant-loop-text

@@ -1,5 +1,5 @@
 use Rattle.std.proofs.Common.{◌≡◌, ◌++◌, drop, map}
-use Rattle.mpf_config.specs.{Unread.{absent_of, absent_note}, Inside.{texts_view, modes_view, notes_view}}
+use Rattle.mpf_config.specs.{Unread.{absent_of, absent_note}, CodeViews.{texts_view, modes_view, notes_view}}
 use Rattle.mpf_config.proofs.unread.add_absent.Given as goal
 
 abbrev pub invariant-loop-mode : goal.invariant-loop-mode

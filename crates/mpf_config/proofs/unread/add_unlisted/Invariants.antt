@@ -1,5 +1,5 @@
 use Rattle.std.proofs.Common.{◌≡◌, ◌++◌, drop}
-use Rattle.mpf_config.specs.{Unread.unlisted_notes, Inside.{texts_view, modes_view, notes_view}}
+use Rattle.mpf_config.specs.{Unread.unlisted_notes, CodeViews.{texts_view, modes_view, notes_view}}
 use Rattle.mpf_config.proofs.unread.add_unlisted.Given as goal
 
 abbrev pub invariant-loop-text : goal.invariant-loop-text

@@ -6,5 +6,6 @@ use Rattle.mpf_plan.proofs.actions.actions_of.Given as goal
 abbrev pub invariant-loop-effect : goal.invariant-loop-effect
 invariant-loop-effect l = record {
   names : NotesCoils l.initial.names l.names l.initial.coils l.coils (flat_map uses_by (take l.effect-index l.effects));
-  actions : IsNumbered l.initial.names (flat_map uses_by (take l.effect-index l.effects)) (λ ns. map (λ e. action_of ns l.row (effect_view e)) (take l.effect-index l.effects)) l.actions.items;
+  actions : IsNumbered l.initial.names (flat_map uses_by (take l.effect-index l.effects))
+      (λ ns. map (λ e. action_of ns l.row (effect_view e)) (take l.effect-index l.effects)) l.actions.items;
 }

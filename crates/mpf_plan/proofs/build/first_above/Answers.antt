@@ -9,7 +9,8 @@ loop-table-init c ps is = refl
 pub loop-table-preserved : goal.loop-table-preserved
 loop-table-preserved c ps is =
     c.loop-table.invariant ps is
-    ∙ find_next (λ t. nat_lt (limit_of t) (entry_count (plan_by (names_of ps) ps) t)) tables_in_order c.loop-table.table-index _ c.loop-table-test.true (sym (c.is_above.ensures ps is) ∙ c.if-is_above.false)
+    ∙ find_next (λ t. nat_lt (limit_of t) (entry_count (plan_by (names_of ps) ps) t)) tables_in_order
+    c.loop-table.table-index _ c.loop-table-test.true (sym (c.is_above.ensures ps is) ∙ c.if-is_above.false)
 
 pub returns-then-is_above : goal.returns-then-is_above
 returns-then-is_above c ps is = search (rules, find_here, nat_lt)

@@ -7,4 +7,5 @@ use Rattle.mpf_plan.proofs.build.first_above.Given as goal
 -- the first table above its limit is among those that are left
 abbrev pub invariant-loop-table : goal.invariant-loop-table
 invariant-loop-table l = (ps : List Part) → IsDraftOf ps l.draft
-    → first_above (plan_by (names_of ps) ps) ≡ find (λ t. nat_lt (limit_of t) (entry_count (plan_by (names_of ps) ps) t)) (drop l.table-index l.table-items)
+    → first_above (plan_by (names_of ps) ps)
+    ≡ find (λ t. nat_lt (limit_of t) (entry_count (plan_by (names_of ps) ps) t)) (drop l.table-index l.table-items)

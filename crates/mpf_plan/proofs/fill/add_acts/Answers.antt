@@ -11,10 +11,14 @@ loop-each-preserved c =
     let l = c.loop-each in
     let a = c.args.draft.now in
     let whose = whose_view c.args.whose in
-    subst (AddsActs a c.add_binding.new.draft whose c.args.row) (sym (views_item (λ h. (handled_event_view h.0, h.1)) c.args.handled.now l.each-index c.each-item.result c.loop-each-test.true c.each-item.is))
-    (acts_more a l.draft c.add_binding.new.draft whose c.args.row (acts_view (take l.each-index c.args.handled.now)) (handled_event_view c.each-item.result.0, c.each-item.result.1) l.invariant c.in_ok-add_binding.ensures)
+    subst (AddsActs a c.add_binding.new.draft whose c.args.row)
+    (sym (views_item (λ h. (handled_event_view h.0, h.1)) c.args.event_acts.now l.each-index c.each-item.result
+    c.loop-each-test.true c.each-item.is))
+    (acts_more a l.draft c.add_binding.new.draft whose c.args.row (acts_view (take l.each-index c.args.event_acts.now))
+    (handled_event_view c.each-item.result.0, c.each-item.result.1) l.invariant c.in_ok-add_binding.ensures)
 
 pub returns : goal.returns
 returns c =
     let l = c.loop-each in
-    subst (AddsActs c.args.draft.now l.draft (whose_view c.args.whose) c.args.row) (views_all _ c.args.handled.now l.each-index c.loop-each-test.false) l.invariant
+    subst (AddsActs c.args.draft.now l.draft (whose_view c.args.whose) c.args.row)
+    (views_all _ c.args.event_acts.now l.each-index c.loop-each-test.false) l.invariant

@@ -10,13 +10,26 @@ use Rattle.mpf_plan.proofs.fill.add_binding.Goals as goal
 pub returns : goal.returns
 returns c =
     let a = c.args.draft.now in
-    let e = handled_event_view c.args.handled in
+    let e = handled_event_view c.args.handled_name in
     let U = (Events, e.name) ∷ [] in
     let V = condition_uses e.condition in
     let make = λ (k : EventId) (o : Option numbered.Condition).
-    (let b : Binding = record { event = k; owner = c.args.whose.owner; priority = c.args.whose.priority; condition = o; target = c.args.target } in b) in
+    (let b : Binding =
     record {
-      keeps = record { names = notes_more a.names c.note_event.new.names c.note_condition.new.names U V c.in_ok-event.ensures.names c.in_ok-condition.ensures.names; modes = refl; game = refl };
+      event = k;
+      owner = c.args.whose.owner;
+      priority = c.args.whose.priority;
+      condition = o;
+      target = c.args.target;
+    } in b) in
+    record {
+      keeps =
+          record {
+            names = notes_more a.names c.note_event.new.names c.note_condition.new.names U V
+                c.in_ok-event.ensures.names c.in_ok-condition.ensures.names;
+            modes = refl;
+            game = refl;
+          };
       switches = refl;
       coils = refl;
       lists = refl;
@@ -26,6 +39,8 @@ returns c =
       bindings = λ us are within.
           c.in_ok-push.ensures.items
           ∙ ap (λ b. a.bindings.items ++ b ∷ [])
-          (numbered_both make (λ ns. event_of (ns Events) e.name) (λ ns. option_map (condition_of ns) e.condition) c.in_ok-event.event c.in_ok-condition.condition a.names c.note_event.new.names U V
-          (event_stays e.name) c.in_ok-event.ensures.names c.in_ok-event.ensures.number c.in_ok-condition.ensures.number us are within);
+          (numbered_both make (λ ns. event_of (ns Events) e.name) (λ ns. option_map (condition_of ns) e.condition)
+          c.in_ok-event.event c.in_ok-condition.condition a.names c.note_event.new.names U V
+          (event_stays e.name) c.in_ok-event.ensures.names c.in_ok-event.ensures.number c.in_ok-condition.ensures.number
+          us are within);
     }

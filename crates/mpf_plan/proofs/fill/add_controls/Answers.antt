@@ -13,12 +13,21 @@ loop-each-preserved c =
     let l = c.loop-each in
     let a = c.args.draft.now in
     let whose = whose_view c.args.whose in
-    subst (Adds a c.add_binding.new.draft) (sym (made_item (λ h. (handled_event_view h.0, h.1)) (control_part whose c.args.number) c.args.controls.now l.each-index c.each-item.result c.loop-each-test.true c.each-item.is))
-    (adds_more a l.draft c.add_binding.new.draft (control_parts whose c.args.number (controls_view (take l.each-index c.args.controls.now))) (control_part whose c.args.number (handled_event_view c.each-item.result.0, c.each-item.result.1) ∷ []) l.invariant
-    (adds_control l.draft c.add_binding.new.draft whose c.args.number (handled_event_view c.each-item.result.0) c.each-item.result.1
-    (subst (λ (t : Target). AddsBinding l.draft c.add_binding.new.draft whose (handled_event_view c.each-item.result.0) t) c.control_target-target.ensures c.in_ok-add_binding.ensures)))
+    subst (Adds a c.add_binding.new.draft)
+    (sym (made_item (λ h. (handled_event_view h.0, h.1)) (control_part whose c.args.number) c.args.controls.now
+    l.each-index c.each-item.result c.loop-each-test.true c.each-item.is))
+    (adds_more a l.draft c.add_binding.new.draft
+    (control_parts whose c.args.number (controls_view (take l.each-index c.args.controls.now)))
+    (control_part whose c.args.number (handled_event_view c.each-item.result.0, c.each-item.result.1) ∷ [])
+    l.invariant
+    (adds_control l.draft c.add_binding.new.draft whose c.args.number (handled_event_view c.each-item.result.0)
+    c.each-item.result.1
+    (subst (λ (t : Target). AddsBinding l.draft c.add_binding.new.draft whose (handled_event_view c.each-item.result.0)
+    t) c.control_target-target.ensures c.in_ok-add_binding.ensures)))
 
 pub returns : goal.returns
 returns c =
     let l = c.loop-each in
-    subst (Adds c.args.draft.now l.draft) (ap (map (control_part (whose_view c.args.whose) c.args.number)) (views_all (λ h. (handled_event_view h.0, h.1)) c.args.controls.now l.each-index c.loop-each-test.false)) l.invariant
+    subst (Adds c.args.draft.now l.draft) (ap (map (control_part (whose_view c.args.whose) c.args.number))
+    (views_all (λ h. (handled_event_view h.0, h.1)) c.args.controls.now l.each-index c.loop-each-test.false))
+    l.invariant

@@ -13,8 +13,8 @@ returns c =
     let dev : Device = record {
       settings = c.args.settings;
       listens = bytes_view parts.listens.items;
-      handled = acts_view parts.handled.items;
-      mentioned = names_view parts.mentioned.items;
+      event_acts = acts_view parts.event_acts.items;
+      other_mentions = names_view parts.other_mentions.items;
       lists = parts.lists;
     } in
     let start = record a { rows = c.push.new.self; row_lists = c.push-2.new.self } in
@@ -26,6 +26,7 @@ returns c =
     refl refl refl refl refl refl refl c.in_ok-push.ensures.items c.in_ok-push-2.ensures.items
     (subst (λ xs. AddsListeners start b row (bytes_view xs)) c.deref.ensures.value c.in_ok-add_listeners.ensures)
     (subst (λ xs. AddsActs b d whose row (acts_view xs)) c.deref-2.ensures.value c.in_ok-add_acts.ensures)
-    (subst (λ xs. Notes d.names c.note_mentioned.new.names (names_uses Events xs)) c.deref-3.ensures.value c.in_ok-note_mentioned.ensures)
+    (subst (λ xs. Notes d.names c.note_mentioned.new.names (names_uses Events xs)) c.deref-3.ensures.value
+    c.in_ok-note_mentioned.ensures)
     refl refl refl refl refl refl refl refl does c.next_row-row.ensures c.next_list-first.ensures)
     c.add_lists.ensures

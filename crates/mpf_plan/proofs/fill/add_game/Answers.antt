@@ -7,7 +7,14 @@ pub returns : goal.returns
 returns c =
     let a = c.args.draft.now in
     let events = c.in_ok-events.events in
-    let rules : GameRules = record { min_balls = c.args.min_balls; balls_per_game = c.args.balls_per_game; max_players = c.args.max_players; events = events } in
-    adds_game a (record a { names = c.game_events.new.names; game = Some rules }) c.args.min_balls c.args.balls_per_game c.args.max_players events
+    let rules : GameRules =
+    record {
+      min_balls = c.args.min_balls;
+      balls_per_game = c.args.balls_per_game;
+      max_players = c.args.max_players;
+      events = events;
+    } in
+    adds_game a (record a { names = c.game_events.new.names; game = Some rules }) c.args.min_balls c.args.balls_per_game
+    c.args.max_players events
     c.in_ok-events.ensures.names c.in_ok-events.ensures.events refl refl
     (record { switches = refl; coils = refl; lists = refl; bindings = refl; rows = refl; row_lists = refl })

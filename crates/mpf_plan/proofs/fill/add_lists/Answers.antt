@@ -19,4 +19,5 @@ loop-number-preserved c =
 pub returns : goal.returns
 returns c =
     let l = c.loop-number in
-    subst (AddsLists c.args.draft.now l.draft c.args.row) (take_all l.number c.args.lists.now (omega (arith, c.len-number-end.ensures))) l.invariant
+    subst (AddsLists c.args.draft.now l.draft c.args.row)
+    (take_all l.number c.args.lists.now (omega (arith, c.len-number-end.ensures))) l.invariant

@@ -9,4 +9,5 @@ returns c =
     let a = c.args.draft.now in
     let b : Draft = record a { names = c.note_switch.new.names; switches = c.note_switch.new.switches } in
     subst (λ (s : Option (Bor (List ℕ))). Adds a b (where_some (λ n. mention Switches n.now) s)) (sym c.in-Some.is)
-    (adds_mention a b c.in-Some.name.now c.in_ok-note_switch.ensures.names refl (record { modes = refl; game = refl; lists = refl; bindings = refl; rows = refl; row_lists = refl }))
+    (adds_mention a b c.in-Some.name.now c.in_ok-note_switch.ensures.names refl
+    (record { modes = refl; game = refl; lists = refl; bindings = refl; rows = refl; row_lists = refl }))

@@ -12,5 +12,6 @@ returns c =
     let first = if r.unknown then unknown ∷ [] else [] in
     let mentions = where_some (λ n. mention Switches n.now) r.mention in
     on_ok_weaker c.add_head.result
-    (λ head. adds_more a b c.add_head.new.draft (first ++ mentions) (head_parts r) (adds_more a a b first mentions (adds_where_unknown a r.unknown) c.in_ok-add_mention.ensures) head)
+    (λ head. adds_more a b c.add_head.new.draft (first ++ mentions) (head_parts r)
+    (adds_more a a b first mentions (adds_where_unknown a r.unknown) c.in_ok-add_mention.ensures) head)
     c.add_head.ensures

@@ -12,11 +12,19 @@ loop-each-preserved c =
     let l = c.loop-each in
     let a = c.args.draft.now in
     let whose = whose_view c.args.whose in
-    subst (Adds a c.add_binding.new.draft) (sym (made_item (λ h. (handled_event_view h.0, h.1)) (seated_part whose c.args.number) c.args.handled.now l.each-index c.each-item.result c.loop-each-test.true c.each-item.is))
-    (adds_more a l.draft c.add_binding.new.draft (seated_parts whose c.args.number (acts_view (take l.each-index c.args.handled.now))) (seated_part whose c.args.number (handled_event_view c.each-item.result.0, c.each-item.result.1) ∷ []) l.invariant
-    (adds_seated l.draft c.add_binding.new.draft whose c.args.number c.as_kept.result (handled_event_view c.each-item.result.0, c.each-item.result.1) c.as_kept.ensures c.in_ok-add_binding.ensures))
+    subst (Adds a c.add_binding.new.draft)
+    (sym (made_item (λ h. (handled_event_view h.0, h.1)) (seated_part whose c.args.number) c.args.event_acts.now
+    l.each-index c.each-item.result c.loop-each-test.true c.each-item.is))
+    (adds_more a l.draft c.add_binding.new.draft
+    (seated_parts whose c.args.number (acts_view (take l.each-index c.args.event_acts.now)))
+    (seated_part whose c.args.number (handled_event_view c.each-item.result.0, c.each-item.result.1) ∷ [])
+    l.invariant
+    (adds_seated l.draft c.add_binding.new.draft whose c.args.number c.as_kept.result
+    (handled_event_view c.each-item.result.0, c.each-item.result.1) c.as_kept.ensures c.in_ok-add_binding.ensures))
 
 pub returns : goal.returns
 returns c =
     let l = c.loop-each in
-    subst (Adds c.args.draft.now l.draft) (ap (map (seated_part (whose_view c.args.whose) c.args.number)) (views_all (λ h. (handled_event_view h.0, h.1)) c.args.handled.now l.each-index c.loop-each-test.false)) l.invariant
+    subst (Adds c.args.draft.now l.draft) (ap (map (seated_part (whose_view c.args.whose) c.args.number))
+    (views_all (λ h. (handled_event_view h.0, h.1)) c.args.event_acts.now l.each-index c.loop-each-test.false))
+    l.invariant

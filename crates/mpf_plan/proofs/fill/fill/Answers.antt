@@ -15,12 +15,16 @@ loop-row-preserved c =
     let defined = c.args.definitions.now in
     let rows = c.args.rows.now in
     record {
-      made = draft_next defined.machine rows l.row-index c.row-item.result c.loop-row-test.true l.draft c.add_row.new.draft (text_view l.text) (parts_in c.collect_row.new.parts)
+      made = draft_next defined.machine rows l.row-index c.row-item.result c.loop-row-test.true l.draft
+          c.add_row.new.draft (text_view l.text) (parts_in c.collect_row.new.parts)
           l.invariant.text
-          (subst (λ (r : written.Row). parts_in c.collect_row.new.parts ≡ parts_at defined.machine (text_view l.text) (row_view r)) c.row-item.is c.in_ok-collect_row.ensures)
+          (subst (λ (r : written.Row). parts_in c.collect_row.new.parts
+          ≡ parts_at defined.machine (text_view l.text) (row_view r)) c.row-item.is c.in_ok-collect_row.ensures)
           c.in_ok-add_row.ensures l.invariant.made;
-      text = subst (λ (r : written.Row). text_view c.after-text.result ≡ text_after (row_view r) (text_view l.text)) c.row-item.is
-          (c.after-text.ensures (modes_kept_few defined rows l.row-index (text_view l.text) c.requires.rows c.requires.modes l.invariant.text))
+      text = subst (λ (r : written.Row). text_view c.after-text.result ≡ text_after (row_view r) (text_view l.text))
+          c.row-item.is
+          (c.after-text.ensures (modes_kept_few defined rows l.row-index (text_view l.text) c.requires.rows
+          c.requires.modes l.invariant.text))
           ∙ ap (text_after (row_view (get_or rows l.row-index c.row-item.result))) l.invariant.text
           ∙ sym (text_next defined.machine rows l.row-index c.row-item.result c.loop-row-test.true);
     }
@@ -31,13 +35,16 @@ returns-then-is_above c =
     let defined = c.args.definitions.now in
     let rows = c.args.rows.now in
     many_events defined.machine rows (l.row-index + 1) c.add_row.new.draft
-    (draft_next defined.machine rows l.row-index c.row-item.result c.loop-row-test.true l.draft c.add_row.new.draft (text_view l.text) (parts_in c.collect_row.new.parts)
+    (draft_next defined.machine rows l.row-index c.row-item.result c.loop-row-test.true l.draft c.add_row.new.draft
+    (text_view l.text) (parts_in c.collect_row.new.parts)
     l.invariant.text
-    (subst (λ (r : written.Row). parts_in c.collect_row.new.parts ≡ parts_at defined.machine (text_view l.text) (row_view r)) c.row-item.is c.in_ok-collect_row.ensures)
+    (subst (λ (r : written.Row). parts_in c.collect_row.new.parts
+    ≡ parts_at defined.machine (text_view l.text) (row_view r)) c.row-item.is c.in_ok-collect_row.ensures)
     c.in_ok-add_row.ensures l.invariant.made)
     (sym c.is_above.ensures ∙ c.if-is_above.true)
 
 pub returns : goal.returns
 returns c =
     let l = c.loop-row in
-    subst (λ rs. IsDraftOf (parts_from c.args.definitions.now.machine machine_text rs) l.draft) (rows_all c.args.rows.now l.row-index c.loop-row-test.false) l.invariant.made
+    subst (λ rs. IsDraftOf (parts_from c.args.definitions.now.machine machine_text rs) l.draft)
+    (rows_all c.args.rows.now l.row-index c.loop-row-test.false) l.invariant.made

@@ -15,7 +15,8 @@ returns-clause-names c =
     let b4 = c.note_event-4.new.names in
     let b5 = c.note_event-5.new.names in
     five_notes a b1 b2 b3 b4 b5
-    (mode_event_name WillStart n) (mode_event_name Starting n) (mode_event_name Started n) (mode_event_name Stopping n) (mode_event_name Stopped n)
+    (mode_event_name WillStart n) (mode_event_name Starting n) (mode_event_name Started n) (mode_event_name Stopping n)
+    (mode_event_name Stopped n)
     (subst (λ e. Notes a b1 ((Events, e) ∷ [])) c.mode_event_name.ensures c.in_ok-will_start.ensures.names)
     (subst (λ e. Notes b1 b2 ((Events, e) ∷ [])) c.mode_event_name-2.ensures c.in_ok-starting.ensures.names)
     (subst (λ e. Notes b2 b3 ((Events, e) ∷ [])) c.mode_event_name-3.ensures c.in_ok-started.ensures.names)
@@ -32,15 +33,22 @@ returns-clause-events c =
     let b4 = c.note_event-4.new.names in
     let b5 = c.note_event-5.new.names in
     five_numbers a b1 b2 b3 b4 b5
-    (mode_event_name WillStart n) (mode_event_name Starting n) (mode_event_name Started n) (mode_event_name Stopping n) (mode_event_name Stopped n)
+    (mode_event_name WillStart n) (mode_event_name Starting n) (mode_event_name Started n) (mode_event_name Stopping n)
+    (mode_event_name Stopped n)
     (subst (λ e. Notes a b1 ((Events, e) ∷ [])) c.mode_event_name.ensures c.in_ok-will_start.ensures.names)
     (subst (λ e. Notes b1 b2 ((Events, e) ∷ [])) c.mode_event_name-2.ensures c.in_ok-starting.ensures.names)
     (subst (λ e. Notes b2 b3 ((Events, e) ∷ [])) c.mode_event_name-3.ensures c.in_ok-started.ensures.names)
     (subst (λ e. Notes b3 b4 ((Events, e) ∷ [])) c.mode_event_name-4.ensures c.in_ok-stopping.ensures.names)
     (subst (λ e. Notes b4 b5 ((Events, e) ∷ [])) c.mode_event_name-5.ensures c.in_ok-stopped.ensures.names)
-    c.in_ok-will_start.will_start c.in_ok-starting.starting c.in_ok-started.started c.in_ok-stopping.stopping c.in_ok-stopped.stopped
-    (subst (λ e. IsNumbered a ((Events, e) ∷ []) (λ ns. event_of (ns Events) e) c.in_ok-will_start.will_start) c.mode_event_name.ensures c.in_ok-will_start.ensures.number)
-    (subst (λ e. IsNumbered b1 ((Events, e) ∷ []) (λ ns. event_of (ns Events) e) c.in_ok-starting.starting) c.mode_event_name-2.ensures c.in_ok-starting.ensures.number)
-    (subst (λ e. IsNumbered b2 ((Events, e) ∷ []) (λ ns. event_of (ns Events) e) c.in_ok-started.started) c.mode_event_name-3.ensures c.in_ok-started.ensures.number)
-    (subst (λ e. IsNumbered b3 ((Events, e) ∷ []) (λ ns. event_of (ns Events) e) c.in_ok-stopping.stopping) c.mode_event_name-4.ensures c.in_ok-stopping.ensures.number)
-    (subst (λ e. IsNumbered b4 ((Events, e) ∷ []) (λ ns. event_of (ns Events) e) c.in_ok-stopped.stopped) c.mode_event_name-5.ensures c.in_ok-stopped.ensures.number)
+    c.in_ok-will_start.will_start c.in_ok-starting.starting c.in_ok-started.started c.in_ok-stopping.stopping
+    c.in_ok-stopped.stopped
+    (subst (λ e. IsNumbered a ((Events, e) ∷ []) (λ ns. event_of (ns Events) e) c.in_ok-will_start.will_start)
+    c.mode_event_name.ensures c.in_ok-will_start.ensures.number)
+    (subst (λ e. IsNumbered b1 ((Events, e) ∷ []) (λ ns. event_of (ns Events) e) c.in_ok-starting.starting)
+    c.mode_event_name-2.ensures c.in_ok-starting.ensures.number)
+    (subst (λ e. IsNumbered b2 ((Events, e) ∷ []) (λ ns. event_of (ns Events) e) c.in_ok-started.started)
+    c.mode_event_name-3.ensures c.in_ok-started.ensures.number)
+    (subst (λ e. IsNumbered b3 ((Events, e) ∷ []) (λ ns. event_of (ns Events) e) c.in_ok-stopping.stopping)
+    c.mode_event_name-4.ensures c.in_ok-stopping.ensures.number)
+    (subst (λ e. IsNumbered b4 ((Events, e) ∷ []) (λ ns. event_of (ns Events) e) c.in_ok-stopped.stopped)
+    c.mode_event_name-5.ensures c.in_ok-stopped.ensures.number)

@@ -7,4 +7,5 @@ list_at k = record { 0 = k }
 
 pub returns : goal.returns
 unfolding list_at
-returns c few = ap list_at (let same : c.min.result ≡ length c.args.draft.now.lists.items = omega (arith, c.args.draft.now.lists.ok.0) in same)
+returns c few = ap list_at (let same : c.min.result
+    ≡ length c.args.draft.now.lists.items = omega (arith, c.args.draft.now.lists.ok.0) in same)

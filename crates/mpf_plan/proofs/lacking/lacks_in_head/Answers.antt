@@ -14,7 +14,9 @@ returns-else-lacks_listened c =
     ∙ sym
     (lacks_device machine r _ c.in-Device.is
     ∙ ap (λ (b : Bool). b || done)
-    (ap (λ (ns : List (Bor (List ℕ))). list_any (lacks machine Switches) (bytes_view ns)) (sym c.deref.ensures.value) ∙ sym c.lacks_listened.ensures ∙ c.if-lacks_listened.false))
+    (ap (λ (ns : List (Bor (List ℕ))). list_any (lacks machine Switches) (bytes_view ns)) (sym c.deref.ensures.value)
+    ∙ sym c.lacks_listened.ensures ∙ c.if-lacks_listened.false))
 
 pub returns-in_default : goal.returns-in_default
-returns-in_default c = sym (lacks_nothing c.args.definitions.now.machine c.args.parts.now c.in_default.not-Device c.in_default.not-Handler)
+returns-in_default c = sym (lacks_nothing c.args.definitions.now.machine c.args.parts.now c.in_default.not-Device
+    c.in_default.not-Handler)

@@ -9,5 +9,6 @@ pub returns : goal.returns
 returns c =
     let names = c.args.switches.now in
     let machine = c.args.definitions.now.machine in
-    any_from_yields_List (λ (n : Bor (List ℕ)). lacks machine Switches n.now) _ _ c.any.result c.any.ensures.ran (YieldsList-from_slice names cc) (λ x b q k. search (rules, tests))
+    any_from_yields_List (λ (n : Bor (List ℕ)). lacks machine Switches n.now) _ _ c.any.result c.any.ensures.ran
+    (YieldsList-from_slice names cc) (λ x b q k. search (rules, tests))
     ∙ sym (any_mapped (lacks machine Switches) (λ (n : Bor (List ℕ)). n.now) names)

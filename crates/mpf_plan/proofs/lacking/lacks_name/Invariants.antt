@@ -8,6 +8,7 @@ use Rattle.mpf_plan.proofs.lacking.lacks_name.Given as goal
 abbrev pub invariant-loop-row : goal.invariant-loop-row
 invariant-loop-row l = record {
   text : text_view l.text ≡ text_from l.definitions.machine machine_text (take l.row-index (row_list_view l.rows));
-  left : list_any (lacks_part l.definitions.machine) (parts_from l.definitions.machine (text_view l.text) (row_list_view (drop l.row-index l.rows)))
+  left : list_any (lacks_part l.definitions.machine)
+      (parts_from l.definitions.machine (text_view l.text) (row_list_view (drop l.row-index l.rows)))
       ≡ list_any (lacks_part l.definitions.machine) (parts_of_rows l.definitions l.rows);
 }

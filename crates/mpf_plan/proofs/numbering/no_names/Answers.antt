@@ -18,8 +18,11 @@ loop-table-preserved c =
     let count = c.loop-table.invariant.count in
     record {
       count = ap length c.in_ok-push.ensures.items ∙ length_push so_far added ∙ ap (λ n. n + 1) count;
-      empty = λ i k at. each_pushed IsEmptyAt so_far added c.loop-table.invariant.empty
-          (c.limit.ensures ∙ ap (λ n. limit_of (get_or tables_in_order n Events)) (sym count), refl, c.with_hasher.ensures.empty) i k (subst (λ ts. slice_get ts i ≡ Some k) c.in_ok-push.ensures.items at);
+      empty = λ i k at. each_pushed IsEmptyAt so_far added c.loop-table.invariant.empty (
+        c.limit.ensures ∙ ap (λ n. limit_of (get_or tables_in_order n Events)) (sym count),
+        refl,
+        c.with_hasher.ensures.empty,
+      ) i k (subst (λ ts. slice_get ts i ≡ Some k) c.in_ok-push.ensures.items at);
     }
 
 pub returns : goal.returns

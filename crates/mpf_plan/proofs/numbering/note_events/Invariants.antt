@@ -6,5 +6,6 @@ use Rattle.mpf_plan.proofs.numbering.note_events.Given as goal
 abbrev pub invariant-loop-event : goal.invariant-loop-event
 invariant-loop-event l = record {
   names : Notes l.initial.names l.names (flat_map (use_in Events) (take l.event-index l.events));
-  numbers : IsNumbered l.initial.names (flat_map (use_in Events) (take l.event-index l.events)) (λ ns. map (event_in ns) (take l.event-index l.events)) l.numbers.items;
+  numbers : IsNumbered l.initial.names (flat_map (use_in Events) (take l.event-index l.events))
+      (λ ns. map (event_in ns) (take l.event-index l.events)) l.numbers.items;
 }

@@ -7,9 +7,11 @@ loop-event-init c = notes_none c.args.names.now
 
 pub loop-event-preserved : goal.loop-event-preserved
 loop-event-preserved c =
-    notes_at (use_in Events) c.args.events.now c.loop-event.event-index _ c.loop-event-test.true c.args.names.now c.loop-event.names c.note.new.names
+    notes_at (use_in Events) c.args.events.now c.loop-event.event-index _ c.loop-event-test.true c.args.names.now
+    c.loop-event.names c.note.new.names
     c.loop-event.invariant c.in_ok-note.ensures.names
 
 pub returns : goal.returns
 returns c =
-    notes_all c.args.names.now c.loop-event.names c.args.events.now c.loop-event.event-index c.loop-event-test.false Events c.loop-event.invariant
+    notes_all c.args.names.now c.loop-event.names c.args.events.now c.loop-event.event-index c.loop-event-test.false
+    Events c.loop-event.invariant

@@ -7,5 +7,6 @@ use Rattle.mpf_sections.proofs.typed.are_ball_ending.Goals as goal
 pub returns : goal.returns
 returns c =
     let starts = c.args.starts.now in
-    all_from_yields_List (λ (h : Handler). bytes_eq h.name.items ball_ending) _ _ c.all.result c.all.ensures.ran (YieldsList-from_slice starts cc) (λ x b q k. search (rules, tests))
+    all_from_yields_List (λ (h : Handler). bytes_eq h.name.items ball_ending) _ _ c.all.result c.all.ensures.ran
+    (YieldsList-from_slice starts cc) (λ x b q k. search (rules, tests))
     ∙ sym (list_all-map (λ h. bytes_eq h.event.name ball_ending) handler_view starts)

@@ -16,4 +16,5 @@ returns-then-eq-3 c =
     let first : bytes_eq section flippers_name ≡ false = sym c.eq.ensures ∙ c.if-eq.false in
     let second : bytes_eq section autofire_coils_name ≡ false = sym c.eq-2.ensures ∙ c.if-eq-2.false in
     let is : bytes_eq section ball_devices_name ≡ true = sym c.eq-3.ensures ∙ c.if-eq-3.true in
-    third _ _ _ _ (bytes_eq section flippers_name) (bytes_eq section autofire_coils_name) (bytes_eq section ball_devices_name) first second is
+    third _ _ _ _ (bytes_eq section flippers_name) (bytes_eq section autofire_coils_name)
+    (bytes_eq section ball_devices_name) first second is

@@ -11,7 +11,8 @@ returns-in_default c =
     let nodes = c.args.nodes.now in
     let i = c.loop-node.node-index in
     let first = nodes_at nodes i c.node-item.result c.loop-node-test.true c.node-item.is in
-    fails (items_view c.loop-node.items.items) (node_view c.node-item.result) (map node_view (drop (i + 1) nodes)) (map node_view (drop i nodes)) (scalars_at (map node_view nodes))
+    fails (items_view c.loop-node.items.items) (node_view c.node-item.result) (map node_view (drop (i + 1) nodes))
+    (map node_view (drop i nodes)) (scalars_at (map node_view nodes))
     first (no_item (node_view c.node-item.result) c.in_default.ensures) c.loop-node.invariant
 
 pub loop-node-preserved : goal.loop-node-preserved
@@ -28,13 +29,16 @@ loop-node-preserved c =
       | then-not-is_empty+in_ok-push w ↦
           let line = w.line-line.result in
           let item = item_at line c.in-Some.text.now in
-          let pushed : items_view c.if-not-is_empty.items.items ≡ front ++ item ∷ [] = rw (w.items-is, w.in_ok-push.ensures.items) (map_push item_view c.loop-node.items.items _) in
+          let pushed : items_view c.if-not-is_empty.items.items ≡ front ++ item ∷ [] =
+          rw (w.items-is, w.in_ok-push.ensures.items) (map_push item_view c.loop-node.items.items _) in
           let some = ap not (sym c.is_empty.ensures ∙ w.if-not-is_empty.true) in
-          rw pushed (adds front node rest here total item first (node_item node c.in-Some.text.now line c.in-Some.ensures w.line-line.ensures) some c.loop-node.invariant)
+          rw pushed (adds front node rest here total item first
+          (node_item node c.in-Some.text.now line c.in-Some.ensures w.line-line.ensures) some c.loop-node.invariant)
       | else-not-is_empty w ↦
           let item = item_at (line_of node) c.in-Some.text.now in
           let none = ap not (sym c.is_empty.ensures ∙ w.if-not-is_empty.false) in
-          rw w.items-is (skips front node rest here total item first (node_item node c.in-Some.text.now (line_of node) c.in-Some.ensures refl) none c.loop-node.invariant)
+          rw w.items-is (skips front node rest here total item first
+          (node_item node c.in-Some.text.now (line_of node) c.in-Some.ensures refl) none c.loop-node.invariant)
     ]
 
 pub returns : goal.returns

@@ -11,7 +11,7 @@ invariant-loop-place g l = record {
   steps : l.core ≡ follow (plan_steps l.fn.core.plan count) l.fn.core;
   calls : CanCall l.core;
   served : IsServed l.core.machine.lines l.place l.fn.driver l.driver;
-  coils : length l.driver.sent ≡ length l.fn.driver.sent;
+  coils : length l.driver.guard ≡ length l.fn.driver.guard;
 }
 
 -- each gives a line

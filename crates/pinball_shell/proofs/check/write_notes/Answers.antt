@@ -5,9 +5,12 @@ use Rattle.yaml_bytes.proofs.Writing.{one_more_piece, all_pieces}
 
 pub loop-note-preserved : goal.loop-note-preserved
 loop-note-preserved g c =
-    one_more_piece (λ n. note_line (note_view n)) c.args.notes.now c.loop-note.note-index c.note-item.result _ _ _ c.loop-note-test.true c.loop-note.invariant
+    one_more_piece (λ n. note_line (note_view n)) c.args.notes.now c.loop-note.note-index c.note-item.result _ _ _
+    c.loop-note-test.true c.loop-note.invariant
     (rw (← c.note-item.is) c.in_ok-write_note.ensures)
 
 pub returns : goal.returns
 returns g c =
-    written-seen note_line note_view c.args.notes.now _ _ (all_pieces (λ n. note_line (note_view n)) c.args.notes.now c.loop-note.note-index _ _ c.loop-note-test.false c.loop-note.invariant)
+    written-seen note_line note_view c.args.notes.now _ _
+    (all_pieces (λ n. note_line (note_view n)) c.args.notes.now c.loop-note.note-index _ _ c.loop-note-test.false
+    c.loop-note.invariant)

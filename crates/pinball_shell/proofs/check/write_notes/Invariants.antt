@@ -5,4 +5,5 @@ use Rattle.pinball_shell.proofs.check.write_notes.Given as goal
 -- the lines of the notes so far are written
 abbrev pub invariant-loop-note : goal.invariant-loop-note
 invariant-loop-note g l =
-    Appends (g.W.Write.contents l.fn.writer) (g.W.Write.contents l.writer) (flat_map (λ n. note_line (note_view n)) (take l.note-index l.notes))
+    Appends (g.W.Write.contents l.fn.writer) (g.W.Write.contents l.writer)
+    (flat_map (λ n. note_line (note_view n)) (take l.note-index l.notes))

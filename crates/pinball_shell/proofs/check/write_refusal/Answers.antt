@@ -7,5 +7,6 @@ pub returns : goal.returns
 unfolding refusal_text
 returns g c =
     rw append_assoc
-    (last_piece c.write_all.result _ _ _ (refusal_lines (refusal_view c.args.refusal.now)) (codes "no" ++ 10 ∷ []) _ refl
+    (last_piece c.write_all.result _ _ _ (refusal_lines (refusal_view c.args.refusal.now)) (codes "no" ++ 10 ∷ []) _
+    refl
     c.in_ok-write_faults.ensures c.write_all.ensures.bytes)

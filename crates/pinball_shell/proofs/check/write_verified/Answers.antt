@@ -9,12 +9,14 @@ pub returns-in-Ok : goal.returns-in-Ok
 unfolding reply_text
 returns-in-Ok g c =
     rw c.in-Ok.is
-    (last_piece c.write_verification.result _ _ _ (notes_text (map note_view c.args.reply.now.notes.items)) (verification_text c.in-Ok.checked) _ refl
+    (last_piece c.write_verification.result _ _ _ (notes_text (map note_view c.args.reply.now.notes.items))
+    (verification_text c.in-Ok.checked) _ refl
     (rw c.deref.ensures.value at c.in_ok-write_notes.ensures) c.write_verification.ensures)
 
 pub returns-in-Err : goal.returns-in-Err
 unfolding reply_text
 returns-in-Err g c =
     rw c.in-Err.is
-    (last_piece c.write_refusal.result _ _ _ (notes_text (map note_view c.args.reply.now.notes.items)) (refusal_text (refusal_view c.in-Err.refusal)) _ refl
+    (last_piece c.write_refusal.result _ _ _ (notes_text (map note_view c.args.reply.now.notes.items))
+    (refusal_text (refusal_view c.in-Err.refusal)) _ refl
     (rw c.deref.ensures.value at c.in_ok-write_notes.ensures) c.write_refusal.ensures)

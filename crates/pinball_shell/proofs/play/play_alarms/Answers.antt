@@ -9,61 +9,85 @@ use Rattle.pinball_shell.proofs.play.play_alarms.Goals as goal
 
 pub loop-alarm-init : goal.loop-alarm-init
 loop-alarm-init g c =
-    alarms-start c.args.plan.now c.args.rig.now.checked.bound c.args.until c.args.rig.now (append_known (g.W.Write.contents c.args.writer.now) c.args.page.now) c.requires.rig.running c.requires.forward
+    alarms-start c.args.plan.now c.args.rig.now.checked.bound c.args.until c.args.rig.now
+    (append_known (g.W.Write.contents c.args.writer.now) c.args.page.now) c.requires.rig.running c.requires.forward
 
 pub play_stimulus-requires-clause-taken : goal.play_stimulus-requires-clause-taken
 play_stimulus-requires-clause-taken g c =
-    let served = c.loop-alarm.invariant.played.printed.served in
-    let comes = coming c.loop-alarm.rig.machine c.args.until (stimulus_view c.in-Some.alarm) (ap (option_map stimulus_view) (sym c.in-Some.is) ∙ c.alarm_by.ensures.alarm) in
-    coming-taken c.loop-alarm.rig c.args.until (stimulus_view c.in-Some.alarm) served.running c.requires.until comes
+    let service = c.loop-alarm.invariant.play.output.service in
+    let comes = coming c.loop-alarm.rig.machine c.args.until (stimulus_view c.in-Some.alarm)
+    (ap (option_map stimulus_view) (sym c.in-Some.is) ∙ c.alarm_by.ensures.alarm) in
+    coming-taken c.loop-alarm.rig c.args.until (stimulus_view c.in-Some.alarm) service.running c.requires.until comes
 
 pub loop-alarm-smaller : goal.loop-alarm-smaller
 loop-alarm-smaller g c =
-    let served = c.loop-alarm.invariant.played.printed.served in
+    let service = c.loop-alarm.invariant.play.output.service in
     let alarm = stimulus_view c.in-Some.alarm in
-    let comes = coming c.loop-alarm.rig.machine c.args.until alarm (ap (option_map stimulus_view) (sym c.in-Some.is) ∙ c.alarm_by.ensures.alarm) in
+    let comes = coming c.loop-alarm.rig.machine c.args.until alarm
+    (ap (option_map stimulus_view) (sym c.in-Some.is) ∙ c.alarm_by.ensures.alarm) in
     let before : Option (List ℕ) = append_known (g.W.Write.contents c.loop-alarm.writer) c.loop-alarm.page in
-    let after : Option (List ℕ) = append_known (g.W.Write.contents c.play_stimulus.new.writer) c.play_stimulus.new.page in
-    let played = alarm-played c.args.plan.now c.args.until c.args.rig.now c.loop-alarm.rig c.play_stimulus.new.rig before after served.checked_is alarm comes c.in_ok-play_stimulus.ensures in
-    alarms-fewer c.args.plan.now c.args.rig.now.checked.bound (valid-of c.args.plan.now c.args.rig.now c.requires.rig) c.args.until c.alarm_by.ensures.reached.0 c.loop-alarm.rig c.play_stimulus.new.rig before after
-    (reached-of c.args.plan.now c.args.rig.now c.loop-alarm.rig c.requires.rig served.checked_is c.alarm_by.ensures.reached) comes.next played
+    let after : Option (List ℕ) = append_known (g.W.Write.contents c.play_stimulus.new.writer) c.play_stimulus.new.page
+    in
+    let played = alarm-played c.args.plan.now c.args.until c.args.rig.now c.loop-alarm.rig c.play_stimulus.new.rig
+    before after service.checked_is alarm comes c.in_ok-play_stimulus.ensures in
+    alarms-fewer c.args.plan.now c.args.rig.now.checked.bound (valid-of c.args.plan.now c.args.rig.now c.requires.rig)
+    c.args.until c.alarm_by.ensures.reached.0 c.loop-alarm.rig c.play_stimulus.new.rig before after
+    (reached-of c.args.plan.now c.args.rig.now c.loop-alarm.rig c.requires.rig service.checked_is
+    c.alarm_by.ensures.reached) comes.next played
 
 pub loop-alarm-preserved : goal.loop-alarm-preserved
 loop-alarm-preserved g c =
-    let served = c.loop-alarm.invariant.played.printed.served in
+    let service = c.loop-alarm.invariant.play.output.service in
     let alarm = stimulus_view c.in-Some.alarm in
-    let comes = coming c.loop-alarm.rig.machine c.args.until alarm (ap (option_map stimulus_view) (sym c.in-Some.is) ∙ c.alarm_by.ensures.alarm) in
+    let comes = coming c.loop-alarm.rig.machine c.args.until alarm
+    (ap (option_map stimulus_view) (sym c.in-Some.is) ∙ c.alarm_by.ensures.alarm) in
     let begun : Option (List ℕ) = append_known (g.W.Write.contents c.args.writer.now) c.args.page.now in
     let before : Option (List ℕ) = append_known (g.W.Write.contents c.loop-alarm.writer) c.loop-alarm.page in
-    let after : Option (List ℕ) = append_known (g.W.Write.contents c.play_stimulus.new.writer) c.play_stimulus.new.page in
-    let played = alarm-played c.args.plan.now c.args.until c.args.rig.now c.loop-alarm.rig c.play_stimulus.new.rig before after served.checked_is alarm comes c.in_ok-play_stimulus.ensures in
-    alarms-more c.args.plan.now c.args.rig.now.checked.bound (valid-of c.args.plan.now c.args.rig.now c.requires.rig) c.args.until c.alarm_by.ensures.reached.0 c.loop-alarm.rig c.play_stimulus.new.rig before after
-    (reached-of c.args.plan.now c.args.rig.now c.loop-alarm.rig c.requires.rig served.checked_is c.alarm_by.ensures.reached) comes.next played
-    c.args.rig.now begun (all_alarms_by c.args.plan.now c.args.rig.now.checked.bound c.args.until c.args.rig.now.machine) c.loop-alarm.invariant
+    let after : Option (List ℕ) = append_known (g.W.Write.contents c.play_stimulus.new.writer) c.play_stimulus.new.page
+    in
+    let played = alarm-played c.args.plan.now c.args.until c.args.rig.now c.loop-alarm.rig c.play_stimulus.new.rig
+    before after service.checked_is alarm comes c.in_ok-play_stimulus.ensures in
+    alarms-more c.args.plan.now c.args.rig.now.checked.bound (valid-of c.args.plan.now c.args.rig.now c.requires.rig)
+    c.args.until c.alarm_by.ensures.reached.0 c.loop-alarm.rig c.play_stimulus.new.rig before after
+    (reached-of c.args.plan.now c.args.rig.now c.loop-alarm.rig c.requires.rig service.checked_is
+    c.alarm_by.ensures.reached) comes.next played
+    c.args.rig.now begun (all_alarms_by c.args.plan.now c.args.rig.now.checked.bound c.args.until
+    c.args.rig.now.machine) c.loop-alarm.invariant
 
 pub returns-in_err-play_stimulus : goal.returns-in_err-play_stimulus
 returns-in_err-play_stimulus g c =
-    let served = c.loop-alarm.invariant.played.printed.served in
+    let service = c.loop-alarm.invariant.play.output.service in
     let alarm = stimulus_view c.in-Some.alarm in
-    let comes = coming c.loop-alarm.rig.machine c.args.until alarm (ap (option_map stimulus_view) (sym c.in-Some.is) ∙ c.alarm_by.ensures.alarm) in
+    let comes = coming c.loop-alarm.rig.machine c.args.until alarm
+    (ap (option_map stimulus_view) (sym c.in-Some.is) ∙ c.alarm_by.ensures.alarm) in
     let begun : Option (List ℕ) = append_known (g.W.Write.contents c.args.writer.now) c.args.page.now in
     let before : Option (List ℕ) = append_known (g.W.Write.contents c.loop-alarm.writer) c.loop-alarm.page in
-    let after : Option (List ℕ) = append_known (g.W.Write.contents c.play_stimulus.new.writer) c.play_stimulus.new.page in
+    let after : Option (List ℕ) = append_known (g.W.Write.contents c.play_stimulus.new.writer) c.play_stimulus.new.page
+    in
     let p = err_from_is_err_and c.from_residual.result c.from_residual.ensures.1 in
     halts-on c.in_err-play_stimulus.field-0.0 c.from_residual.result _ _ _ _ (p.1 ∙ ap Err p.2)
-    (λ fault. alarms-fault c.args.plan.now c.args.rig.now.checked.bound (valid-of c.args.plan.now c.args.rig.now c.requires.rig) c.args.until c.alarm_by.ensures.reached.0 c.loop-alarm.rig c.play_stimulus.new.rig before after
-    (reached-of c.args.plan.now c.args.rig.now c.loop-alarm.rig c.requires.rig served.checked_is c.alarm_by.ensures.reached) comes.next
-    (alarm-fault c.args.plan.now c.args.until c.args.rig.now c.loop-alarm.rig c.play_stimulus.new.rig before after served.checked_is alarm comes fault)
-    c.args.rig.now begun (all_alarms_by c.args.plan.now c.args.rig.now.checked.bound c.args.until c.args.rig.now.machine) c.loop-alarm.invariant)
+    (λ fault. alarms-fault c.args.plan.now c.args.rig.now.checked.bound
+    (valid-of c.args.plan.now c.args.rig.now c.requires.rig) c.args.until c.alarm_by.ensures.reached.0
+    c.loop-alarm.rig c.play_stimulus.new.rig before after
+    (reached-of c.args.plan.now c.args.rig.now c.loop-alarm.rig c.requires.rig service.checked_is
+    c.alarm_by.ensures.reached) comes.next
+    (alarm-fault c.args.plan.now c.args.until c.args.rig.now c.loop-alarm.rig c.play_stimulus.new.rig before after
+    service.checked_is alarm comes fault)
+    c.args.rig.now begun (all_alarms_by c.args.plan.now c.args.rig.now.checked.bound c.args.until
+    c.args.rig.now.machine) c.loop-alarm.invariant)
     c.in_err-play_stimulus.ensures
 
 pub returns : goal.returns
 returns g c =
-    let quiet = none-quiet c.loop-alarm.rig.machine c.args.until (ap (option_map stimulus_view) (sym c.in_default.is) ∙ c.alarm_by.ensures.alarm) in
+    let quiet = none-quiet c.loop-alarm.rig.machine c.args.until
+    (ap (option_map stimulus_view) (sym c.in_default.is) ∙ c.alarm_by.ensures.alarm) in
     let going = c.loop-alarm.invariant in
     record {
-      played = alarms-stop c.args.plan.now c.args.rig.now.checked.bound c.args.until c.args.rig.now c.loop-alarm.rig (append_known (g.W.Write.contents c.args.writer.now) c.args.page.now) (append_known (g.W.Write.contents c.loop-alarm.writer) c.loop-alarm.page)
-          (all_alarms_by c.args.plan.now c.args.rig.now.checked.bound c.args.until c.args.rig.now.machine) going (not_due-nothing c.loop-alarm.rig.machine c.args.until quiet);
+      play = alarms-stop c.args.plan.now c.args.rig.now.checked.bound c.args.until c.args.rig.now c.loop-alarm.rig
+          (append_known (g.W.Write.contents c.args.writer.now) c.args.page.now)
+          (append_known (g.W.Write.contents c.loop-alarm.writer) c.loop-alarm.page)
+          (all_alarms_by c.args.plan.now c.args.rig.now.checked.bound c.args.until c.args.rig.now.machine) going
+          (not_due-nothing c.loop-alarm.rig.machine c.args.until quiet);
       quiet = quiet;
       moment = going.moment;
     }

@@ -11,7 +11,8 @@ loop-rest-init g c =
     record {
       going = c.requires.going;
       plan = refl;
-      lines = lines-start first.plan first.rig.checked.bound c.args.log.now first.rig (append_known (g.W.Write.contents c.args.writer.now) first.page) c.requires.running c.requires.rest;
+      lines = lines-start first.plan first.rig.checked.bound c.args.log.now first.rig
+          (append_known (g.W.Write.contents c.args.writer.now) first.page) c.requires.running c.requires.rest;
     }
 
 pub loop-rest-preserved : goal.loop-rest-preserved
@@ -28,9 +29,12 @@ loop-rest-preserved g c =
       going = c.in-Ok.ensures.going;
       plan = c.play.ensures.plan ∙ c.loop-rest.invariant.plan;
       lines =
-          lines-more first.plan first.rig.checked.bound c.args.log.now first.rig c.loop-rest.number c.loop-rest.rest.now line c.first_line.result.1.now now.rig next.rig begun before after
-          c.loop-rest.verdict going c.first_line.ensures.first c.worse-verdict.result c.in-Ok.found c.first_line.ensures.shorter
-          (line-same first.plan first.rig now.rig now.plan c.loop-rest.invariant.plan going.printed.served.checked_is c.loop-rest.number line next.rig before after c.in-Ok.found
+          lines-more first.plan first.rig.checked.bound c.args.log.now first.rig c.loop-rest.number c.loop-rest.rest.now
+          line c.first_line.result.1.now now.rig next.rig begun before after
+          c.loop-rest.verdict going c.first_line.ensures.first c.worse-verdict.result c.in-Ok.found
+          c.first_line.ensures.shorter
+          (line-same first.plan first.rig now.rig now.plan c.loop-rest.invariant.plan going.output.service.checked_is
+          c.loop-rest.number line next.rig before after c.in-Ok.found
           (c.in-Ok.ensures.played c.loop-rest.invariant.going)) c.worse-verdict.ensures;
     }
 
@@ -46,10 +50,14 @@ returns-in-Err-Board-clause-played g c =
     let end : Option (List ℕ) = append_known (g.W.Write.contents c.refuse_for_board.new.writer) last.page in
     let line = c.first_line.result.0.now in
     let going = c.loop-rest.invariant.lines in
-    let fault = fault-same first.plan first.rig now.rig now.plan c.loop-rest.invariant.plan going.printed.served.checked_is c.loop-rest.number line next.rig before after
-    (halts-in c.play.result _ _ (c.in-Err-Board.is ∙ ap Err c.in-Err-Board.field-0-is) (c.play.ensures.played c.loop-rest.invariant.going)) in
+    let fault = fault-same first.plan first.rig now.rig now.plan c.loop-rest.invariant.plan
+    going.output.service.checked_is c.loop-rest.number line next.rig before after
+    (halts-in c.play.result _ _ (c.in-Err-Board.is ∙ ap Err c.in-Err-Board.field-0-is)
+    (c.play.ensures.played c.loop-rest.invariant.going)) in
     ok-both c.refuse_for_board.result _ _ _
-    (λ v text is. subst (λ (r : RigView). IsLogPlayed first.plan first.rig.checked.bound c.args.log.now first.rig r begun end v) (sym (ap (λ (p : PlayerView). p.rig) c.refuse_for_board.ensures.kept))
-    (lines-fault first.plan first.rig.checked.bound c.args.log.now first.rig c.loop-rest.number c.loop-rest.rest.now line c.first_line.result.1.now now.rig next.rig begun before after
+    (λ v text is. subst (λ (r : RigView). IsLogPlayed first.plan first.rig.checked.bound c.args.log.now first.rig r
+    begun end v) (sym (ap (λ (p : PlayerView). p.rig) c.refuse_for_board.ensures.kept))
+    (lines-fault first.plan first.rig.checked.bound c.args.log.now first.rig c.loop-rest.number c.loop-rest.rest.now
+    line c.first_line.result.1.now now.rig next.rig begun before after
     c.loop-rest.verdict going c.first_line.ensures.first end v fault text is))
     c.refuse_for_board.ensures.written c.refuse_for_board.ensures.verdict

@@ -7,7 +7,8 @@ abbrev pub invariant-loop-rest : goal.invariant-loop-rest
 invariant-loop-rest g l = record {
   going : l.player.has_stopped ≡ false;
   plan : l.player.plan ≡ l.fn.player.plan;
-  lines : AreLinesGoing l.fn.player.plan l.fn.player.rig.checked.bound l.log l.fn.player.rig (append_known (g.W.Write.contents l.fn.writer) l.fn.player.page) l.number l.rest
+  lines : AreLinesGoing l.fn.player.plan l.fn.player.rig.checked.bound l.log l.fn.player.rig
+      (append_known (g.W.Write.contents l.fn.writer) l.fn.player.page) l.number l.rest
       l.player.rig (append_known (g.W.Write.contents l.writer) l.player.page) l.verdict;
 }
 

@@ -10,10 +10,13 @@ returns c =
     let old = names_view c.args.active.now.items in
     let own = row.name.text ++ codes "_active" in
     let tags = map tag_event row.tags in
-    let named = c.joined.ensures ∙ ap (λ n. n ++ [] ++ codes "_active") c.deref.ensures ∙ ap (λ n. n ++ codes "_active") (append-nil row.name.text) in
-    let first = ap names_view c.in_ok-add.ensures.added ∙ names_view-push c.args.active.now.items c.joined.result ∙ ap (λ n. old ++ n ∷ []) named in
+    let named = c.join_pieces.ensures ∙ ap (λ n. n ++ [] ++ codes "_active") c.deref.ensures
+    ∙ ap (λ n. n ++ codes "_active") (append-nil row.name.text) in
+    let first = ap names_view c.in_ok-add.ensures.added ∙ names_view-push c.args.active.now.items c.join_pieces.result
+    ∙ ap (λ n. old ++ n ∷ []) named in
     on_ok_weaker c.collect_names.result
     (λ last. last
-    ∙ ap (λ l. l ++ texts row.activated) (c.in_ok-collect_tags.ensures ∙ ap (λ l. l ++ tags) first ∙ append_assoc old (own ∷ []) tags)
-    ∙ append_assoc old (own ∷ tags) (texts row.activated))
+    ∙ ap (λ l. l ++ texts row.activation_events)
+    (c.in_ok-collect_tags.ensures ∙ ap (λ l. l ++ tags) first ∙ append_assoc old (own ∷ []) tags)
+    ∙ append_assoc old (own ∷ tags) (texts row.activation_events))
     c.collect_names.ensures

@@ -1,6 +1,6 @@
 use Rattle.std.proofs.{Common.{map, refl}, lemmas.Result.on_ok_weaker}
 use Rattle.mpf_sections.specs.View.{event_player_view}
-use Rattle.plan_parts.specs.declared.row_parts.Head.TheVariants as kinds
+use Rattle.plan_parts.specs.declared.row_parts.RowHead.TheVariants as kinds
 use Rattle.plan_parts.{specs.{Devices.texts, Effects.posts}, proofs.Gives.gives_handler}
 use Rattle.plan_parts.proofs.collect.collect_event_player.Goals as goal
 
@@ -8,7 +8,8 @@ pub returns : goal.returns
 returns c =
     let row = event_player_view c.args.row in
     let old = c.args.parts.now in
-    let new = record old { head = kinds.Handler c.written.result; lists = c.post_each.new.lists } in
+    let new = record old { head = kinds.Handler c.as_written.result; lists = c.post_each.new.lists } in
     on_ok_weaker c.post_each.result
-    (λ doing. gives_handler old new c.written.result row.event.event (map posts (texts row.posts)) c.begin.new.self refl refl refl refl c.written.ensures c.in_ok-begin.ensures doing)
+    (λ doing. gives_handler old new c.as_written.result row.event.event (map posts (texts row.posts)) c.begin.new.self
+    refl refl refl refl c.as_written.ensures c.in_ok-begin.ensures doing)
     c.post_each.ensures

@@ -9,5 +9,6 @@ pub returns : goal.returns
 returns c =
     let tags = c.args.tags.now in
     let own = codes "playfield_active" in
-    any_from_yields_List (λ (n : Name). bytes_eq n.text.items own) _ _ c.any.result c.any.ensures.ran (YieldsList-from_slice tags cc) (λ x b q k. search (rules, tests))
+    any_from_yields_List (λ (n : Name). bytes_eq n.text.items own) _ _ c.any.result c.any.ensures.ran
+    (YieldsList-from_slice tags cc) (λ x b q k. search (rules, tests))
     ∙ sym (any_mapped (λ w. bytes_eq w.text own) name_view tags)

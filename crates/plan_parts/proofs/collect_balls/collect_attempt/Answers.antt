@@ -12,4 +12,6 @@ returns c =
     let pulse = eject_pulse c.args.definitions.now.machine (option_map name_at_view c.args.coil) in
     let two = with_last-push (ejecting ∷ []) (attempt ∷ []) old in
     let three = with_last-push pulse (attempt ∷ ejecting ∷ []) old in
-    on_ok_weaker c.collect_pulse.result (λ last. cc (c.in_ok-post_in_next.ensures, c.in_ok-post.ensures, c.ball_event.ensures, c.ball_event-2.ensures)) c.collect_pulse.ensures
+    on_ok_weaker c.collect_pulse.result (λ last. cc
+    (c.in_ok-post_in_next.ensures, c.in_ok-post.ensures, c.ball_event.ensures, c.ball_event-2.ensures))
+    c.collect_pulse.ensures

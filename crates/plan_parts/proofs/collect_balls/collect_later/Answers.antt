@@ -16,5 +16,12 @@ returns c =
     let four = append_assoc old (left ∷ lost ∷ success ∷ []) (arrived ∷ []) in
     let five = append_assoc old (left ∷ lost ∷ success ∷ arrived ∷ []) (failed ∷ []) in
     on_ok_weaker c.post_in_next-2.result
-    (λ last. cc (c.in_ok-do_in_next.ensures, c.in_ok-do_in_next-2.ensures, c.in_ok-post_in_next.ensures, c.in_ok-do_in_next-3.ensures, c.ball_event.ensures, c.ball_event-2.ensures))
+    (λ last. cc (
+      c.in_ok-do_in_next.ensures,
+      c.in_ok-do_in_next-2.ensures,
+      c.in_ok-post_in_next.ensures,
+      c.in_ok-do_in_next-3.ensures,
+      c.ball_event.ensures,
+      c.ball_event-2.ensures,
+    ))
     c.post_in_next-2.ensures

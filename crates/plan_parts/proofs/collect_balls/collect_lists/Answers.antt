@@ -13,4 +13,10 @@ returns c =
     let two = append_assoc old (entered ∷ []) (attempt ∷ []) in
     let three = append_assoc old (entered ∷ attempt ∷ []) (later_lists row.name.text) in
     on_ok_weaker c.collect_later.result
-    (λ last. cc (c.in_ok-do_in_next.ensures, c.in_ok-collect_attempt.ensures, c.ball_event.ensures, c.requires.drains, c.as_slice-name.ensures)) c.collect_later.ensures
+    (λ last. cc (
+      c.in_ok-do_in_next.ensures,
+      c.in_ok-collect_attempt.ensures,
+      c.ball_event.ensures,
+      c.requires.drains,
+      c.as_slice-name.ensures,
+    )) c.collect_later.ensures

@@ -7,10 +7,11 @@ use Rattle.plan_parts.proofs.collect_balls.collect_mentions.Goals as goal
 pub returns-then-drain : goal.returns-then-drain
 returns-then-drain c =
     let name = c.args.name.now in
-    let mentioned = c.args.mentioned.now.items in
-    let old = names_view mentioned in
+    let other_mentions = c.args.other_mentions.now.items in
+    let old = names_view other_mentions in
     let entered = ball_event name (codes "_ball_enter") in
-    let one = ap names_view c.in_ok-add.ensures.added ∙ names_view-push mentioned c.ball_event.result ∙ ap (λ n. old ++ n ∷ []) c.ball_event.ensures in
+    let one = ap names_view c.in_ok-add.ensures.added ∙ names_view-push other_mentions c.ball_event.result
+    ∙ ap (λ n. old ++ n ∷ []) c.ball_event.ensures in
     on_ok_weaker c.add-then-drain.result
     (λ added. ap names_view added
     ∙ names_view-push c.add.new.items.items c.whole.result
@@ -21,9 +22,9 @@ returns-then-drain c =
 
 pub returns : goal.returns
 returns c =
-    let mentioned = c.args.mentioned.now.items in
-    let old = names_view mentioned in
+    let other_mentions = c.args.other_mentions.now.items in
+    let old = names_view other_mentions in
     ap names_view c.in_ok-add.ensures.added
-    ∙ names_view-push mentioned c.ball_event.result
+    ∙ names_view-push other_mentions c.ball_event.result
     ∙ ap (λ n. old ++ n ∷ []) c.ball_event.ensures
     ∙ ap (λ (d : Bool). old ++ entry_mentions c.args.name.now d) (sym c.if-drain.false)

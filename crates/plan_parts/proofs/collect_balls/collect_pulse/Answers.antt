@@ -19,4 +19,5 @@ pub returns-in-None : goal.returns-in-None
 returns-in-None c =
     let machine = c.args.definitions.now.machine in
     let old = c.args.lists.now in
-    sym (with_last-nil old) ∙ ap (λ o. with_last (eject_pulse machine (option_map name_at_view o)) old) (sym c.in-None.is)
+    sym (with_last-nil old) ∙ ap (λ o. with_last (eject_pulse machine (option_map name_at_view o)) old)
+    (sym c.in-None.is)

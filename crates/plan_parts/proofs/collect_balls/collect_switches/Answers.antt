@@ -14,5 +14,6 @@ loop-switch-preserved c =
     ap (λ xs. bytes_view xs ++ later) c.in_ok-add.ensures.added
     ∙ ap (λ xs. xs ++ later) (bytes_view-push l.listens.items c.as_slice.result ∙ ap (λ n. before ++ n ∷ []) here)
     ∙ append_assoc before (_ ∷ []) later
-    ∙ ap (λ xs. before ++ xs) (sym (at_drop_more (λ xs. texts (map name_view xs)) switches l.switch-index c.switch-item.result c.loop-switch-test.true))
+    ∙ ap (λ xs. before ++ xs) (sym (at_drop_more (λ xs. texts (map name_view xs)) switches l.switch-index
+    c.switch-item.result c.loop-switch-test.true))
     ∙ l.invariant

@@ -8,5 +8,6 @@ use Rattle.yaml_bytes.proofs.Each.{any_mapped}
 pub returns : goal.returns
 returns c =
     let sections = c.args.sections.now in
-    any_from_yields_List (λ (s : Section). is_game (section_view s)) _ _ c.any.result c.any.ensures.ran (YieldsList-from_slice sections cc) (λ x b q k. search (rules, tests))
+    any_from_yields_List (λ (s : Section). is_game (section_view s)) _ _ c.any.result c.any.ensures.ran
+    (YieldsList-from_slice sections cc) (λ x b q k. search (rules, tests))
     ∙ sym (any_mapped is_game section_view sections)

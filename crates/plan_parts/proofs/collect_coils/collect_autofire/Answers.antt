@@ -11,6 +11,8 @@ returns c =
     let pulse = own_pulse (defaults_called c.args.definitions.now.machine coil) in
     let before = c.collect_rule.new.parts.lists in
     on_ok_weaker c.do_in_next.result
-    (λ doing. more_lists (rule_device kinds.Autofire (rule_view c.args.row.rule) []) c.do_in_next.new.lists ((works coil pulse ∷ []) ∷ []) c.in_ok-collect_rule.ensures
-    (doing ∙ ap (λ deed. before ++ (works coil deed ∷ []) ∷ []) (c.own_pulse-pulse.ensures ∙ ap own_pulse c.defaults_of.ensures)))
+    (λ doing. more_lists (rule_device kinds.Autofire (rule_view c.args.row.rule) []) c.do_in_next.new.lists
+    ((works coil pulse ∷ []) ∷ []) c.in_ok-collect_rule.ensures
+    (doing ∙ ap (λ deed. before ++ (works coil deed ∷ []) ∷ [])
+    (c.own_pulse-pulse.ensures ∙ ap own_pulse c.defaults_of.ensures)))
     c.do_in_next.ensures

@@ -11,8 +11,10 @@ returns-in-Some c =
     let hold = option_map name_at_view c.args.row.hold_coil in
     let before = c.collect_rule.new.parts.lists in
     on_ok_weaker c.collect_two_coils.result
-    (λ doing. more_lists (rule_device kinds.Flipper (rule_view c.args.row.rule) []) c.collect_two_coils.new.lists (flipper_on machine main hold ∷ flipper_off machine main hold ∷ []) c.in_ok-collect_rule.ensures
-    (doing ∙ ap (λ o. before ++ flipper_on machine main (option_map name_at_view o) ∷ flipper_off machine main (option_map name_at_view o) ∷ []) (sym c.in-Some.is)))
+    (λ doing. more_lists (rule_device kinds.Flipper (rule_view c.args.row.rule) []) c.collect_two_coils.new.lists
+    (flipper_on machine main hold ∷ flipper_off machine main hold ∷ []) c.in_ok-collect_rule.ensures
+    (doing ∙ ap (λ o. before ++ flipper_on machine main (option_map name_at_view o)
+    ∷ flipper_off machine main (option_map name_at_view o) ∷ []) (sym c.in-Some.is)))
     c.collect_two_coils.ensures
 
 pub returns-in-None : goal.returns-in-None
@@ -22,6 +24,8 @@ returns-in-None c =
     let hold = option_map name_at_view c.args.row.hold_coil in
     let before = c.collect_rule.new.parts.lists in
     on_ok_weaker c.collect_main_coil.result
-    (λ doing. more_lists (rule_device kinds.Flipper (rule_view c.args.row.rule) []) c.collect_main_coil.new.lists (flipper_on machine main hold ∷ flipper_off machine main hold ∷ []) c.in_ok-collect_rule.ensures
-    (doing ∙ ap (λ o. before ++ flipper_on machine main (option_map name_at_view o) ∷ flipper_off machine main (option_map name_at_view o) ∷ []) (sym c.in-None.is)))
+    (λ doing. more_lists (rule_device kinds.Flipper (rule_view c.args.row.rule) []) c.collect_main_coil.new.lists
+    (flipper_on machine main hold ∷ flipper_off machine main hold ∷ []) c.in_ok-collect_rule.ensures
+    (doing ∙ ap (λ o. before ++ flipper_on machine main (option_map name_at_view o)
+    ∷ flipper_off machine main (option_map name_at_view o) ∷ []) (sym c.in-None.is)))
     c.collect_main_coil.ensures

@@ -17,9 +17,11 @@ returns c =
       of = refl;
       known = refl;
       mentions = refl;
-      listens = ap bytes_view c.in_ok-add.ensures.added ∙ map-append (λ n. n.now) old.listens.items (c.args.row.switch.text ∷ []);
-      handled = acting ∙ ap (λ l. l ++ disables) c.in_ok-collect_acts.ensures ∙ append_assoc (acts_view old.handled.items) enables disables;
-      mentioned = sym (append-nil (names_view old.mentioned.items));
+      listens = ap bytes_view c.in_ok-add.ensures.added
+          ∙ map-append (λ n. n.now) old.listens.items (c.args.row.switch.text ∷ []);
+      event_acts = acting ∙ ap (λ l. l ++ disables) c.in_ok-collect_acts.ensures
+          ∙ append_assoc (acts_view old.event_acts.items) enables disables;
+      other_mentions = sym (append-nil (names_view old.other_mentions.items));
       lists = sym (append-nil old.lists);
     })
     c.collect_acts-2.ensures

@@ -15,4 +15,5 @@ returns c =
     let holds = works hold (own_hold (defaults_called machine hold)) in
     let grown = with_last-push (holds ∷ []) (pulses ∷ []) old in
     let joined = append_assoc old ((pulses ∷ holds ∷ []) ∷ []) ((works hold disable ∷ []) ∷ []) in
-    on_ok_weaker c.do_in_next-2.result (λ last. cc (c.in_ok-do_in_next.ensures, c.in_ok-add.ensures)) c.do_in_next-2.ensures
+    on_ok_weaker c.do_in_next-2.result (λ last. cc (c.in_ok-do_in_next.ensures, c.in_ok-add.ensures))
+    c.do_in_next-2.ensures

@@ -13,7 +13,8 @@ returns c =
     let hit = map posts (or_own hit_names (event (codes "_hit"))) in
     let complete = map posts (or_own complete_names (event (codes "_complete"))) in
     let one = c.in_ok-post_in_next.ensures ∙ ap (λ n. old ++ (posts n ∷ []) ∷ []) c.block_event.ensures in
-    let two = c.in_ok-collect_list.ensures ∙ ap (λ n. c.post_in_next.new.lists ++ map posts (or_own hit_names n) ∷ []) c.block_event-2.ensures in
+    let two = c.in_ok-collect_list.ensures
+    ∙ ap (λ n. c.post_in_next.new.lists ++ map posts (or_own hit_names n) ∷ []) c.block_event-2.ensures in
     on_ok_weaker c.collect_list-2.result
     (λ last. last
     ∙ ap (λ n. c.collect_list.new.lists ++ map posts (or_own complete_names n) ∷ []) c.block_event-3.ensures

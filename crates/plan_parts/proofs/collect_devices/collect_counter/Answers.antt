@@ -9,5 +9,6 @@ pub returns : goal.returns
 returns c =
     let row = counter_view c.args.row in
     on_ok_weaker c.collect_block.result
-    (λ b. block_device row.name.text (kinds.Counter row.settings) (acts Count row.counts) c.deref.ensures refl refl refl refl refl refl refl c.in_ok-collect_acts.ensures b)
+    (λ b. block_device row.name.text (kinds.Counter row.settings) (acts Count row.counts) c.deref.ensures refl refl refl
+    refl refl refl refl c.in_ok-collect_acts.ensures b)
     c.collect_block.ensures

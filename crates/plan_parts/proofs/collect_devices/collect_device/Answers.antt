@@ -21,7 +21,9 @@ pub returns : goal.returns
 returns c =
     let section = c.args.section.now in
     let e = c.args.entry.now in
-    gives_same c.collect_save_device.result c.args.parts.now c.collect_save_device.new.parts (save_entry_gives section e) (device_entry_gives section e)
+    gives_same c.collect_save_device.result c.args.parts.now c.collect_save_device.new.parts
+    (save_entry_gives section e) (device_entry_gives section e)
     (λ whose. ap (where_some (device whose))
-    (save_there section (entry_view e) (sym c.eq.ensures ∙ c.if-eq.false) (sym c.eq-2.ensures ∙ c.if-eq-2.false) (sym c.eq-3.ensures ∙ c.if-eq-3.false) (sym c.eq-4.ensures ∙ c.if-eq-4.false)))
+    (save_there section (entry_view e) (sym c.eq.ensures ∙ c.if-eq.false) (sym c.eq-2.ensures ∙ c.if-eq-2.false)
+    (sym c.eq-3.ensures ∙ c.if-eq-3.false) (sym c.eq-4.ensures ∙ c.if-eq-4.false)))
     c.collect_save_device.ensures

@@ -7,5 +7,6 @@ pub returns : goal.returns
 returns c =
     let row = step_block_view c.args.row in
     on_ok_weaker c.collect_block.result
-    (λ b. block_device row.name.text c.args.settings (step_acts 0 row.steps) c.deref.ensures refl refl refl refl refl refl refl c.in_ok-collect_steps.ensures b)
+    (λ b. block_device row.name.text c.args.settings (step_acts 0 row.steps) c.deref.ensures refl refl refl refl refl
+    refl refl c.in_ok-collect_steps.ensures b)
     c.collect_block.ensures

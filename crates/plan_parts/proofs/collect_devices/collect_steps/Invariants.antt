@@ -5,4 +5,5 @@ use Rattle.plan_parts.proofs.collect_devices.collect_steps.Given as goal
 
 abbrev pub invariant-loop-number : goal.invariant-loop-number
 invariant-loop-number l =
-    acts_view l.handled.items ++ step_acts l.number (map handlers_view (drop l.number l.steps)) ≡ acts_view l.initial.handled.items ++ step_acts 0 (map handlers_view l.steps)
+    acts_view l.event_acts.items ++ step_acts l.number (map handlers_view (drop l.number l.steps))
+    ≡ acts_view l.initial.event_acts.items ++ step_acts 0 (map handlers_view l.steps)

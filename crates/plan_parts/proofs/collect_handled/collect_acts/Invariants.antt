@@ -5,4 +5,5 @@ use Rattle.plan_parts.proofs.collect_handled.collect_acts.Given as goal
 
 abbrev pub invariant-loop-handler : goal.invariant-loop-handler
 invariant-loop-handler l =
-    acts_view l.handled.items ++ acts l.act (map handler_view (drop l.handler-index l.handlers)) ≡ acts_view l.initial.handled.items ++ acts l.act (map handler_view l.handlers)
+    acts_view l.event_acts.items ++ acts l.act (map handler_view (drop l.handler-index l.handlers))
+    ≡ acts_view l.initial.event_acts.items ++ acts l.act (map handler_view l.handlers)

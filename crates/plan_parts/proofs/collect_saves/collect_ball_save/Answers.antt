@@ -12,7 +12,9 @@ returns c =
     let old = c.args.parts.now in
     let enables = acts Enable row.enable_events in
     let disables = acts Disable row.disable_events in
-    let acting = c.in_ok-collect_acts-2.ensures ∙ ap (λ l. l ++ disables) c.in_ok-collect_acts.ensures ∙ append_assoc (acts_view old.handled.items) enables disables in
+    let acting = c.in_ok-collect_acts-2.ensures ∙ ap (λ l. l ++ disables) c.in_ok-collect_acts.ensures
+    ∙ append_assoc (acts_view old.event_acts.items) enables disables in
     on_ok_weaker c.collect_save_lists.result
-    (λ doing. device_acting (kinds.BallSave row.settings) (save_acts row) (save_lists row.name.text) refl refl refl refl refl refl acting (doing ∙ ap (λ n. old.lists ++ save_lists n) c.deref.ensures))
+    (λ doing. device_acting (kinds.BallSave row.settings) (save_acts row) (save_lists row.name.text) refl refl refl refl
+    refl refl acting (doing ∙ ap (λ n. old.lists ++ save_lists n) c.deref.ensures))
     c.collect_save_lists.ensures

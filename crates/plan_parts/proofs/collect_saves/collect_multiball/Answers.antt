@@ -10,6 +10,7 @@ returns c =
     let row = multiball_view c.args.row in
     let old = c.args.parts.now in
     on_ok_weaker c.collect_multiball_lists.result
-    (λ doing. device_acting (kinds.Multiball row.settings) (acts Start row.start_events) (multiball_lists row.name.text row.settings.balls) refl refl refl refl refl refl c.in_ok-collect_acts.ensures
+    (λ doing. device_acting (kinds.Multiball row.settings) (acts Start row.start_events)
+    (multiball_lists row.name.text row.settings.balls) refl refl refl refl refl refl c.in_ok-collect_acts.ensures
     (doing ∙ ap (λ n. old.lists ++ multiball_lists n row.settings.balls) c.deref.ensures))
     c.collect_multiball_lists.ensures

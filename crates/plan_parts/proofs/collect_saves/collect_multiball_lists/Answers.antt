@@ -11,4 +11,6 @@ returns c =
     let adds = adds_balls c.args.balls in
     let grown = with_last-push (adds ∷ []) (started ∷ []) old in
     let joined = append_assoc old ((started ∷ adds ∷ []) ∷ []) ((ended ∷ []) ∷ []) in
-    on_ok_weaker c.post_in_next-2.result (λ last. cc (c.in_ok-post_in_next.ensures, c.in_ok-add.ensures, c.multiball_event.ensures, c.multiball_event-2.ensures)) c.post_in_next-2.ensures
+    on_ok_weaker c.post_in_next-2.result (λ last. cc
+    (c.in_ok-post_in_next.ensures, c.in_ok-add.ensures, c.multiball_event.ensures, c.multiball_event-2.ensures))
+    c.post_in_next-2.ensures

@@ -13,4 +13,11 @@ returns c =
     let grown = with_last-push (requests 1 ∷ []) (saving ∷ []) (old ++ (enabled ∷ []) ∷ (disabled ∷ []) ∷ []) in
     let three = append_assoc old ((enabled ∷ []) ∷ (disabled ∷ []) ∷ []) ((saving ∷ requests 1 ∷ []) ∷ []) in
     on_ok_weaker c.add.result
-    (λ last. cc (c.in_ok-post_in_next.ensures, c.in_ok-post_in_next-2.ensures, c.in_ok-post_in_next-3.ensures, c.save_event.ensures, c.save_event-2.ensures, c.save_event-3.ensures)) c.add.ensures
+    (λ last. cc (
+      c.in_ok-post_in_next.ensures,
+      c.in_ok-post_in_next-2.ensures,
+      c.in_ok-post_in_next-3.ensures,
+      c.save_event.ensures,
+      c.save_event-2.ensures,
+      c.save_event-3.ensures,
+    )) c.add.ensures

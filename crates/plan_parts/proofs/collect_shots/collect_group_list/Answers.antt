@@ -12,4 +12,5 @@ returns c =
     let of_state = posts (name ++ codes "_" ++ state ++ end) in
     let whole = append-nil name in
     let two = with_last-push (of_state ∷ []) (all ∷ []) old in
-    on_ok_weaker c.post.result (λ last. cc (c.in_ok-post_in_next.ensures, c.joined.ensures, c.ending.ensures)) c.post.ensures
+    on_ok_weaker c.post.result (λ last. cc (c.in_ok-post_in_next.ensures, c.join_pieces.ensures, c.ending.ensures))
+    c.post.ensures

@@ -19,6 +19,7 @@ returns c =
     (λ last. last
     ∙ ap (λ n. c.collect_states.new.lists ++ complete n) named
     ∙ ap (λ l. l ++ complete name)
-    (c.in_ok-collect_states.ensures ∙ ap (λ n. c.collect_each_shot.new.lists ++ hit n) named ∙ ap (λ l. l ++ hit name) c.in_ok-collect_each_shot.ensures ∙ append_assoc old shots (hit name))
+    (c.in_ok-collect_states.ensures ∙ ap (λ n. c.collect_each_shot.new.lists ++ hit n) named
+    ∙ ap (λ l. l ++ hit name) c.in_ok-collect_each_shot.ensures ∙ append_assoc old shots (hit name))
     ∙ append_assoc old (shots ++ hit name) (complete name))
     c.collect_states-2.ensures

@@ -17,4 +17,12 @@ returns c =
     let three = with_last-push (in_state ∷ []) (hit ∷ in_profile ∷ []) old in
     let four = with_last-push (of_state ∷ []) (hit ∷ in_profile ∷ in_state ∷ []) old in
     on_ok_weaker c.post-3.result
-    (λ last. cc (c.in_ok-post_in_next.ensures, c.in_ok-post.ensures, c.in_ok-post-2.ensures, c.joined.ensures, c.ending.ensures, c.in_profile.ensures, c.ending-2.ensures)) c.post-3.ensures
+    (λ last. cc (
+      c.in_ok-post_in_next.ensures,
+      c.in_ok-post.ensures,
+      c.in_ok-post-2.ensures,
+      c.join_pieces.ensures,
+      c.ending.ensures,
+      c.in_profile.ensures,
+      c.ending-2.ensures,
+    )) c.post-3.ensures

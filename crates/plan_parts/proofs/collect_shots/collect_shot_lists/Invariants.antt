@@ -4,5 +4,7 @@ use Rattle.plan_parts.proofs.collect_shots.collect_shot_lists.Given as goal
 
 abbrev pub invariant-loop-state : goal.invariant-loop-state
 invariant-loop-state l =
-    l.lists ++ map (λ state. map posts (shot_events l.name l.profile.name.now state)) (bytes_view (drop l.state-index l.state-items))
-    ≡ l.initial.lists ++ map (λ state. map posts (shot_events l.name l.profile.name.now state)) (bytes_view l.state-items)
+    l.lists ++ map (λ state. map posts (shot_events l.name l.profile.name.now state))
+    (bytes_view (drop l.state-index l.state-items))
+    ≡ l.initial.lists ++ map (λ state. map posts (shot_events l.name l.profile.name.now state))
+    (bytes_view l.state-items)

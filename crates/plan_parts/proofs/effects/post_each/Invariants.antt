@@ -5,4 +5,5 @@ use Rattle.plan_parts.proofs.effects.post_each.Given as goal
 
 abbrev pub invariant-loop-name : goal.invariant-loop-name
 invariant-loop-name l =
-    with_last (map posts (texts (map name_view (drop l.name-index l.names)))) l.lists ≡ with_last (map posts (texts (map name_view l.names))) l.initial.lists
+    with_last (map posts (texts (map name_view (drop l.name-index l.names)))) l.lists
+    ≡ with_last (map posts (texts (map name_view l.names))) l.initial.lists

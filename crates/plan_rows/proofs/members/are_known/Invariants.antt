@@ -5,4 +5,5 @@ use Rattle.plan_rows.proofs.members.are_known.Given as goal
 
 abbrev pub invariant-loop-shot : goal.invariant-loop-shot
 invariant-loop-shot l =
-    list_all (λ w. is_some (shot_called l.definitions w.text)) (map name_view (drop l.shot-index l.shots)) ≡ list_all (λ w. is_some (shot_called l.definitions w.text)) (map name_view l.shots)
+    list_all (λ w. is_some (shot_called l.definitions w.text)) (map name_view (drop l.shot-index l.shots))
+    ≡ list_all (λ w. is_some (shot_called l.definitions w.text)) (map name_view l.shots)

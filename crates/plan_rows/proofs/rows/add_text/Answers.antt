@@ -8,4 +8,5 @@ returns-clause-rows c =
     let before = row_list_view c.args.rows.now.items in
     let sections = map section_view c.args.sections.now in
     c.in_ok-add_sections.ensures
-    ∙ (λ i. before ++ rows_in c.args.definitions.now c.args.place (λ name. c.in_ok-seats.ensures.seats name i) (λ name. c.in_ok-seats.ensures.destinations name i) sections)
+    ∙ (λ i. before ++ rows_in c.args.definitions.now c.args.place (λ name. c.in_ok-seats.ensures.seats name i)
+    (λ name. c.in_ok-seats.ensures.destinations name i) sections)

@@ -12,7 +12,11 @@ returns c =
     let s = shot_of (entry_view c.args.entry.now) in
     let name = c.as_slice.ensures ∙ ap (λ (x : Shot). x.name.text) c.as_shot-shot.ensures in
     let profile = ap (λ (x : Shot). x.profile.text) c.as_shot-shot.ensures in
-    let seat : option_map seat_view c.copied.result ≡ found_seat seats s.name.text = ap (option_map seat_view) (c.copied.ensures ∙ c.get.ensures.value) ∙ value-found seat_view seats c.as_slice.result.now ∙ ap (found_seat seats) name in
-    let known : c.has_profile.result ≡ has_profile rows s.profile.text = c.has_profile.ensures ∙ ap (has_profile rows) profile in
-    let its : profile_view c.profile.result.now ≡ profile_of_name rows s.profile.text = c.profile.ensures ∙ ap (profile_of_name rows) profile in
+    let seat : option_map seat_view c.copied.result ≡ found_seat seats s.name.text =
+    ap (option_map seat_view) (c.copied.ensures ∙ c.get.ensures.value)
+    ∙ value-found seat_view seats c.as_slice.result.now ∙ ap (found_seat seats) name in
+    let known : c.has_profile.result ≡ has_profile rows s.profile.text = c.has_profile.ensures
+    ∙ ap (has_profile rows) profile in
+    let its : profile_view c.profile.result.now ≡ profile_of_name rows s.profile.text = c.profile.ensures
+    ∙ ap (profile_of_name rows) profile in
     λ i. shot c.args.place s (seat i) (known i) (its i)

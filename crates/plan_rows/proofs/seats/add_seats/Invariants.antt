@@ -5,5 +5,6 @@ use Rattle.plan_rows.proofs.seats.add_seats.Given as goal
 
 abbrev pub invariant-loop-shot : goal.invariant-loop-shot
 invariant-loop-shot l =
-    (name : List ℕ) → found_after name (found_seat l.seats name) (seats_at l.row l.shot (map name_view (drop l.shot l.shots)))
+    (name : List ℕ) → found_after name (found_seat l.seats name)
+    (seats_at l.row l.shot (map name_view (drop l.shot l.shots)))
     ≡ found_after name (found_seat l.initial.seats name) (seats_at l.row 0 (map name_view l.shots))

@@ -9,8 +9,10 @@ loop-group-preserved c = λ name.
     let l = c.loop-group in
     let others = λ (groups : List _). list_any (lists_shot name) (map shot_group_of (map entry_view groups)) in
     let rest = others (drop (l.group-index + 1) c.args.groups.now) in
-    let took = c.in_ok-take_shots.ensures name ∙ ap (λ g. is_found l.names name || lists_shot name g) c.as_shot_group.ensures in
+    let took = c.in_ok-take_shots.ensures name
+    ∙ ap (λ g. is_found l.names name || lists_shot name g) c.as_shot_group.ensures in
     ap (λ (b : Bool). b || rest) took
     ∙ or_assoc (is_found l.names name) _ rest
-    ∙ next-is (λ groups. is_found l.names name || others groups) c.args.groups.now l.group-index c.group-item.result c.loop-group-test.true c.group-item.is
+    ∙ next-is (λ groups. is_found l.names name || others groups) c.args.groups.now l.group-index c.group-item.result
+    c.loop-group-test.true c.group-item.is
     ∙ l.invariant name

@@ -6,5 +6,6 @@ use Rattle.plan_rows.proofs.seats.take_groups.Given as goal
 
 abbrev pub invariant-loop-group : goal.invariant-loop-group
 invariant-loop-group l =
-    (name : List ℕ) → (is_found l.names name || list_any (lists_shot name) (map shot_group_of (map entry_view (drop l.group-index l.groups))))
+    (name : List ℕ) → (is_found l.names name
+    || list_any (lists_shot name) (map shot_group_of (map entry_view (drop l.group-index l.groups))))
     ≡ (is_found l.initial.names name || list_any (lists_shot name) (map shot_group_of (map entry_view l.groups)))

@@ -12,5 +12,6 @@ loop-shot-preserved c = λ name.
     let took = took-name l.names c.insert.new.self c.deref.result c.in_ok-insert.ensures.updates name in
     ap (λ (b : Bool). b || rest) (took ∙ ap (λ key. is_found l.names name || bytes_eq name key) c.deref.ensures)
     ∙ or_assoc (is_found l.names name) _ rest
-    ∙ next-is (λ shots. is_found l.names name || others shots) c.args.shots.now l.shot-index c.shot-item.result c.loop-shot-test.true c.shot-item.is
+    ∙ next-is (λ shots. is_found l.names name || others shots) c.args.shots.now l.shot-index c.shot-item.result
+    c.loop-shot-test.true c.shot-item.is
     ∙ l.invariant name

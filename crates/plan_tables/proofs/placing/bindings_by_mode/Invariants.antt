@@ -1,5 +1,5 @@
 use Rattle.std.proofs.Common.{◌≡◌, length}
-use Rattle.plan_tables.{specs.Inside.lists_view, proofs.ListsBy.BindingsListed}
+use Rattle.plan_tables.{specs.PlanFields.lists_view, proofs.ListsBy.BindingsListed}
 use Rattle.plan_tables.proofs.placing.bindings_by_mode.Given as goal
 
 abbrev pub invariant-loop-place : goal.invariant-loop-place

@@ -1,5 +1,5 @@
 use Rattle.std.proofs.Common.{◌≡◌, ◌+◌, length}
-use Rattle.plan_tables.{specs.Inside.lists_view, proofs.ListsBy.{RowsListed, row_target}}
+use Rattle.plan_tables.{specs.PlanFields.lists_view, proofs.ListsBy.{RowsListed, row_target}}
 use Rattle.plan_tables.proofs.placing.feeders_by_target.Given as goal
 
 abbrev pub invariant-loop-number : goal.invariant-loop-number

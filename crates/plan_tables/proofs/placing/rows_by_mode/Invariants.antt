@@ -1,5 +1,5 @@
 use Rattle.std.proofs.Common.{◌≡◌, length}
-use Rattle.plan_tables.{specs.Inside.lists_view, proofs.ListsBy.{RowsListed, row_mode}}
+use Rattle.plan_tables.{specs.PlanFields.lists_view, proofs.ListsBy.{RowsListed, row_mode}}
 use Rattle.plan_tables.proofs.placing.rows_by_mode.Given as goal
 
 abbrev pub invariant-loop-number : goal.invariant-loop-number

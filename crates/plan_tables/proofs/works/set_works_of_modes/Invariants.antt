@@ -1,5 +1,5 @@
 use Rattle.std.proofs.Common.{◌≤◌, length, map, drop}
-use Rattle.plan_tables.specs.Inside.{mode_entry_view, AreWorksFrom}
+use Rattle.plan_tables.specs.PlanFields.{mode_entry_view, AreWorksFrom}
 use Rattle.plan_tables.proofs.works.set_works_of_modes.Given as goal
 
 abbrev pub invariant-loop-number : goal.invariant-loop-number

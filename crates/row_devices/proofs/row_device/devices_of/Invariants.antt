@@ -7,6 +7,8 @@ use Rattle.row_devices.proofs.row_device.devices_of.Given as goal
 -- the devices of the rows so far
 abbrev pub invariant-loop-row : goal.invariant-loop-row
 invariant-loop-row l = record {
-  rows : All (λ row. HasDevice row.settings) l.rows → map devices.ghosts.row_of l.devices.items ≡ take l.row-index l.rows;
-  first : All (λ row. HasDevice row.settings) l.rows → map devices.ghosts.state_of l.devices.items ≡ map (λ row. first_state row.settings) (take l.row-index l.rows);
+  rows : All (λ row. HasDevice row.settings) l.rows
+      → map devices.ghosts.row_of l.devices.items ≡ take l.row-index l.rows;
+  first : All (λ row. HasDevice row.settings) l.rows
+      → map devices.ghosts.state_of l.devices.items ≡ map (λ row. first_state row.settings) (take l.row-index l.rows);
 }

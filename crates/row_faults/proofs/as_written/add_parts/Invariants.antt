@@ -4,5 +4,7 @@ use Rattle.row_faults.proofs.as_written.add_parts.Given as goal
 
 abbrev pub invariant-loop-part : goal.invariant-loop-part
 invariant-loop-part l =
-    with_faults l.faults (flat_map (λ part. named_faults l.faults.rows l.faults.text part.1) (drop l.part-index l.parts))
-    ≡ with_faults l.initial.faults (flat_map (λ part. named_faults l.initial.faults.rows l.initial.faults.text part.1) l.parts)
+    with_faults l.faults (flat_map (λ part. named_faults l.faults.rows l.faults.text part.1)
+    (drop l.part-index l.parts))
+    ≡ with_faults l.initial.faults (flat_map (λ part. named_faults l.initial.faults.rows l.initial.faults.text part.1)
+    l.parts)

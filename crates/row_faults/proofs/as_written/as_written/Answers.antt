@@ -6,7 +6,8 @@ pub returns : goal.returns
 returns g c =
     let sort = c.in_ok-sort_by_key.ensures in
     let order = c.args.order.now in
-    sorted-is (λ part. written_before order part.0) c.in_ok-sorted.sorted.items c.sort_by_key.new.self.items
+    sorted-is (λ part. written_before order part.0) c.in_ok-order_written.order_written.items
+    c.sort_by_key.new.self.items
     (sort.sorted (λ part. written_before order part.0) (always_returns_same _ _ _ (λ a r q k. search rules)))
     (sort.stable (λ part. written_before order part.0) (always_returns_same _ _ _ (λ a r q k. search rules)))
-    ∙ ap (ordered_by (λ part. written_before order part.0)) c.in_ok-sorted.ensures.items
+    ∙ ap (ordered_by (λ part. written_before order part.0)) c.in_ok-order_written.ensures.items

@@ -11,6 +11,9 @@ returns c =
     let first = c.args.faults.now in
     let players = c.players_of-players.result.now in
     sym (with-none f)
-    ∙ sym (at_drop_all (λ ps. with_faults f (flat_map (coil_player_faults f.rows.machine f.text) (map coil_player_of (map player_view ps)))) players l.player-index c.loop-player-test.false)
+    ∙ sym (at_drop_all (λ ps. with_faults f
+    (flat_map (coil_player_faults f.rows.machine f.text) (map coil_player_of (map player_view ps)))) players
+    l.player-index c.loop-player-test.false)
     ∙ l.invariant
-    ∙ ap (λ ps. with_faults first (flat_map (coil_player_faults first.rows.machine first.text) (map coil_player_of ps))) c.players_of-players.ensures
+    ∙ ap (λ ps. with_faults first (flat_map (coil_player_faults first.rows.machine first.text) (map coil_player_of ps)))
+    c.players_of-players.ensures

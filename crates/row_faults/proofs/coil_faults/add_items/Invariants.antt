@@ -5,5 +5,7 @@ use Rattle.row_faults.proofs.coil_faults.add_items.Given as goal
 
 abbrev pub invariant-loop-item : goal.invariant-loop-item
 invariant-loop-item l =
-    with_faults l.faults (flat_map (item_faults l.faults.rows.machine l.faults.text) (map coil_item_of (map keyed_view (drop l.item-index l.items))))
-    ≡ with_faults l.initial.faults (flat_map (item_faults l.initial.faults.rows.machine l.initial.faults.text) (map coil_item_of (map keyed_view l.items)))
+    with_faults l.faults (flat_map (item_faults l.faults.rows.machine l.faults.text)
+    (map coil_item_of (map keyed_view (drop l.item-index l.items))))
+    ≡ with_faults l.initial.faults (flat_map (item_faults l.initial.faults.rows.machine l.initial.faults.text)
+    (map coil_item_of (map keyed_view l.items)))

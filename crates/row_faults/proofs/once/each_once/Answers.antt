@@ -27,11 +27,15 @@ fault-equal : (f g : RowFault) → row_fault_view f ≡ row_fault_view g → sam
 fault-equal f g same =
     let kinds : f.kind ≡ g.kind = ap (λ (v : RowFaultView). v.kind) same in
     and_from _ _ (subst (λ k. same_kinds.ghosts.eq f.kind k ≡ true) kinds (kind-equal f.kind))
-    (and_from _ _ ((bytes_eq-Decides (rc_slice_items f.text.letters) (rc_slice_items g.text.letters)).1 (ap (λ (v : RowFaultView). v.text) same))
-    (and_from _ _ (eq-eqb f.line g.line (ap (λ (v : RowFaultView). v.line) same)) ((bytes_eq-Decides f.name.items g.name.items).1 (ap (λ (v : RowFaultView). v.name) same))))
+    (and_from _ _ ((bytes_eq-Decides (rc_slice_items f.text.letters) (rc_slice_items g.text.letters)).1
+    (ap (λ (v : RowFaultView). v.text) same))
+    (and_from _ _ (eq-eqb f.line g.line (ap (λ (v : RowFaultView). v.line) same))
+    ((bytes_eq-Decides f.name.items g.name.items).1 (ap (λ (v : RowFaultView). v.name) same))))
 
 pub loop-fault-preserved : goal.loop-fault-preserved
 loop-fault-preserved c =
-    let made = took-one same_faults.ghosts.eq (λ f g. (fault-same f g, fault-equal f g)) c.loop-fault.each.keys c.insert.new.self.keys c.in-Some.fault c.loop-fault.fault-iterator.rest.items c.next.new.self.rest.items
-    (listed_once [] (row_faults_view c.args.faults.items)) (search rules) c.in_ok-insert.ensures.keys c.loop-fault.invariant.plain c.loop-fault.invariant.others c.loop-fault.invariant.listed in
+    let made = took-one same_faults.ghosts.eq (λ f g. (fault-same f g, fault-equal f g)) c.loop-fault.each.keys
+    c.insert.new.self.keys c.in-Some.fault c.loop-fault.fault-iterator.rest.items c.next.new.self.rest.items
+    (listed_once [] (row_faults_view c.args.faults.items)) (search rules) c.in_ok-insert.ensures.keys
+    c.loop-fault.invariant.plain c.loop-fault.invariant.others c.loop-fault.invariant.listed in
     record { listed = made.0; plain = made.1; others = made.2 }

@@ -5,5 +5,7 @@ use Rattle.row_faults.proofs.reserved.add_step_blocks.Given as goal
 
 abbrev pub invariant-loop-entry : goal.invariant-loop-entry
 invariant-loop-entry l =
-    with_faults l.faults (post_faults l.faults (flat_map step_posts (map step_block_of (map entry_view (drop l.entry-index l.entries)))))
-    ≡ with_faults l.initial.faults (post_faults l.initial.faults (flat_map step_posts (map step_block_of (map entry_view l.entries))))
+    with_faults l.faults (post_faults l.faults
+    (flat_map step_posts (map step_block_of (map entry_view (drop l.entry-index l.entries)))))
+    ≡ with_faults l.initial.faults (post_faults l.initial.faults
+    (flat_map step_posts (map step_block_of (map entry_view l.entries))))

@@ -7,5 +7,6 @@ use Rattle.row_faults.proofs.reserved.add_texts.Given as goal
 -- the events so far, and those of the other modes
 abbrev pub invariant-loop-text : goal.invariant-loop-text
 invariant-loop-text l =
-    (q : List ℕ) → is_among (events_view l.events ++ events_of_modes (map (λ m. m.name) (map mode_view (drop l.text-index l.texts)))) q
+    (q : List ℕ) → is_among (events_view l.events
+    ++ events_of_modes (map (λ m. m.name) (map mode_view (drop l.text-index l.texts)))) q
     ≡ is_among (events_view l.fn.events ++ events_of_modes (map (λ m. m.name) (map mode_view l.texts))) q

@@ -7,4 +7,6 @@ use Rattle.row_faults.proofs.reserved.events_of_modes.Given as goal
 -- the events so far, and those of the other modes
 abbrev pub invariant-loop-mode : goal.invariant-loop-mode
 invariant-loop-mode l =
-    (q : List ℕ) → is_among (events_view l.events ++ events_of_modes (map (λ w. w.text) (map name_view (drop l.mode-index l.modes)))) q ≡ is_among (events_of_modes (map (λ w. w.text) (map name_view l.modes))) q
+    (q : List ℕ) → is_among (events_view l.events
+    ++ events_of_modes (map (λ w. w.text) (map name_view (drop l.mode-index l.modes)))) q
+    ≡ is_among (events_of_modes (map (λ w. w.text) (map name_view l.modes))) q

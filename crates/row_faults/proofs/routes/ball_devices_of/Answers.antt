@@ -15,5 +15,6 @@ loop-section-preserved c =
     let own = ap (map ball_device_of) c.entries_of.ensures ∙ ball_devices_are section in
     ap (λ (ds : List _). ds ++ later rest) (c.in_ok-add_entries.ensures ∙ ap (λ (ds : List _). before ++ ds) own)
     ∙ append_assoc before (ball_devices_in section) (later rest)
-    ∙ next-is (λ sections. before ++ later sections) c.args.sections.now l.section-index c.section-item.result c.loop-section-test.true c.section-item.is
+    ∙ next-is (λ sections. before ++ later sections) c.args.sections.now l.section-index c.section-item.result
+    c.loop-section-test.true c.section-item.is
     ∙ l.invariant

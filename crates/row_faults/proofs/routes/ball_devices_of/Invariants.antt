@@ -6,4 +6,5 @@ use Rattle.row_faults.proofs.routes.ball_devices_of.Given as goal
 
 abbrev pub invariant-loop-section : goal.invariant-loop-section
 invariant-loop-section l =
-    devices_view l.devices.items ++ ball_devices_of (map section_view (drop l.section-index l.sections)) ≡ ball_devices_of (map section_view l.sections)
+    devices_view l.devices.items ++ ball_devices_of (map section_view (drop l.section-index l.sections))
+    ≡ ball_devices_of (map section_view l.sections)

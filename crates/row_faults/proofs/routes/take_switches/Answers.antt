@@ -19,26 +19,31 @@ pub loop-switch-preserved : goal.loop-switch-preserved
 loop-switch-preserved c =
     let l = c.loop-switch in
     let given = c.args.switches.now in
-    let before = is_found l.taken in
+    let before = is_found l.names_before in
     let name = (name_view c.switch-item.result).text in
     let texts = λ (names : List _). map (λ w. w.text) (map name_view names) in
     let rest = texts (drop (l.switch-index + 1) given) in
     let fresh = c.in_ok-fresh.fresh in
-    let again : not fresh ≡ before name = ap not c.in_ok-fresh.ensures.added ∙ not-not _ ∙ name-found l.taken c.deref.result.now ∙ ap before c.deref.ensures in
+    let again : not fresh ≡ before name = ap not c.in_ok-fresh.ensures.added ∙ not-not _
+    ∙ name-found l.names_before c.deref.result.now ∙ ap before c.deref.ensures in
     let joint : c.if-again.again ≡ (l.again || before name) =
     elim c.if-again.branch [
       | then-again w ↦ joined l.again (before name) c.if-again.again w.if-again.true (w.again-is ∙ w.if-again.true)
       | else-again w ↦ other l.again (before name) c.if-again.again w.if-again.false (w.again-is ∙ again)
     ] in
-    let taken : is_found c.insert.new.self ≡ taken_too name before = λ i q. (took-name l.taken c.insert.new.self c.deref.result c.in_ok-fresh.ensures.updates q ∙ ap (λ key. before q || bytes_eq q key) c.deref.ensures) i in
+    let taken : is_found c.insert.new.self ≡ taken_too name before =
+    λ i q. (took-name l.names_before c.insert.new.self c.deref.result c.in_ok-fresh.ensures.updates q
+    ∙ ap (λ key. before q || bytes_eq q key) c.deref.ensures) i in
     record {
       again =
           (λ i. joint i || is_one_taken rest (taken i))
           ∙ or_assoc l.again (before name) (is_one_taken rest (taken_too name before))
-          ∙ next-is (λ names. l.again || is_one_taken (texts names) before) given l.switch-index c.switch-item.result c.loop-switch-test.true c.switch-item.is
+          ∙ next-is (λ names. l.again || is_one_taken (texts names) before) given l.switch-index c.switch-item.result
+          c.loop-switch-test.true c.switch-item.is
           ∙ l.invariant.again;
       taken =
           ap (all_taken rest) taken
-          ∙ next-is (λ names. all_taken (texts names) before) given l.switch-index c.switch-item.result c.loop-switch-test.true c.switch-item.is
+          ∙ next-is (λ names. all_taken (texts names) before) given l.switch-index c.switch-item.result
+          c.loop-switch-test.true c.switch-item.is
           ∙ l.invariant.taken;
     }

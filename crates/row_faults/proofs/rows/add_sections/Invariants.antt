@@ -9,10 +9,12 @@ invariant-loop-section l =
     let f = l.faults in
     let first = l.initial.faults in
     record {
-      found :
-          with_faults f (written_faults f.modes f.rows (is_found l.own) (is_found l.taken) f.text (map section_view (drop l.section-index l.sections)))
-          ≡ with_faults first (written_faults first.modes first.rows (is_found l.own) (is_found l.initial.taken) first.text (map section_view l.sections));
+      found_faults :
+          with_faults f (written_faults f.modes f.rows (is_found l.own) (is_found l.shots_before) f.text
+          (map section_view (drop l.section-index l.sections)))
+          ≡ with_faults first (written_faults first.modes first.rows (is_found l.own) (is_found l.initial.shots_before)
+          first.text (map section_view l.sections));
       taken :
-          taken_after (is_found l.taken) (listed_of f.rows (map section_view (drop l.section-index l.sections)))
-          ≡ taken_after (is_found l.initial.taken) (listed_of first.rows (map section_view l.sections));
+          taken_after (is_found l.shots_before) (listed_of f.rows (map section_view (drop l.section-index l.sections)))
+          ≡ taken_after (is_found l.initial.shots_before) (listed_of first.rows (map section_view l.sections));
     }

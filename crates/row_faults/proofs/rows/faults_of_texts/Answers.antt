@@ -12,10 +12,16 @@ returns c =
     let given = c.args.definitions.now in
     let machine = c.as_slice-machine.result.now in
     let texts = c.as_slice-texts.result.now in
-    let nothing = is_found c.with_hasher-taken.result in
-    let none : nothing ≡ is_none_taken = λ i name. ap (λ (keys : List (Bor (List ℕ))). list_any (has_bytes name) keys) c.with_hasher-taken.ensures.empty i in
+    let nothing = is_found c.with_hasher-shots_before.result in
+    let none : nothing ≡ is_none_taken = λ i name. ap (λ (keys : List (Bor (List ℕ))). list_any (has_bytes name) keys)
+    c.with_hasher-shots_before.ensures.empty i in
     let is : given ≡ rows_view c.args.config.now = c.requires in
     c.in_ok-add_modes.ensures
-    ∙ ap (λ (fs : List RowFaultView). fs ++ mode_faults modes given (is_found c.faults_of_text.new.taken) (map mode_view texts)) c.in_ok-faults.ensures.faults
-    ∙ ap (λ (test : List ℕ → Bool). text_faults modes given nothing machine_name (map section_view machine) ++ mode_faults modes given test (map mode_view texts)) c.in_ok-faults.ensures.taken
-    ∙ (λ i. text_faults modes (is i) (none i) machine_name (map section_view (c.as_slice-machine.ensures.value i)) ++ mode_faults modes (is i) (taken_after (none i) (listed_of (is i) (map section_view (c.as_slice-machine.ensures.value i)))) (map mode_view (c.as_slice-texts.ensures.value i)))
+    ∙ ap (λ (fs : List RowFaultView). fs ++ mode_faults modes given (is_found c.faults_of_text.new.shots_before)
+    (map mode_view texts)) c.in_ok-faults.ensures.faults
+    ∙ ap (λ (test : List ℕ → Bool). text_faults modes given nothing machine_name (map section_view machine)
+    ++ mode_faults modes given test (map mode_view texts)) c.in_ok-faults.ensures.taken
+    ∙ (λ i. text_faults modes (is i) (none i) machine_name (map section_view (c.as_slice-machine.ensures.value i))
+    ++ mode_faults modes (is i) (taken_after (none i)
+    (listed_of (is i) (map section_view (c.as_slice-machine.ensures.value i))))
+    (map mode_view (c.as_slice-texts.ensures.value i)))

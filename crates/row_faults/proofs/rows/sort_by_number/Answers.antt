@@ -11,7 +11,8 @@ returns-then-is_sorted_by_key c =
     let given = c.args.faults.now.items in
     let adjacent = c.if-is_sorted_by_key.ensures.cases key (always_returns_same _ _ _ (λ a r q k. search rules)) in
     ap row_faults_view
-    (subst (λ xs. xs ≡ ordered_by key xs) c.deref.ensures.value (in-order key c.deref.result.now (λ k d within. le_from_is_le _ _ (sym (adjacent k d within)))))
+    (subst (λ xs. xs ≡ ordered_by key xs) c.deref.ensures.value
+    (in-order key c.deref.result.now (λ k d within. le_from_is_le _ _ (sym (adjacent k d within)))))
     ∙ ordered-seen row_fault_view fault_number given
 
 pub returns : goal.returns
@@ -20,6 +21,7 @@ returns c =
     let items = c.sort_by_key.new.self.items in
     let given = c.args.faults.now.items in
     ap row_faults_view
-    (sorted-is (λ f. fault_number (row_fault_view f)) given items (sort.sorted (λ f. fault_number (row_fault_view f)) (always_returns_same _ _ _ (λ a r q k. search rules)))
+    (sorted-is (λ f. fault_number (row_fault_view f)) given items
+    (sort.sorted (λ f. fault_number (row_fault_view f)) (always_returns_same _ _ _ (λ a r q k. search rules)))
     (sort.stable (λ f. fault_number (row_fault_view f)) (always_returns_same _ _ _ (λ a r q k. search rules))))
     ∙ ordered-seen row_fault_view fault_number given

@@ -11,6 +11,7 @@ invariant-loop-group l =
     let left = flat_map (listed_by f.rows) (map shot_group_of (map entry_view (drop l.group-index l.groups))) in
     let all = flat_map (listed_by first.rows) (map shot_group_of (map entry_view l.groups)) in
     record {
-      found : with_faults f (group_faults f (is_found l.own) (is_found l.taken) left) ≡ with_faults first (group_faults first (is_found l.own) (is_found l.initial.taken) all);
-      taken : taken_after (is_found l.taken) left ≡ taken_after (is_found l.initial.taken) all;
+      found_faults : with_faults f (group_faults f (is_found l.own) (is_found l.shots_before) left)
+          ≡ with_faults first (group_faults first (is_found l.own) (is_found l.initial.shots_before) all);
+      taken : taken_after (is_found l.shots_before) left ≡ taken_after (is_found l.initial.shots_before) all;
     }

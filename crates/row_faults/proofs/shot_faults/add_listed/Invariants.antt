@@ -8,9 +8,10 @@ abbrev pub invariant-loop-name : goal.invariant-loop-name
 invariant-loop-name l =
     let f = l.faults in
     let first = l.initial.faults in
-    let left = listed_with (option_map shot_view l.first) (map name_view (drop l.name-index l.listed)) in
-    let all = listed_with (option_map shot_view l.first) (map name_view l.listed) in
+    let left = listed_with (option_map shot_view l.first) (map name_view (drop l.name-index l.group_names)) in
+    let all = listed_with (option_map shot_view l.first) (map name_view l.group_names) in
     record {
-      found : with_faults f (group_faults f (is_found l.own) (is_found l.taken) left) ≡ with_faults first (group_faults first (is_found l.own) (is_found l.initial.taken) all);
-      taken : taken_after (is_found l.taken) left ≡ taken_after (is_found l.initial.taken) all;
+      found_faults : with_faults f (group_faults f (is_found l.own) (is_found l.shots_before) left)
+          ≡ with_faults first (group_faults first (is_found l.own) (is_found l.initial.shots_before) all);
+      taken : taken_after (is_found l.shots_before) left ≡ taken_after (is_found l.initial.shots_before) all;
     }

@@ -21,5 +21,6 @@ loop-section-preserved c =
     let here = no_groups (section_view c.section-item.result) (sym c.entries_of.ensures ∙ ap (map entry_view) none) in
     let rest = flat_map shot_groups_in (map section_view (drop (l.section-index + 1) c.args.sections.now)) in
     ap (λ (own : List _). own ++ rest) (sym here)
-    ∙ next-is (λ (sections : List _). flat_map shot_groups_in (map section_view sections)) c.args.sections.now l.section-index c.section-item.result c.loop-section-test.true c.section-item.is
+    ∙ next-is (λ (sections : List _). flat_map shot_groups_in (map section_view sections)) c.args.sections.now
+    l.section-index c.section-item.result c.loop-section-test.true c.section-item.is
     ∙ l.invariant

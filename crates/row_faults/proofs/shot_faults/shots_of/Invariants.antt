@@ -6,5 +6,7 @@ use Rattle.row_faults.proofs.shot_faults.shots_of.Given as goal
 
 abbrev pub invariant-loop-section : goal.invariant-loop-section
 invariant-loop-section l =
-    (name : List ℕ) → (is_found l.shots name || list_any (λ s. bytes_eq name s.name.text) (flat_map shots_in (map section_view (drop l.section-index l.sections))))
+    (name : List ℕ) → (is_found l.shots name
+    || list_any (λ s. bytes_eq name s.name.text)
+    (flat_map shots_in (map section_view (drop l.section-index l.sections))))
     ≡ is_own_shot (map section_view l.sections) name

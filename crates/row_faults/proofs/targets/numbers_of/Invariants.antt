@@ -7,5 +7,6 @@ abbrev pub invariant-loop-number : goal.invariant-loop-number
 invariant-loop-number l =
     record {
       within : (name : List ℕ) → IfSome (number_found l.numbers name) (λ n. n < length l.devices);
-      called : (name : List ℕ) → device_at (devices_view l.devices) (number_found l.numbers name) ≡ ball_device_among (take l.number (devices_view l.devices)) name;
+      by_name : (name : List ℕ) → device_at (devices_view l.devices) (number_found l.numbers name)
+          ≡ ball_device_among (take l.number (devices_view l.devices)) name;
     }

@@ -4,5 +4,6 @@ use Rattle.row_faults.proofs.targets.targets_of.Given as goal
 
 abbrev pub invariant-loop-device : goal.invariant-loop-device
 invariant-loop-device l =
-    l.targets.items ++ map (λ d. number_of (number_found l.numbers) (length l.devices) d.target.text) (devices_view (drop l.device-index l.devices))
+    l.targets.items ++ map (λ d. number_of (number_found l.numbers) (length l.devices) d.target.text)
+    (devices_view (drop l.device-index l.devices))
     ≡ map (λ d. number_of (number_found l.numbers) (length l.devices) d.target.text) (devices_view l.devices)

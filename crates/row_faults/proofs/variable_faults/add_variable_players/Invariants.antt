@@ -5,5 +5,7 @@ use Rattle.row_faults.proofs.variable_faults.add_variable_players.Given as goal
 
 abbrev pub invariant-loop-player : goal.invariant-loop-player
 invariant-loop-player l =
-    with_faults l.faults (flat_map (variable_player_faults l.faults.modes l.faults.text) (map variable_player_of (map player_view (drop l.player-index l.players))))
-    ≡ with_faults l.initial.faults (flat_map (variable_player_faults l.initial.faults.modes l.initial.faults.text) (map variable_player_of (map player_view l.players)))
+    with_faults l.faults (flat_map (variable_player_faults l.faults.modes l.faults.text)
+    (map variable_player_of (map player_view (drop l.player-index l.players))))
+    ≡ with_faults l.initial.faults (flat_map (variable_player_faults l.initial.faults.modes l.initial.faults.text)
+    (map variable_player_of (map player_view l.players)))

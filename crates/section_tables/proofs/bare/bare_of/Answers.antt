@@ -4,7 +4,8 @@ use Rattle.section_tables.proofs.bare.bare_of.Goals as goal
 
 pub first_lacking-lacks-requires : goal.first_lacking-lacks-requires
 unfolding row_values
-first_lacking-lacks-requires c = rw (c.new-3.ensures.items, c.in_ok-clone.ensures.cases, c.in_ok-values.ensures.ok) c.in_ok-bare_row.ensures.len
+first_lacking-lacks-requires c = rw (c.new-3.ensures.items, c.in_ok-clone.ensures.cases, c.in_ok-values.ensures.ok)
+    c.in_ok-bare_row.ensures.len
 
 pub invariant_of-result : goal.invariant_of-result
 unfolding row_values

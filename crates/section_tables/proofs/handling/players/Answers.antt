@@ -14,8 +14,11 @@ returns c =
     let r = c.read_players.result in
     let h = c.read_players.ensures in
     record {
-      found = is_found 1024 players_view read (λ n. ArePlayers n kinds p) (λ n _. 1024 < n) (players_sound text kinds p) r h;
-      only = is_only 1024 players_view read (λ n. ArePlayers n kinds p) (λ n _. 1024 < n) (players_complete text kinds p) r h;
-      refused = is_refused 1024 players_view read (λ n. ArePlayers n kinds p) (λ n _. 1024 < n) (players_complete text kinds p) r h;
+      found = is_found 1024 players_view read (λ n. ArePlayers n kinds p) (λ n _. 1024 < n) (players_sound text kinds p)
+          r h;
+      only = is_only 1024 players_view read (λ n. ArePlayers n kinds p) (λ n _. 1024 < n)
+          (players_complete text kinds p) r h;
+      refused = is_refused 1024 players_view read (λ n. ArePlayers n kinds p) (λ n _. 1024 < n)
+          (players_complete text kinds p) r h;
       exact = h;
     }

@@ -14,10 +14,12 @@ returns c =
     let p = pair_view c.args.pair.now in
     let read = entry_at text table p in
     let r = c.read_entry.result in
-    let h = subst (λ (rows : List Setting). GivesRows entry_view r (entry_at text (table_view rows) p)) c.in_ok-bare.ensures c.read_entry.ensures in
+    let h = subst (λ (rows : List Setting). GivesRows entry_view r (entry_at text (table_view rows) p))
+    c.in_ok-bare.ensures c.read_entry.ensures in
     record {
       found = is_found 1024 entry_view read (λ n. IsEntry n table p) (λ n _. 1024 < n) (entry_sound text table p) r h;
       only = is_only 1024 entry_view read (λ n. IsEntry n table p) (λ n _. 1024 < n) (entry_complete text table p) r h;
-      refused = is_refused 1024 entry_view read (λ n. IsEntry n table p) (λ n _. 1024 < n) (entry_complete text table p) r h;
+      refused = is_refused 1024 entry_view read (λ n. IsEntry n table p) (λ n _. 1024 < n) (entry_complete text table p)
+          r h;
       exact = h;
     }

@@ -16,6 +16,7 @@ returns c =
     record {
       found = is_found most names_view read (λ n. AreNamesListed n p) (λ n _. most < n) (names_sound most text p) r h;
       only = is_only most names_view read (λ n. AreNamesListed n p) (λ n _. most < n) (names_complete most text p) r h;
-      refused = is_refused most names_view read (λ n. AreNamesListed n p) (λ n _. most < n) (names_complete most text p) r h;
+      refused = is_refused most names_view read (λ n. AreNamesListed n p) (λ n _. most < n) (names_complete most text p)
+          r h;
       exact = h;
     }

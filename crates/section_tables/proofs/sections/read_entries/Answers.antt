@@ -7,6 +7,8 @@ use Rattle.section_tables.proofs.sections.read_entries.Goals as goal
 pub returns : goal.returns
 unfolding entries_at
 returns c =
-    let given = gives_each pair_view entry_view (other_entry_at c.args.text.now (barred_view c.args.barred) (table_view c.args.bare.now.table.now)) c.in_ok-below.below.pairs.now c.each.result c.each.ensures (λ p s m. m) in
+    let given = gives_each pair_view entry_view
+    (other_entry_at c.args.text.now (barred_view c.args.barred_names) (table_view c.args.bare.now.table.now))
+    c.in_ok-below.below.pairs.now c.each.result c.each.ensures (λ p s m. m) in
     let has = rw c.spot_of.ensures at c.in_ok-below.ensures in
     rw has given

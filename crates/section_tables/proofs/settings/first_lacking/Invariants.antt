@@ -5,4 +5,6 @@ use Rattle.section_tables.proofs.settings.first_lacking.Given as goal
 
 abbrev pub invariant-loop-at : goal.invariant-loop-at
 invariant-loop-at l =
-    lacking setting_key setting_lacks (map setting_view (drop l.at l.table)) (drop l.at (values_view (row_values l.row))) ≡ lacking setting_key setting_lacks (map setting_view l.table) (values_view (row_values l.row))
+    lacking setting_key setting_lacks (map setting_view (drop l.at l.table))
+    (drop l.at (values_view (row_values l.row)))
+    ≡ lacking setting_key setting_lacks (map setting_view l.table) (values_view (row_values l.row))

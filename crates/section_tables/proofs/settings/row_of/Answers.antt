@@ -7,7 +7,8 @@ pub returns-in_err-overwrite-clause-row : goal.returns-in_err-overwrite-clause-r
 unfolding row_at
 returns-in_err-overwrite-clause-row c =
     let p = err_from_is_err_and c.from_residual-in_err-overwrite.result c.from_residual-in_err-overwrite.ensures.1 in
-    let failed = rw (c.in_ok-order.ensures.items, c.requires) at (c.in_err-overwrite.ensures.row (rc_value c.args.bare.now).items) in
+    let failed = rw (c.in_ok-order.ensures.items, c.requires) at
+    (c.in_err-overwrite.ensures.row (rc_value c.args.bare.now).items) in
     rw (p.1, p.2) (fails-then c.in_err-overwrite.field-0.0 _ _ failed)
 
 pub first_lacking-requires : goal.first_lacking-requires

@@ -7,5 +7,6 @@ use Rattle.setting_values.proofs.by_kind.steps.Goals as goal
 pub returns : goal.returns
 returns c =
     let read = listed_at handled_in most_items (at_least 1) (spot_view c.args.spot) in
-    let given = gives_each node_view handlers_view read c.in_ok-listed.listed.nodes.now c.each.result c.each.ensures (λ p s m. m) in
-    rw c.in_ok-listed.ensures given
+    let given = gives_each node_view handlers_view read c.in_ok-list_nodes.list_nodes.nodes.now c.each.result
+    c.each.ensures (λ p s m. m) in
+    rw c.in_ok-list_nodes.ensures given

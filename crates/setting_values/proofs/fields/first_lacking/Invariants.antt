@@ -5,4 +5,5 @@ use Rattle.setting_values.proofs.fields.first_lacking.Given as goal
 
 abbrev pub invariant-loop-at : goal.invariant-loop-at
 invariant-loop-at l =
-    lacking field_key field_lacks (map field_view (drop l.at l.table)) (plains_view (drop l.at l.row)) ≡ lacking field_key field_lacks (map field_view l.table) (plains_view l.row)
+    lacking field_key field_lacks (map field_view (drop l.at l.table)) (plains_view (drop l.at l.row))
+    ≡ lacking field_key field_lacks (map field_view l.table) (plains_view l.row)

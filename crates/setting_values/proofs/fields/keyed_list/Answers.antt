@@ -8,5 +8,6 @@ pub returns : goal.returns
 unfolding keyed_list_at
 returns c =
     let read = keyed_at c.args.spot.text.now (map field_view c.args.table.now) c.args.at (scalar_view c.args.short) in
-    let given = gives_each pair_view keyed_view read c.in_ok-below.below.pairs.now c.each.result c.each.ensures (λ p s m. m) in
+    let given = gives_each pair_view keyed_view read c.in_ok-below.below.pairs.now c.each.result c.each.ensures
+    (λ p s m. m) in
     rw c.in_ok-below.ensures given

@@ -8,5 +8,6 @@ use Rattle.setting_values.proofs.fields.maps.Goals as goal
 pub returns : goal.returns
 returns c =
     let read = fields_at (map field_view c.args.table.now) (others_view c.args.others) (spot_view c.args.spot) in
-    let given = gives_each node_view fields_view read c.in_ok-listed.listed.nodes.now c.each.result c.each.ensures (λ p s m. m) in
-    rw c.in_ok-listed.ensures given
+    let given = gives_each node_view fields_view read c.in_ok-list_nodes.list_nodes.nodes.now c.each.result
+    c.each.ensures (λ p s m. m) in
+    rw c.in_ok-list_nodes.ensures given

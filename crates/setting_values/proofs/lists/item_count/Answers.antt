@@ -12,8 +12,16 @@ loop-node-preserved c =
     let count = c.loop-node.count in
     let total = length (filter counts (map node_view nodes)) in
     elim c.if-not-is_empty.branch [
-      | then-not-is_empty w ↦ rw w.count-is (omega (arith, c.loop-node.invariant.0), counted nodes i c.node-item.result c.loop-node-test.true c.node-item.is count total (sym c.is_empty.ensures ∙ ap not w.if-not-is_empty.true) c.loop-node.invariant.1)
-      | else-not-is_empty w ↦ rw w.count-is (omega (arith, c.loop-node.invariant.0), passed_over nodes i c.node-item.result c.loop-node-test.true c.node-item.is count total (sym c.is_empty.ensures ∙ ap not w.if-not-is_empty.false) c.loop-node.invariant.1)
+      | then-not-is_empty w ↦ rw w.count-is (
+        omega (arith, c.loop-node.invariant.0),
+        counted nodes i c.node-item.result c.loop-node-test.true c.node-item.is count total
+            (sym c.is_empty.ensures ∙ ap not w.if-not-is_empty.true) c.loop-node.invariant.1,
+      )
+      | else-not-is_empty w ↦ rw w.count-is (
+        omega (arith, c.loop-node.invariant.0),
+        passed_over nodes i c.node-item.result c.loop-node-test.true c.node-item.is count total
+            (sym c.is_empty.ensures ∙ ap not w.if-not-is_empty.false) c.loop-node.invariant.1,
+      )
     ]
 
 pub returns : goal.returns

@@ -6,6 +6,7 @@ use Rattle.setting_values.proofs.lists.text_handlers.Goals as goal
 
 pub returns : goal.returns
 returns c =
-    let given = gives_each item_view handler_view (handled_in (spot_view c.args.spot)) c.deref.result.now c.each.result c.each.ensures (λ p s m. m) in
+    let given = gives_each item_view handler_view (handled_in (spot_view c.args.spot)) c.deref.result.now c.each.result
+    c.each.ensures (λ p s m. m) in
     let has = rw (sym c.deref.ensures.value) at c.in_ok-items.ensures in
     rw has given

@@ -9,9 +9,12 @@ returns-in-Some-clause-slots g c =
     let at : slot_in_use m.persist c.args.world ≡ Some c.in-Some.i =
     sym (c.slot_in_use.ensures ∙ ap (λ p. slot_in_use p c.args.world) c.persists.ensures) ∙ c.in-Some.is in
     let here : slice_get c.args.slots.now c.in-Some.i ≡ Some c.index-slots-i.result =
-    slice_get-get_or c.args.slots.now c.in-Some.i c.index-slots-i.result c.if-i-slots.true ∙ ap Some (sym c.index-slots-i.is) in
-    (seen-step g.K.SlotKind.seen (λ slot. m.step c.args.act c.args.now (current m c.args.world slot)) c.args.slots.now
-    (slot_in_use m.persist c.args.world) c.in-Some.i c.index-slots-i.result c.step-lists.new.slot c.step-lists.result.items at here
+    slice_get-get_or c.args.slots.now c.in-Some.i c.index-slots-i.result c.if-i-slots.true
+    ∙ ap Some (sym c.index-slots-i.is) in
+    (seen-step g.K.SlotKind.slot_view (λ slot. m.step c.args.act c.args.now (current m c.args.world slot))
+    c.args.slots.now
+    (slot_in_use m.persist c.args.world) c.in-Some.i c.index-slots-i.result c.step-lists.new.slot
+    c.step-lists.result.items at here
     (c.step-lists.ensures.slot ∙ ap (λ slot. (m.step c.args.act c.args.now slot).0) c.current-slot.ensures)
     (c.step-lists.ensures.outcome ∙ ap (λ slot. (m.step c.args.act c.args.now slot).1) c.current-slot.ensures)).0
 
@@ -21,8 +24,11 @@ returns-in-Some-clause-outcome g c =
     let at : slot_in_use m.persist c.args.world ≡ Some c.in-Some.i =
     sym (c.slot_in_use.ensures ∙ ap (λ p. slot_in_use p c.args.world) c.persists.ensures) ∙ c.in-Some.is in
     let here : slice_get c.args.slots.now c.in-Some.i ≡ Some c.index-slots-i.result =
-    slice_get-get_or c.args.slots.now c.in-Some.i c.index-slots-i.result c.if-i-slots.true ∙ ap Some (sym c.index-slots-i.is) in
-    (seen-step g.K.SlotKind.seen (λ slot. m.step c.args.act c.args.now (current m c.args.world slot)) c.args.slots.now
-    (slot_in_use m.persist c.args.world) c.in-Some.i c.index-slots-i.result c.step-lists.new.slot c.step-lists.result.items at here
+    slice_get-get_or c.args.slots.now c.in-Some.i c.index-slots-i.result c.if-i-slots.true
+    ∙ ap Some (sym c.index-slots-i.is) in
+    (seen-step g.K.SlotKind.slot_view (λ slot. m.step c.args.act c.args.now (current m c.args.world slot))
+    c.args.slots.now
+    (slot_in_use m.persist c.args.world) c.in-Some.i c.index-slots-i.result c.step-lists.new.slot
+    c.step-lists.result.items at here
     (c.step-lists.ensures.slot ∙ ap (λ slot. (m.step c.args.act c.args.now slot).0) c.current-slot.ensures)
     (c.step-lists.ensures.outcome ∙ ap (λ slot. (m.step c.args.act c.args.now slot).1) c.current-slot.ensures)).1

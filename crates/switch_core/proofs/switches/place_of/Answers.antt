@@ -11,5 +11,7 @@ returns c states is =
     let k = c.partition_point.result in
     let parted = subst (IsPartitionedBy (is_lower switch)) (sym is) (waiting-parted switch states) in
     place-is switch states k (omega (arith, c.partition_point.ensures.bound, ap length is))
-    (subst (λ (ds : List (ℕ × SwitchId)). IsPartitionPoint (λ d. is_lower switch d ≡ true) (λ d. is_lower switch d ≡ false) ds k) is
-    (IsPartitionPoint-from_clause (is_lower switch) c.args.waiting.now k c.partition_point.ensures.partitioned parted (λ a r q k. search rules)))
+    (subst (λ (ds : List (ℕ × SwitchId)). IsPartitionPoint (λ d. is_lower switch d ≡ true)
+    (λ d. is_lower switch d ≡ false) ds k) is
+    (IsPartitionPoint-from_clause (is_lower switch) c.args.waiting.now k c.partition_point.ensures.partitioned parted
+    (λ a r q k. search rules)))

@@ -15,5 +15,6 @@ returns g c =
     let room = c.write_digits-start.new.buf in
     let text : take (20 + 1 - start) (take (52 - start) (drop start room)) ≡ decimal c.args.number ++ c.args.end ∷ [] =
     take-take (20 + 1 - start) (52 - start) (drop start room) (omega arith)
-    ∙ front-part room (decimal c.args.number) _ start 1 c.write_digits-start.ensures.written c.write_digits-start.ensures.start in
+    ∙ front-part room (decimal c.args.number) _ start 1 c.write_digits-start.ensures.written
+    c.write_digits-start.ensures.start in
     rw text at c.put_start.ensures

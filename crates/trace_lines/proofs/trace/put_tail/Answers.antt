@@ -6,4 +6,5 @@ use Rattle.yaml_bytes.proofs.Writing.{last_piece}
 pub returns-in_ok-put-in-Balls : goal.returns-in_ok-put-in-Balls
 returns-in_ok-put-in-Balls g c =
     rw c.in-Balls.is
-    (last_piece c.put_balls.result _ _ _ (codes " balls ") (balls_text c.in-Balls.counts) _ refl c.in_ok-put-in-Balls.ensures c.put_balls.ensures)
+    (last_piece c.put_balls.result _ _ _ (codes " balls ") (balls_text c.in-Balls.counts) _ refl
+    c.in_ok-put-in-Balls.ensures c.put_balls.ensures)

@@ -12,4 +12,5 @@ pub returns-clause-end : goal.returns-clause-end
 returns-clause-end c = alarms_end
 
 pub returns-clause-shapes : goal.returns-clause-shapes
-returns-clause-shapes c = λ plan stimuli trace s run. (has_states-run plan stimuli (initial plan) trace s run (has_states-initial plan)).devices
+returns-clause-shapes c = λ plan stimuli trace s run.
+    (has_states-run plan stimuli (initial plan) trace s run (has_states-initial plan)).devices

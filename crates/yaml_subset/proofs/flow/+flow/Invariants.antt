@@ -20,7 +20,9 @@ decreases-mapping l = 4 * l.levels + 3
 
 abbrev pub invariant-list-loop-alloc : goal.invariant-list-loop-alloc
 invariant-list-loop-alloc l =
-    IsSoFar l.number 93 (λ before. flow_value_at l.number (flow_at l.levels l.number)) (between_at l.number 93 (λ before. flow_value_at l.number (flow_at l.levels l.number)) l.after) (map node_view l.items.items) l.text
+    IsSoFar l.number 93 (λ before. flow_value_at l.number (flow_at l.levels l.number))
+    (between_at l.number 93 (λ before. flow_value_at l.number (flow_at l.levels l.number)) l.after)
+    (map node_view l.items.items) l.text
 
 abbrev pub decreases-list-loop-alloc : goal.decreases-list-loop-alloc
 decreases-list-loop-alloc l = length l.text
@@ -28,8 +30,10 @@ decreases-list-loop-alloc l = length l.text
 abbrev pub invariant-mapping-loop-alloc : goal.invariant-mapping-loop-alloc
 invariant-mapping-loop-alloc l = record {
   known : HasNoneOrAll (copies_view l.keys) (keys_of (map pair_view l.pairs.items));
-  so_far : (IsSoFar l.number) 125 (λ before. flow_pair_at l.number (flow_value_at l.number (flow_at l.levels l.number)) (keys_of before))
-      (between_at l.number 125 (λ before. flow_pair_at l.number (flow_value_at l.number (flow_at l.levels l.number)) (keys_of before)) l.after)
+  so_far : (IsSoFar l.number) 125 (λ before. flow_pair_at l.number (flow_value_at l.number (flow_at l.levels l.number))
+      (keys_of before))
+      (between_at l.number 125 (λ before. flow_pair_at l.number (flow_value_at l.number (flow_at l.levels l.number))
+      (keys_of before)) l.after)
       (map pair_view l.pairs.items) l.text;
 }
 

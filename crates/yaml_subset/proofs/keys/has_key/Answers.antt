@@ -7,5 +7,6 @@ pub returns : goal.returns
 returns c =
     let pairs = c.args.pairs.now in
     let key = c.args.key.now in
-    any_from_yields_List (λ (p : Key × Tree). bytes_eq (cow_slice_items p.0.text) key) _ _ c.any.result c.any.ensures.ran (YieldsList-from_slice pairs cc) (λ x b q k. search (rules, tests))
+    any_from_yields_List (λ (p : Key × Tree). bytes_eq (cow_slice_items p.0.text) key) _ _ c.any.result
+    c.any.ensures.ran (YieldsList-from_slice pairs cc) (λ x b q k. search (rules, tests))
     ∙ among_pairs pairs key

@@ -10,29 +10,36 @@ loop-c-init c = record { within = omega arith; left = sym (bytes_len-chars c.arg
 
 pub returns-then-is_forbidden-clause-value : goal.returns-then-is_forbidden-clause-value
 returns-then-is_forbidden-clause-value c =
-    let t = YieldsList-turn (YieldsList-from_chars c.args.text.now c.utf8.text cc) c.loop-c.yielded _ c.loop-c.yielded_by _ _ c.in-Some.c c.in-Some.is c.next.ensures.steps in
-    let e = left_found (chars c.args.text.now) (length c.loop-c.yielded) c.in-Some.c t (sym c.is_forbidden.ensures ∙ c.if-is_forbidden.true) in
+    let t = YieldsList-turn (YieldsList-from_chars c.args.text.now c.utf8.text cc) c.loop-c.yielded _
+    c.loop-c.yielded_by _ _ c.in-Some.c c.in-Some.is c.next.ensures.steps in
+    let e = left_found (chars c.args.text.now) (length c.loop-c.yielded) c.in-Some.c t
+    (sym c.is_forbidden.ensures ∙ c.if-is_forbidden.true) in
     c.loop-c.invariant.left ∙ sym e ∙ c.loop-c.invariant.same
 
-pub overflow_sub-left : goal.overflow_sub-left
-overflow_sub-left c =
-    let t = YieldsList-turn (YieldsList-from_chars c.args.text.now c.utf8.text cc) c.loop-c.yielded _ c.loop-c.yielded_by _ _ c.in-Some.c c.in-Some.is c.next.ensures.steps in
+pub overflow_sub-size : goal.overflow_sub-size
+overflow_sub-size c =
+    let t = YieldsList-turn (YieldsList-from_chars c.args.text.now c.utf8.text cc) c.loop-c.yielded _
+    c.loop-c.yielded_by _ _ c.in-Some.c c.in-Some.is c.next.ensures.steps in
     let e = bytes_len-step (chars c.args.text.now) (length c.loop-c.yielded) c.in-Some.c t in
-    omega (arith, e, c.len_utf8-left.ensures.value, c.loop-c.invariant.left)
+    omega (arith, e, c.len_utf8-size.ensures.value, c.loop-c.invariant.left)
 
 pub loop-c-preserved : goal.loop-c-preserved
 loop-c-preserved c =
-    let t = YieldsList-turn (YieldsList-from_chars c.args.text.now c.utf8.text cc) c.loop-c.yielded _ c.loop-c.yielded_by _ _ c.in-Some.c c.in-Some.is c.next.ensures.steps in
+    let t = YieldsList-turn (YieldsList-from_chars c.args.text.now c.utf8.text cc) c.loop-c.yielded _
+    c.loop-c.yielded_by _ _ c.in-Some.c c.in-Some.is c.next.ensures.steps in
     let e = bytes_len-step (chars c.args.text.now) (length c.loop-c.yielded) c.in-Some.c t in
-    let f = left_step (chars c.args.text.now) (length c.loop-c.yielded) c.in-Some.c t (sym c.is_forbidden.ensures ∙ c.if-is_forbidden.false) in
+    let f = left_step (chars c.args.text.now) (length c.loop-c.yielded) c.in-Some.c t
+    (sym c.is_forbidden.ensures ∙ c.if-is_forbidden.false) in
     let n = length_push c.loop-c.yielded c.in-Some.c in
     record {
       within = omega (arith, c.loop-c.invariant.within);
-      left = rw n (omega (arith, e, c.len_utf8-left.ensures.value, c.loop-c.invariant.left));
+      left = rw n (omega (arith, e, c.len_utf8-size.ensures.value, c.loop-c.invariant.left));
       same = rw n (sym f ∙ c.loop-c.invariant.same);
     }
 
 pub returns-clause-value : goal.returns-clause-value
 returns-clause-value c =
-    let t = YieldsList-end (YieldsList-from_chars c.args.text.now c.utf8.text cc) c.loop-c.yielded _ c.loop-c.yielded_by _ _ c.in-None.is c.next.ensures.steps in
-    sym (at_drop_all forbidden_left (chars c.args.text.now) (length c.loop-c.yielded) (omega (arith, t.1))) ∙ c.loop-c.invariant.same
+    let t = YieldsList-end (YieldsList-from_chars c.args.text.now c.utf8.text cc) c.loop-c.yielded _ c.loop-c.yielded_by
+    _ _ c.in-None.is c.next.ensures.steps in
+    sym (at_drop_all forbidden_left (chars c.args.text.now) (length c.loop-c.yielded) (omega (arith, t.1)))
+    ∙ c.loop-c.invariant.same

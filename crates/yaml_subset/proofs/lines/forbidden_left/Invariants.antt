@@ -4,7 +4,7 @@ use Rattle.yaml_subset.proofs.lines.forbidden_left.Given as goal
 
 abbrev pub invariant-loop-c : goal.invariant-loop-c
 invariant-loop-c l = record {
-  within : l.left ≤ length l.text;
-  left : l.left ≡ bytes_len (drop (length l.yielded) (chars l.text));
+  within : l.size ≤ length l.text;
+  left : l.size ≡ bytes_len (drop (length l.yielded) (chars l.text));
   same : forbidden_left (drop (length l.yielded) (chars l.text)) ≡ forbidden_left (chars l.text);
 }

@@ -1,5 +1,5 @@
 use Rattle.std.{proofs.Common.{◌≡◌, ◌&&◌, length}, specs.List.list_all}
-use Rattle.yaml_subset.specs.Inside.{is_plain_byte}
+use Rattle.yaml_subset.specs.ParserViews.{is_plain_byte}
 use Rattle.yaml_subset.proofs.lines.is_plain.Given as goal
 
 abbrev pub invariant-loop-rest : goal.invariant-loop-rest

@@ -9,14 +9,17 @@ loop-number-preserved c =
     let plan = c.args.plan.now in
     let n = c.loop-number.number in
     let within : n < length plan.coils = omega (arith, c.loop-number-test.true, c.coil_count-count.ensures.count) in
-    let more = take_more (limits_of plan) n no_coil.limits (omega (arith, within, length-map plan.coils (λ x. x.limits))) in
+    let more = take_more (limits_of plan) n no_coil.limits
+    (omega (arith, within, length-map plan.coils (λ x. x.limits))) in
     let there = get_or-map (λ x. x.limits) plan.coils n no_coil no_coil.limits within in
     record {
       coils =
           c.push_reserved.ensures.items
           ∙ ap (λ cs. cs ++ c.off.result ∷ []) c.loop-number.invariant.coils
-          ∙ ap (λ x. map off (take n (limits_of plan)) ++ x ∷ []) (c.off.ensures ∙ ap off (c.coil_limits.ensures.limits ∙ sym there))
-          ∙ sym (ap (map off) more ∙ map-append off (take n (limits_of plan)) (get_or (limits_of plan) n no_coil.limits ∷ []));
+          ∙ ap (λ x. map off (take n (limits_of plan)) ++ x ∷ [])
+          (c.off.ensures ∙ ap off (c.coil_limits.ensures.limits ∙ sym there))
+          ∙ sym (ap (map off) more ∙ map-append off (take n (limits_of plan))
+          (get_or (limits_of plan) n no_coil.limits ∷ []));
       count = omega (arith, c.push_reserved.ensures.len, c.loop-number.invariant.count);
       room = c.push_reserved.ensures.capacity ∙ c.loop-number.invariant.room;
     }

@@ -1,4 +1,4 @@
-use Rattle.coil_guard.specs.Inside.{HoldsNone}
+use Rattle.coil_guard.specs.GuardState.{HoldsNone}
 use Rattle.coil_guard.proofs.coils.Coils.next_held.Given as goal
 
 -- the owner holds none of the coils so far

@@ -20,11 +20,14 @@ returns-clause-row g c =
     let items = c.self.inside.devices.items in
     let plan = c.self.inside.plan.now in
     let device = c.args.device in
-    let put = c.put_in_place-taken in
-    let same_row : row device ≡ row_at plan c.args.row = c.requires.row ∙ ap (λ (v : CoreView). row_at v.plan c.args.row) (sym c.self.view_is) in
-    let same_state : state device ≡ device_state (map state items) c.args.row = c.requires.state ∙ ap (λ (v : CoreView). device_at v.machine c.args.row) (sym c.self.view_is) in
+    let put = c.put_in_place-former in
+    let same_row : row device ≡ row_at plan c.args.row = c.requires.row
+    ∙ ap (λ (v : CoreView). row_at v.plan c.args.row) (sym c.self.view_is) in
+    let same_state : state device ≡ device_state (map state items) c.args.row = c.requires.state
+    ∙ ap (λ (v : CoreView). device_at v.machine c.args.row) (sym c.self.view_is) in
     c.stop_one.ensures.row
-    ∙ old-row row state plan items c.args.row put.result device c.self.invariant.rows_are put.ensures.taken same_row same_state
+    ∙ old-row row state plan items c.args.row put.result device c.self.invariant.rows_are put.ensures.taken same_row
+    same_state
     ∙ ap (λ (v : CoreView). row_at v.plan c.args.row) c.self.view_is
 
 pub returns-clause-stopped : goal.returns-clause-stopped
@@ -34,12 +37,27 @@ returns-clause-stopped g c =
     let items = c.self.inside.devices.items in
     let plan = c.self.inside.plan.now in
     let device = c.args.device in
-    let put = c.put_in_place-taken in
-    let same_row : row device ≡ row_at plan c.args.row = c.requires.row ∙ ap (λ (v : CoreView). row_at v.plan c.args.row) (sym c.self.view_is) in
-    let same_state : state device ≡ device_state (map state items) c.args.row = c.requires.state ∙ ap (λ (v : CoreView). device_at v.machine c.args.row) (sym c.self.view_is) in
-    let world : World = record { games = c.self.inside.game.state.begun; player = c.self.inside.players.state.current; in_play = in_play c.self.inside.game.state } in
-    let world_is : c.world-world.result ≡ world = λ i. record { games = c.world-world.ensures.games i; player = c.world-world.ensures.player i; in_play = c.world-world.ensures.in_play i } in
+    let put = c.put_in_place-former in
+    let same_row : row device ≡ row_at plan c.args.row = c.requires.row
+    ∙ ap (λ (v : CoreView). row_at v.plan c.args.row) (sym c.self.view_is) in
+    let same_state : state device ≡ device_state (map state items) c.args.row = c.requires.state
+    ∙ ap (λ (v : CoreView). device_at v.machine c.args.row) (sym c.self.view_is) in
+    let world : World =
+    record {
+      games = c.self.inside.game.state.begun;
+      player = c.self.inside.players.state.current;
+      in_play = in_play c.self.inside.game.state;
+    } in
+    let world_is : c.world-world.result ≡ world =
+    λ i.
+    record {
+      games = c.world-world.ensures.games i;
+      player = c.world-world.ensures.player i;
+      in_play = c.world-world.ensures.in_play i;
+    } in
     c.stop_one.ensures.state
     ∙ (λ i. stopped_state c.self.inside.moment (world_is i) (row put.result) (state put.result))
-    ∙ old-stopped row state plan items c.args.row put.result device c.self.invariant.rows_are put.ensures.taken same_row same_state c.self.inside.moment world
-    ∙ ap (λ (v : CoreView). stopped_state v.machine.moment (world_of v.machine) (row_at v.plan c.args.row) (device_at v.machine c.args.row)) c.self.view_is
+    ∙ old-stopped row state plan items c.args.row put.result device c.self.invariant.rows_are put.ensures.taken same_row
+    same_state c.self.inside.moment world
+    ∙ ap (λ (v : CoreView). stopped_state v.machine.moment (world_of v.machine) (row_at v.plan c.args.row)
+    (device_at v.machine c.args.row)) c.self.view_is

@@ -9,10 +9,13 @@ returns-clause-whole g c =
     let plan = c.args.plan.now in
     let first = c.in_ok-first.ensures in
     record {
-      devices = subst (HasDevices plan) (sym (ap (map g.D.Device.state_of) (sym c.deref.ensures.value) ∙ c.in_default.ensures.fit.states_are)) (initial-devices plan);
+      devices = subst (HasDevices plan) (sym
+          (ap (map g.D.Device.state_of) (sym c.deref.ensures.value) ∙ c.in_default.ensures.fit.states_are))
+          (initial-devices plan);
       coils = first.count;
       modes = ap (λ s. length s.modes) first.modes ∙ length-replicate (length plan.modes) (in_phase Idle);
-      handlers = ap (λ h. h.running) c.in_ok-waiting.ensures.handlers ∙ idle-runs plan ∙ ap (λ s. running_of s.modes) (sym first.modes);
+      handlers = ap (λ h. h.running) c.in_ok-waiting.ensures.handlers ∙ idle-runs plan
+          ∙ ap (λ s. running_of s.modes) (sym first.modes);
       kinds = first.kinds;
       complete = first.complete;
     }

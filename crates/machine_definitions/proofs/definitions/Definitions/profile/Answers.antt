@@ -4,7 +4,9 @@ use Rattle.machine_definitions.{specs.Found.profile_view, proofs.Finding.value-f
 use Rattle.machine_definitions.proofs.definitions.Definitions.profile.Goals as goal
 
 -- the one that is found, or the other, as it is seen
-seen : (o : Option (Bor profiles.Profile)) (other : Bor profiles.Profile) → profile_view (unwrap_or o other).now ≡ unwrap_or (option_map profile_view (option_copied o)) (profile_view other.now)
+seen : (o : Option (Bor profiles.Profile)) (other : Bor profiles.Profile)
+    → profile_view (unwrap_or o other).now
+    ≡ unwrap_or (option_map profile_view (option_copied o)) (profile_view other.now)
 seen x1 other = search rules
 
 pub returns : goal.returns

@@ -9,6 +9,7 @@ pub returns-in_err-check_moment : goal.returns-in_err-check_moment
 returns-in_err-check_moment g c =
     let rig = c.args.self.now in
     let next : next_alarm rig.machine ≡ Some (c.in_ok-at.at, source_view c.in_ok-at.source) = search rules in
-    let valid : IsValid rig.checked.plan = subst (λ (r : RigView). IsValid r.checked.plan) c.self.view_is c.self.invariant.accepted.valid in
+    let valid : IsValid rig.checked.plan =
+    subst (λ (r : RigView). IsValid r.checked.plan) c.self.view_is c.self.invariant.acceptance.valid in
     let judged = alarm-judged rig valid c.now.ensures.reached (c.in_ok-at.at, source_view c.in_ok-at.source) next in
     search (rules, judged)

@@ -7,4 +7,5 @@ pub returns-in-Err-clause-wrong : goal.returns-in-Err-clause-wrong
 returns-in-Err-clause-wrong g c = λ row is.
     let same : c.in-Err.fault ≡ WrongDevice (record { 0 = row }) = cc in
     let items = c.args.devices.items in
-    subst (λ (p : PlanView). IsFirstWrong p (map g.D.Device.row_of items) (map g.D.Device.state_of items) row) c.plan-plan.ensures.plan (c.in-Err.ensures.wrong row (ap Err same))
+    subst (λ (p : PlanView). IsFirstWrong p (map g.D.Device.row_of items) (map g.D.Device.state_of items) row)
+    c.plan-plan.ensures.plan (c.in-Err.ensures.wrong row (ap Err same))

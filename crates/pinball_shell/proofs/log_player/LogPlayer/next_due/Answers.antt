@@ -4,4 +4,5 @@ use Rattle.pinball_shell.specs.LogPlayers.{PlayerView}
 use Rattle.pinball_shell.proofs.log_player.LogPlayer.next_due.Goals as goal
 
 pub returns : goal.returns
-returns g c = c.next_due.ensures.due ∙ ap (λ (p : PlayerView). option_map (λ a. a.0) (next_alarm p.rig.machine)) c.self.view_is
+returns g c = c.next_due.ensures.due ∙ ap (λ (p : PlayerView). option_map (λ a. a.0) (next_alarm p.rig.machine))
+    c.self.view_is

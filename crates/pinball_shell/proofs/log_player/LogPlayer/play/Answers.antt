@@ -7,25 +7,34 @@ use Rattle.pinball_shell.proofs.log_player.LogPlayer.play.Goals as goal
 pub invariant_of-self : goal.invariant_of-self
 invariant_of-self g c =
     let was = c.self.inside in
-    subst (λ (b : Bool). RunsUnlessStopped was.plan c.play_line-played.new.rig b) (sym c.is_err-self-inside.ensures.value)
-    (runs-on was.plan c.args.number c.args.line.now was.rig c.play_line-played.new.rig (append_known (g.W.Write.contents c.args.writer.now) was.page)
-    (append_known (g.W.Write.contents c.play_line-played.new.writer) c.play_line-played.new.page) c.play_line-played.result (c.self.invariant c.if-self.false) c.play_line-played.ensures)
+    subst (λ (b : Bool). RunsUnlessStopped was.plan c.play_line-answer.new.rig b)
+    (sym c.is_err-self-inside.ensures.value)
+    (runs-on was.plan c.args.number c.args.line.now was.rig c.play_line-answer.new.rig
+    (append_known (g.W.Write.contents c.args.writer.now) was.page)
+    (append_known (g.W.Write.contents c.play_line-answer.new.writer) c.play_line-answer.new.page)
+    c.play_line-answer.result (c.self.invariant c.if-self.false) c.play_line-answer.ensures)
 
 pub returns-clause-played : goal.returns-clause-played
 returns-clause-played g c =
     let written : Option (List ℕ) = g.W.Write.contents c.args.writer.now in
-    let grown : Option (List ℕ) = append_known (g.W.Write.contents c.play_line-played.new.writer) c.play_line-played.new.page in
-    subst (λ (p : PlayerView). p.has_stopped ≡ false → PlaysLine p.plan c.args.number c.args.line.now p.rig c.play_line-played.new.rig (append_known written p.page) grown c.play_line-played.result)
-    c.self.view_is (λ going. c.play_line-played.ensures)
+    let grown : Option (List ℕ) = append_known (g.W.Write.contents c.play_line-answer.new.writer)
+    c.play_line-answer.new.page in
+    subst (λ (p : PlayerView). p.has_stopped ≡ false
+    → PlaysLine p.plan c.args.number c.args.line.now p.rig c.play_line-answer.new.rig (append_known written p.page)
+    grown c.play_line-answer.result)
+    c.self.view_is (λ going. c.play_line-answer.ensures)
 
 pub returns-clause-plan : goal.returns-clause-plan
 returns-clause-plan g c = ap (λ (p : PlayerView). p.plan) c.self.view_is
 
 pub returns-clause-going : goal.returns-clause-going
-returns-clause-going g c = runs-ok c.play_line-played.result c.is_err-self-inside.result c.is_err-self-inside.ensures.value
+returns-clause-going g c = runs-ok c.play_line-answer.result c.is_err-self-inside.result
+    c.is_err-self-inside.ensures.value
 
 pub returns-clause-over : goal.returns-clause-over
-returns-clause-over g c = λ over. let no : true ≡ false = sym over ∙ sym (ap (λ (p : PlayerView). p.has_stopped) c.self.view_is) ∙ c.if-self.false in cc
+returns-clause-over g c = λ over. let no : true ≡ false = sym over
+    ∙ sym (ap (λ (p : PlayerView). p.has_stopped) c.self.view_is) ∙ c.if-self.false in cc
 
 pub returns-then-self-clause-played : goal.returns-then-self-clause-played
-returns-then-self-clause-played g c = λ going. let no : true ≡ false = sym c.if-self.true ∙ ap (λ (p : PlayerView). p.has_stopped) c.self.view_is ∙ going in cc
+returns-then-self-clause-played g c = λ going. let no : true ≡ false = sym c.if-self.true
+    ∙ ap (λ (p : PlayerView). p.has_stopped) c.self.view_is ∙ going in cc

@@ -8,7 +8,8 @@ returns-in_err-put_refused-clause-kept g c = ap (with_page c.put_refused.new.pag
 
 pub returns-clause-written : goal.returns-clause-written
 returns-clause-written g c =
-    subst (λ (p : PlayerView). Puts (g.W.Write.contents c.args.writer.now) p.page (g.W.Write.contents c.put_refused.new.writer) c.put_refused.new.page (refused_text c.args.number board_refusal))
+    subst (λ (p : PlayerView). Puts (g.W.Write.contents c.args.writer.now) p.page
+    (g.W.Write.contents c.put_refused.new.writer) c.put_refused.new.page (refused_text c.args.number board_refusal))
     c.self.view_is c.in_ok-put_refused.ensures
 
 pub returns-clause-kept : goal.returns-clause-kept

@@ -5,5 +5,8 @@ use Rattle.pinball_shell.proofs.log_player.LogPlayer.shut_down.Goals as goal
 
 pub returns-in-Ok-clause-done : goal.returns-in-Ok-clause-done
 returns-in-Ok-clause-done g c =
-    let last : BoardView = board_view g.B.Board.told g.B.Board.fault_count g.B.Board.answers c.shut_down-board.result.0 in
-    subst (λ (p : PlayerView). IsShutDown p.plan p.rig last (g.W.Write.contents c.args.writer.now) (g.W.Write.contents c.write_off.new.writer)) c.self.view_is (search rules)
+    let last : BoardView = board_view g.B.Board.command_list g.B.Board.fault_count g.B.Board.answers
+    c.shut_down-board.result.0
+    in
+    subst (λ (p : PlayerView). IsShutDown p.plan p.rig last (g.W.Write.contents c.args.writer.now)
+    (g.W.Write.contents c.write_off.new.writer)) c.self.view_is (search rules)

@@ -4,10 +4,13 @@ use Rattle.pinball_shell.proofs.log_player.LogPlayer.write_out.Goals as goal
 
 pub returns-clause-written : goal.returns-clause-written
 returns-clause-written g c =
-    subst (λ (p : PlayerView). OnOk c.write_out.result (Appends (g.W.Write.contents c.args.writer.now) (g.W.Write.contents c.write_out.new.writer) p.page)) c.self.view_is c.write_out.ensures.written
+    subst (λ (p : PlayerView). OnOk c.write_out.result
+    (Appends (g.W.Write.contents c.args.writer.now) (g.W.Write.contents c.write_out.new.writer) p.page))
+    c.self.view_is c.write_out.ensures.written
 
 pub returns-clause-kept : goal.returns-clause-kept
 returns-clause-kept g c =
     let was = c.self.inside in
-    let begun : PlayerView = record { plan = was.plan; rig = was.rig; page = was.page; has_stopped = was.has_stopped } in
+    let begun : PlayerView = record { plan = was.plan; rig = was.rig; page = was.page; has_stopped = was.has_stopped }
+    in
     ap (λ (l : List ℕ). with_page l begun) c.write_out.ensures.empty ∙ ap (with_page []) c.self.view_is

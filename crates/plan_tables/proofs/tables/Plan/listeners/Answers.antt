@@ -1,6 +1,6 @@
 use Rattle.std.proofs.Common.{rules, ◌≡◌, ◌<◌, length, refl, sym, ap, subst, ◌∙◌, arith}
-use Rattle.plan_tables.specs.{declared.table.Table.TheVariants.Switches, Inside.{name_sets_view, switch_entry_view}}
-use Rattle.plan_tables.{specs.PlanView.{PlanView, no_switch, listeners_of}, proofs.Shown.{length-shown, entry_shown}}
+use Rattle.plan_tables.specs.{declared.table.Table.TheVariants.Switches, PlanView.{PlanView, no_switch, listeners_of}}
+use Rattle.plan_tables.{specs.PlanFields.{name_sets_view, switch_entry_view}, proofs.Shown.{length-shown, entry_shown}}
 use Rattle.plan_tables.proofs.tables.Plan.listeners.Goals as goal
 
 pub index-requires : goal.index-requires
@@ -11,6 +11,9 @@ returns-clause-listeners c =
     let names = name_sets_view c.self.inside.tables.names Switches in
     let entries = c.self.inside.tables.switches.items in
     let count = length-shown switch_entry_view names entries c.self.invariant.3 in
-    let within : c.args.switch.0 < length names = omega (arith, c.requires, ap (λ p. length p.switches) c.self.view_is, count) in
-    let at = entry_shown switch_entry_view (λ s. s.listeners) (λ e. e.listeners.items) (λ n e. refl) names entries c.args.switch.0 c.index.result.now no_switch c.self.invariant.3 within in
-    subst (λ (p : PlanView). c.as_slice.result.now ≡ listeners_of p c.args.switch) c.self.view_is (c.as_slice.ensures.value ∙ ap (λ e. e.listeners.items) c.index.ensures ∙ sym at)
+    let within : c.args.switch.0 < length names =
+    omega (arith, c.requires, ap (λ p. length p.switches) c.self.view_is, count) in
+    let at = entry_shown switch_entry_view (λ s. s.listeners) (λ e. e.listeners.items) (λ n e. refl) names entries
+    c.args.switch.0 c.index.result.now no_switch c.self.invariant.3 within in
+    subst (λ (p : PlanView). c.as_slice.result.now ≡ listeners_of p c.args.switch) c.self.view_is
+    (c.as_slice.ensures.value ∙ ap (λ e. e.listeners.items) c.index.ensures ∙ sym at)

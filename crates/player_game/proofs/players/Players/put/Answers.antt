@@ -11,7 +11,11 @@ returns-clause-state c =
     let old = c.index_mut-slot.result.now in
     let change = with_value c.args.variable c.args.value in
     let turn : current ≡ c.args.self.now.state.current = ap (λ (s : PlayersView). s.state.current) c.self.view_is in
-    let within : current - 1 < length slots = omega (arith, turn, c.requires.some, c.self.invariant.turn, c.self.invariant.within) in
-    let was : get_or slots (current - 1) (new_player plan) ≡ old = sym (c.index_mut-slot.ensures.value ∙ get_or_default slots (current - 1) old (new_player plan) within) in
-    let is : c.set.new.self ≡ change old = c.set.ensures ∙ ap (λ (z : ℤ). with_value c.args.variable z old) (to_z-of_z w64 c.args.value c.ranges.value) in
-    rw (← c.self.view_is, is) (slot_changed plan change slots c.self.inside.count current old (omega (arith, turn, c.requires.some)) c.self.invariant.turn c.self.invariant.within was)
+    let within : current - 1 < length slots =
+    omega (arith, turn, c.requires.some, c.self.invariant.turn, c.self.invariant.within) in
+    let was : get_or slots (current - 1) (new_player plan) ≡ old =
+    sym (c.index_mut-slot.ensures.value ∙ get_or_default slots (current - 1) old (new_player plan) within) in
+    let is : c.set.new.self ≡ change old = c.set.ensures
+    ∙ ap (λ (z : ℤ). with_value c.args.variable z old) (to_z-of_z w64 c.args.value c.ranges.value) in
+    rw (← c.self.view_is, is) (slot_changed plan change slots c.self.inside.count current old
+    (omega (arith, turn, c.requires.some)) c.self.invariant.turn c.self.invariant.within was)

@@ -6,7 +6,8 @@ abbrev pub invariant-loop-at : goal.invariant-loop-at
 invariant-loop-at l =
     let bare = l.self.bare.value.items in
     (l.place < length bare) × (l.at ≤ length l.self.order.items)
-    × (slice_get (with_written bare (take l.at l.self.order.items) (take l.at l.self.written.items)) l.place ≡ slice_get (with_written bare l.self.order.items l.self.written.items) l.place)
+    × (slice_get (with_written bare (take l.at l.self.order.items) (take l.at l.self.written_values.items)) l.place
+    ≡ slice_get (with_written bare l.self.order.items l.self.written_values.items) l.place)
 
 abbrev pub decreases-loop-at : goal.decreases-loop-at
 decreases-loop-at l = l.at

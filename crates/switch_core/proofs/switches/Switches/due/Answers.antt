@@ -10,7 +10,8 @@ pub returns-clause-least : goal.returns-clause-least
 returns-clause-least c = answer-least c.args.self.now c.self.inside.next (returns-clause-next c)
 
 pub returns-clause-within : goal.returns-clause-within
-returns-clause-within c = answer-within c.args.self.now c.self.inside.next (subst IsComplete c.self.view_is c.self.invariant.complete) (returns-clause-least c)
+returns-clause-within c = answer-within c.args.self.now c.self.inside.next
+    (subst IsComplete c.self.view_is c.self.invariant.complete) (returns-clause-least c)
 
 pub returns-clause-none : goal.returns-clause-none
 returns-clause-none c = answer-none c.args.self.now c.self.inside.next (returns-clause-next c)

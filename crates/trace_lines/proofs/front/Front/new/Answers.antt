@@ -14,6 +14,11 @@ invariant_of-result c =
     let at : start + length (decimal c.args.moment) ≡ 20 = c.write_digits-start.ensures.start in
     let count : 20 - start + 8 ≡ 20 + 8 - start = omega (arith, at) in
     let copied : take (20 - start + 8) c.copy_from_slice.new.self ≡ take (20 + 8 - start) (drop start room) =
-    ap (take (20 - start + 8)) c.copy_from_slice.ensures.after ∙ take-take (20 - start + 8) (start + 32 - start) (drop start room) (omega (arith, at))
-    ∙ ap (λ (n : ℕ). take n (drop start room)) count in
-    (omega (arith, at), omega arith, copied ∙ front-part room (decimal c.args.moment) _ start 8 c.write_digits-start.ensures.written at)
+    ap (take (20 - start + 8)) c.copy_from_slice.ensures.after
+    ∙ take-take (20 - start + 8) (start + 32 - start) (drop start room) (omega (arith, at))
+    ∙ ap (λ (n : ℕ). take n (drop start room)) count in (
+      omega (arith, at),
+      omega arith,
+      copied
+          ∙ front-part room (decimal c.args.moment) _ start 8 c.write_digits-start.ensures.written at,
+    )

@@ -1,6 +1,0 @@
-use Rattle.std.proofs.Common.{◌≡◌, take, map}
-use Rattle.mpf_config.specs.{View.name_view, Inside.modes_view}
-use Rattle.mpf_config.proofs.listed.listed_modes.Given as goal
-
-abbrev pub invariant-loop-name : goal.invariant-loop-name
-invariant-loop-name l = modes_view l.modes.items ≡ map name_view (take l.name-index l.names)

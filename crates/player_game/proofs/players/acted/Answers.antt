@@ -1,8 +1,0 @@
-use Rattle.std.proofs.Common.{rules}
-use Rattle.player_game.proofs.players.acted.Goals as goal
-
-pub returns-in-Add : goal.returns-in-Add
-returns-in-Add c = search rules
-
-pub returns-in-Set : goal.returns-in-Set
-returns-in-Set c = search rules

@@ -1,5 +1,0 @@
-use Rattle.std.proofs.Common.{rules}
-use Rattle.switch_core.proofs.state.State.awaited.Goals as goal
-
-pub returns : goal.returns
-returns c = search rules

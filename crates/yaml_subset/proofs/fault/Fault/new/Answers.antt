@@ -1,5 +1,0 @@
-use Rattle.std.proofs.Common.{refl}
-use Rattle.yaml_subset.proofs.fault.Fault.new.Goals as goal
-
-pub returns : goal.returns
-returns c = refl
