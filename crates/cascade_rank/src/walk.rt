@@ -32,7 +32,7 @@ pub(crate) fn walk(
     requires within { start.0 < length plan.now.events }
     requires first { IsFirst (is_open plan.now) start }
     ensures cycle { IfOk result (λ cycle. cycle.items ≡ cycle_of plan.now start) }
-    ensures reported { IfOk result (λ cycle. IsReportedCycle plan.now cycle.items) }
+    ensures reports { IfOk result (λ cycle. IsReportedCycle plan.now cycle.items) }
     ensures is_one { IfOk result (λ cycle. IsCycle plan.now cycle.items) }
 {
     let mut on_path = vec![in alloc; false; plan.event_count()]?;

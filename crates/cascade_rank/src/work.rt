@@ -11,7 +11,7 @@ use plan_tables::{EventId, GameEvent, ModeEvent, ModeId, Plan, Work};
 /// The event that the machine itself posts as its work at an event of a mode, if it posts one.
 pub(crate) fn led_by(plan: &Plan, event: EventId) -> Option<EventId>
     requires { event.0 < length plan.now.events }
-    ensures led { result ≡ led_by plan.now (work_of plan.now event) }
+    ensures leads { result ≡ led_by plan.now (work_of plan.now event) }
     ensures within { IfSome result (λ e. e.0 < length plan.now.events) }
     ensures valid { IsValid plan.now }
 {
@@ -26,7 +26,7 @@ pub(crate) fn led_by(plan: &Plan, event: EventId) -> Option<EventId>
 /// if a stop was kept. From `stopped` it goes on to `ball_ended`, if it may hold the end of the ball.
 fn next_event(plan: &Plan, mode: ModeId, which: ModeEvent) -> Option<EventId>
     requires { mode.0 < length plan.now.modes }
-    ensures led { result ≡ led_by plan.now (works.Mode mode which) }
+    ensures leads { result ≡ led_by plan.now (works.Mode mode which) }
     ensures within { IfSome result (λ e. e.0 < length plan.now.events) }
 {
     let events = plan.mode(mode).events;
@@ -42,7 +42,7 @@ fn next_event(plan: &Plan, mode: ModeId, which: ModeEvent) -> Option<EventId>
 /// The event `ball_ended`, if the mode may hold the end of the ball.
 fn end_of_ball(plan: &Plan, mode: ModeId) -> Option<EventId>
     requires { mode.0 < length plan.now.modes }
-    ensures led { result ≡ led_by_stopped plan.now mode }
+    ensures leads { result ≡ led_by_stopped plan.now mode }
     ensures within { IfSome result (λ e. e.0 < length plan.now.events) }
 {
     if plan.may_hold_ball_end(mode) {

@@ -87,7 +87,7 @@ impl<B: Board> Driver<B> {
     #[inline(always)]
     pub fn serve(&mut self, lines: &[Line]) -> Option<usize>
         requires { All (IsSendable (length self.old.guard)) lines.now }
-        ensures served { IsServed lines.now result self.old self.new }
+        ensures serves { IsServed lines.now result self.old self.new }
         ensures coils { length self.new.guard ≡ length self.old.guard }
     {
         for (place, line) in lines.iter().enumerate() {
@@ -103,7 +103,7 @@ impl<B: Board> Driver<B> {
     #[inline(always)]
     fn serve_line(&mut self, line: &Line) -> Result<(), BoardFault>
         requires { IsSendable (length self.old.guard) line.now }
-        ensures served { MatchResult result (λ _. HasSent (line.now ∷ []) self.old self.new)
+        ensures serves { MatchResult result (λ _. HasSent (line.now ∷ []) self.old self.new)
             (λ _. HasNotSent line.now self.old self.new) }
         ensures coils { length self.new.guard ≡ length self.old.guard }
     {
@@ -159,7 +159,7 @@ impl<B: Board> Driver<B> {
     fn takes_off(&mut self, coil: CoilId, now: u64) -> bool
         requires { coil.0 < length self.old.guard }
         ensures due { result ≡ is_due_off now self.old coil }
-        ensures sent { self.new ≡ record self.old { guard = after_disable coil now self.old.guard } }
+        ensures state { self.new ≡ record self.old { guard = after_disable coil now self.old.guard } }
         ensures coils { length self.new.guard ≡ length self.old.guard }
     {
         let on = match self.guard.disable(coil, now) {

@@ -43,7 +43,7 @@ pub fn limits_hold_on_a_slower_clock()
 pub fn answers_are_by_commands()
     ensures answers { AnswersAreByCommands }
     ensures on { StatesSayWhatIsOn }
-    ensures held { StatesSayWhoHolds }
+    ensures holds { StatesSayWhoHolds }
     ensures next_on { LowestIsOn }
     ensures release { LowestIsReleased }
 {}
@@ -65,8 +65,8 @@ pub fn guard_follows_commands()
 ///
 /// It does nothing: its contract is the law, over the steps that `send` takes.
 pub fn memory_board_keeps_latest()
-    ensures kept { MemoryKeepsLatest }
-    ensures told { MemoryTellsAll }
+    ensures keeps { MemoryKeepsLatest }
+    ensures tells { MemoryTellsAll }
 {}
 
 /// The law of `FuseBoard`: after any number of commands, the next one is a fault exactly if it is

@@ -78,7 +78,7 @@ impl Board for MemoryBoard {
     fn send(&mut self, command: Command) -> Result<(), BoardFault>
         ensures list { IsToldAfter command result (told_by_memory self.old) (told_by_memory self.new) }
         ensures never { IsOk result }
-        ensures taken { self.new ≡ after_taking command self.old }
+        ensures state { self.new ≡ after_taking command self.old }
     {
         let _oldest = self.ring.push_back(command);
         self.commands_taken = (self.commands_taken + 1).min(MOST_COUNTED);

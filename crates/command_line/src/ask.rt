@@ -78,7 +78,7 @@ impl From<AllocError> for AskFault {
 /// - `Usage`: the words are not one of these, or ask for help or for the version.
 /// - `NoMemory`: memory ran out.
 pub fn command(alloc: Global, words: Vec<String>) -> Result<Ask, AskFault>
-    ensures asked { IfOk result (IsAsked (asked_at (given_words words.items))) }
+    ensures asks { IfOk result (IsAsked (asked_at (given_words words.items))) }
     ensures checks { given_words words.items ≡ codes "check" ∷ [] → Asks (check None) result }
     ensures checks_folder { (folder : List ℕ) → IsNoFlag folder → given_words words.items ≡ codes "check" ∷ folder ∷ []
         → Asks (check (Some folder)) result }
@@ -90,15 +90,15 @@ pub fn command(alloc: Global, words: Vec<String>) -> Result<Ask, AskFault>
         → Asks (play log None) result }
     ensures plays_folder { (log folder : List ℕ) → IsNoFlag log → IsNoFlag folder
         → given_words words.items ≡ codes "play" ∷ log ∷ folder ∷ [] → Asks (play log (Some folder)) result }
-    ensures only { IfErr result (λ fault. IsSome (asked_at (given_words words.items)) → fault ≡ AskFault.NoMemory) }
+    ensures fails { IfErr result (λ fault. IsSome (asked_at (given_words words.items)) → fault ≡ AskFault.NoMemory) }
 {
     read_words(alloc, &words)
 }
 
 /// What the words ask for. Words that ask for something fail only by memory.
 fn read_words(alloc: Global, words: &[String]) -> Result<Ask, AskFault>
-    ensures asked { IfOk result (IsAsked (asked_at (given_words words.now))) }
-    ensures only { IfErr result (λ fault. IsSome (asked_at (given_words words.now)) → fault ≡ AskFault.NoMemory) }
+    ensures asks { IfOk result (IsAsked (asked_at (given_words words.now))) }
+    ensures fails { IfErr result (λ fault. IsSome (asked_at (given_words words.now)) → fault ≡ AskFault.NoMemory) }
 {
     match pinball(alloc)?.try_get_matches_from(words) {
         Ok(matches) => ask_of(alloc, &matches),
@@ -191,8 +191,8 @@ pub(crate) fn path_argument<'a>(alloc: Global, value_name: &'a str, help: &'a st
 }
 
 fn ask_of(alloc: Global, matches: &ArgMatches<'_>) -> Result<Ask, AskFault>
-    ensures asked { IfOk result (IsAsked (asked_of (subcommand_rows_of matches.now))) }
-    ensures only { IfErr result (λ fault. IsSome (asked_of (subcommand_rows_of matches.now))
+    ensures asks { IfOk result (IsAsked (asked_of (subcommand_rows_of matches.now))) }
+    ensures fails { IfErr result (λ fault. IsSome (asked_of (subcommand_rows_of matches.now))
         → fault ≡ AskFault.NoMemory) }
 {
     match matches.subcommand() {
@@ -212,8 +212,8 @@ fn ask_by(
     path: Option<&str>,
     folder: Option<&str>,
 ) -> Result<Ask, AskFault>
-    ensures asked { IfOk result (IsAsked (asked_by name.now (given_text path.entry) (given_text folder.entry))) }
-    ensures only { IfErr result (λ fault. IsSome (asked_by name.now (given_text path.entry) (given_text folder.entry))
+    ensures asks { IfOk result (IsAsked (asked_by name.now (given_text path.entry) (given_text folder.entry))) }
+    ensures fails { IfErr result (λ fault. IsSome (asked_by name.now (given_text path.entry) (given_text folder.entry))
         → fault ≡ AskFault.NoMemory) }
 {
     let folder = copy_of(alloc, folder)?;

@@ -63,10 +63,10 @@ impl LiveAsk {
 /// - `Usage`: the words are not these, or ask for help or for the version.
 /// - `NoMemory`: memory ran out.
 pub fn live_command(alloc: Global, words: Vec<String>) -> Result<LiveAsk, AskFault>
-    ensures asked { IfOk result (IsLiveAsked (live_asked_at (given_words words.items))) }
+    ensures asks { IfOk result (IsLiveAsked (live_asked_at (given_words words.items))) }
     ensures runs { (folder : List ℕ) → IsNoFlag folder → given_words words.items ≡ folder ∷ []
         → AsksLive (run folder false) result }
-    ensures only { IfErr result (λ fault. IsSome (live_asked_at (given_words words.items))
+    ensures fails { IfErr result (λ fault. IsSome (live_asked_at (given_words words.items))
         → fault ≡ AskFault.NoMemory) }
 {
     read_live(alloc, &words)
@@ -74,8 +74,8 @@ pub fn live_command(alloc: Global, words: Vec<String>) -> Result<LiveAsk, AskFau
 
 /// What the words ask for. Words that ask for something fail only by memory.
 fn read_live(alloc: Global, words: &[String]) -> Result<LiveAsk, AskFault>
-    ensures asked { IfOk result (IsLiveAsked (live_asked_at (given_words words.now))) }
-    ensures only { IfErr result (λ fault. IsSome (live_asked_at (given_words words.now)) → fault ≡ AskFault.NoMemory) }
+    ensures asks { IfOk result (IsLiveAsked (live_asked_at (given_words words.now))) }
+    ensures fails { IfErr result (λ fault. IsSome (live_asked_at (given_words words.now)) → fault ≡ AskFault.NoMemory) }
 {
     match pinball_live(alloc)?.try_get_matches_from(words) {
         Ok(matches) => asked_of(alloc, &matches),
@@ -135,8 +135,8 @@ fn live_program<'a>(alloc: Global) -> Result<Command<'a>, AllocError>
 }
 
 fn asked_of(alloc: Global, matches: &ArgMatches<'_>) -> Result<LiveAsk, AskFault>
-    ensures asked { IfOk result (IsLiveAsked (asked_in (rows_of (found_of matches.now)))) }
-    ensures only { IfErr result (λ fault. IsSome (asked_in (rows_of (found_of matches.now)))
+    ensures asks { IfOk result (IsLiveAsked (asked_in (rows_of (found_of matches.now)))) }
+    ensures fails { IfErr result (λ fault. IsSome (asked_in (rows_of (found_of matches.now)))
         → fault ≡ AskFault.NoMemory) }
 {
     let work = is_true(value_of(matches, "work"));
@@ -168,8 +168,8 @@ fn ask_by(
     work: bool,
     any_work: bool,
 ) -> Result<LiveAsk, AskFault>
-    ensures asked { IfOk result (IsLiveAsked (asked_of (given_text folder.entry) work any_work)) }
-    ensures only { IfErr result (λ fault. IsSome (asked_of (given_text folder.entry) work any_work)
+    ensures asks { IfOk result (IsLiveAsked (asked_of (given_text folder.entry) work any_work)) }
+    ensures fails { IfErr result (λ fault. IsSome (asked_of (given_text folder.entry) work any_work)
         → fault ≡ AskFault.NoMemory) }
 {
     match folder {

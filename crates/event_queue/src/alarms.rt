@@ -96,7 +96,7 @@ impl Alarms {
 
 /// Puts an alarm, if there is one, among those in order. There has to be room for it.
 fn put_in(queue: &mut VecDeque<(u64, RowId)>, alarm: Option<(u64, RowId)>)
-    requires ordered { IsOrdered comes_before queue.old.items }
+    requires order { IsOrdered comes_before queue.old.items }
     requires room { length queue.old.items < deque_capacity queue.old }
     ensures items { queue.new.items ≡ put_alarm alarm queue.old.items }
     ensures capacity { deque_capacity queue.old ≤ deque_capacity queue.new }

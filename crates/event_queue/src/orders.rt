@@ -168,7 +168,7 @@ pub(crate) fn drop_group(
 /// Writes down an order with the places of a group among it. Each place is looked for only after
 /// the one before it, so that this is one walk.
 fn merge(fresh: &mut Vec<BindingId>, plan: &Plan, order: &[BindingId], group: &[BindingId])
-    requires ordered { IsOrdered (runs_before plan.now) order.now }
+    requires order { IsOrdered (runs_before plan.now) order.now }
     requires group { IsInTurn (runs_before plan.now) group.now }
     requires room { length order.now + length group.now ≤ vec_capacity fresh.old }
     ensures items { fresh.new.items ≡ put_all (runs_before plan.now) group.now order.now }
@@ -190,7 +190,7 @@ fn merge(fresh: &mut Vec<BindingId>, plan: &Plan, order: &[BindingId], group: &[
 /// Writes down an order without the places of a group, which are among it. As `merge`, this is one
 /// walk.
 fn part(fresh: &mut Vec<BindingId>, plan: &Plan, order: &[BindingId], group: &[BindingId])
-    requires ordered { IsOrdered (runs_before plan.now) order.now }
+    requires order { IsOrdered (runs_before plan.now) order.now }
     requires group { IsInTurn (runs_before plan.now) group.now }
     requires among { (others : List Place) × IsOrdered (runs_before plan.now) others
         × (order.now ≡ put_all (runs_before plan.now) group.now others) }
@@ -247,7 +247,7 @@ fn add_one(to: &mut Vec<BindingId>, place: BindingId)
 
 /// Puts a place into an order, which has room for it.
 fn put_in(order: &mut Vec<BindingId>, plan: &Plan, place: BindingId)
-    requires ordered { IsOrdered (runs_before plan.now) order.old.items }
+    requires order { IsOrdered (runs_before plan.now) order.old.items }
     requires room { length order.old.items < vec_capacity order.old }
     ensures items { order.new.items ≡ put (runs_before plan.now) place order.old.items }
     ensures capacity { vec_capacity order.old ≤ vec_capacity order.new }

@@ -61,7 +61,7 @@ impl<W: Write + Drop> Board for WireBoard<W> {
         ensures count { OnOk result (self.new.faults ≡ self.old.faults) }
         ensures list { IsToldAfter command result (told_of self.old.commands) (told_of self.new.commands) }
         ensures answer { IsAnswered (is_ok result) untold untold }
-        ensures sent { OnOk result (Appends (W.contents self.old.wire) (W.contents self.new.wire) (frame_of command)) }
+        ensures sends { OnOk result (Appends (W.contents self.old.wire) (W.contents self.new.wire) (frame_of command)) }
     {
         // If the count could not rise, a fault would not be seen: then nothing is sent any more.
         if self.faults == u64::MAX || send_frame(&mut self.wire, command).is_err() {

@@ -30,9 +30,9 @@ pub trait Link: Drop {
     /// - `Read`: a read failed.
     /// - `TooLong`: the next line has more bytes than the room, or more than 4,096.
     fn hear(&mut self, room: &mut [u8]) -> Result<Option<usize>, ShellFault>
-        ensures heard { Hears shows_lines room.new (report self.old) (report self.new) result }
+        ensures hears { Hears shows_lines room.new (report self.old) (report self.new) result }
         ensures within { IfOk result (λ len. IfSome len (λ n. n ≤ length room.new)) }
-        ensures failed { IfErr result (λ e. (e ≡ ShellFault.Read) ⊎ (e ≡ ShellFault.TooLong)) };
+        ensures fails { IfErr result (λ e. (e ≡ ShellFault.Read) ⊎ (e ≡ ShellFault.TooLong)) };
 
     /// Tells a text, or its first bytes, and gives how many. They have been sent on their way then.
     ///
@@ -40,6 +40,6 @@ pub trait Link: Drop {
     ///
     /// Those of the link. Nothing was told then.
     fn tell(&mut self, text: &[u8]) -> io::Result<usize>
-        ensures told { Tells text.now (report self.old) (report self.new) result }
+        ensures tells { Tells text.now (report self.old) (report self.new) result }
         ensures within { IfOk result (λ n. n ≤ length text.now) };
 }

@@ -56,7 +56,7 @@ pub fn run_live<D: Device, B: Board, L: Link>(
 ) -> Result<Verdict, ShellFault>
     ensures runs { RunsLive checked.now L.shows_lines (board_view B.command_list B.fault_count B.answers board)
         (wire_report L.report wire.old) (wire_report L.report wire.new) result }
-    ensures sent { IsSent result (writer_buffer wire.new) }
+    ensures sends { IsSent result (writer_buffer wire.new) }
     ensures fit { OnOk result (IsFit checked.now.plan (map D.row_of devices.items) (map D.state_of devices.items)) }
     ensures wrong { IsErrOf result ShellFault.WrongDevice
         → ¬ (IsFit checked.now.plan (map D.row_of devices.items) (map D.state_of devices.items)) }
@@ -73,7 +73,7 @@ fn run_player<D: Device, B: Board, L: Link>(
     requires { IsReady player }
     ensures runs { RunsRig player.entry.plan L.shows_lines player.entry.rig (wire_report L.report wire.old)
         (wire_report L.report wire.new) result }
-    ensures sent { IsSent result (writer_buffer wire.new) }
+    ensures sends { IsSent result (writer_buffer wire.new) }
 {
     let mut player = player;
     if tell_due(player.next_due(), wire).is_err() {
@@ -95,11 +95,11 @@ fn end_machine<D: Device, B: Board, L: Link>(
     player: LogPlayer<'_, D, B>,
     wire: &mut Wire<L>,
 ) -> Result<B, ShellFault>
-    ensures done { IfOk result (λ b. IsEnded player.entry.plan player.entry.rig
+    ensures ends { IfOk result (λ b. IsEnded player.entry.plan player.entry.rig
         (board_view B.command_list B.fault_count B.answers b) (wire_report L.report wire.old)
         (wire_report L.report wire.new)) }
-    ensures failed { IfErr result (λ e. e ≡ ShellFault.Write) }
-    ensures sent { OnOk result (writer_buffer wire.new ≡ []) }
+    ensures fails { IfErr result (λ e. e ≡ ShellFault.Write) }
+    ensures empty { OnOk result (writer_buffer wire.new ≡ []) }
 {
     let board = player.shut_down(wire)?;
     match tell_all(wire) {
@@ -115,7 +115,7 @@ fn answer_lines<D: Device, B: Board, L: Link>(
     wire: &mut Wire<L>,
 ) -> Result<Verdict, ShellFault>
     requires ready { IsReady player.old }
-    requires sent { writer_buffer wire.old ≡ [] }
+    requires empty { writer_buffer wire.old ≡ [] }
     ensures lines { AnswersLines player.old.plan L.shows_lines player.old.rig player.new.rig
         (wire_report L.report wire.old) (wire_report L.report wire.new) result }
     ensures plan { player.new.plan ≡ player.old.plan }
@@ -139,10 +139,10 @@ fn answer_lines<D: Device, B: Board, L: Link>(
 /// Hears a line from a link to which nothing is on its way.
 fn hear<L: Link>(wire: &mut Wire<L>, room: &mut [u8]) -> Result<Option<usize>, ShellFault>
     requires { writer_buffer wire.old ≡ [] }
-    ensures heard { Hears L.shows_lines room.new (wire_report L.report wire.old) (wire_report L.report wire.new)
+    ensures hears { Hears L.shows_lines room.new (wire_report L.report wire.old) (wire_report L.report wire.new)
         result }
     ensures within { IfOk result (λ len. IfSome len (λ n. n ≤ length room.new)) }
-    ensures failed { IfErr result (λ e. (e ≡ ShellFault.Read) ⊎ (e ≡ ShellFault.TooLong)) }
+    ensures fails { IfErr result (λ e. (e ≡ ShellFault.Read) ⊎ (e ≡ ShellFault.TooLong)) }
     ensures empty { writer_buffer wire.new ≡ [] }
 {
     wire.get_mut().link.hear(room)
@@ -188,11 +188,11 @@ fn refuse_last<D: Device, B: Board, L: Link>(
     number: usize,
     wire: &mut Wire<L>,
 ) -> Result<Verdict, ShellFault>
-    ensures written { OnOk result (Appends (append_known (wire_contents L.report wire.old) player.old.page)
+    ensures writes { OnOk result (Appends (append_known (wire_contents L.report wire.old) player.old.page)
         (wire_contents L.report wire.new) (refused_text number board_refusal)) }
     ensures verdict { IfOk result (λ v. v ≡ Verdict.Refused) }
-    ensures failed { IfErr result (λ e. e ≡ ShellFault.Write) }
-    ensures kept { player.new ≡ with_page player.new.page player.old }
+    ensures fails { IfErr result (λ e. e ≡ ShellFault.Write) }
+    ensures keeps { player.new ≡ with_page player.new.page player.old }
 {
     let verdict = player.refuse_for_board(number, wire)?;
     match player.write_out(wire) {
@@ -207,10 +207,10 @@ fn tell_answer<D: Device, B: Board, L: Link>(
     player: &mut LogPlayer<'_, D, B>,
     wire: &mut Wire<L>,
 ) -> Result<(), WriteFailed>
-    ensures written { OnOk result (AppendsBoth (wire_contents L.report wire.old) (wire_contents L.report wire.new)
+    ensures writes { OnOk result (AppendsBoth (wire_contents L.report wire.old) (wire_contents L.report wire.new)
         player.old.page (due_text next)) }
-    ensures kept { player.new ≡ with_page [] player.old }
-    ensures sent { OnOk result (writer_buffer wire.new ≡ []) }
+    ensures keeps { player.new ≡ with_page [] player.old }
+    ensures empty { OnOk result (writer_buffer wire.new ≡ []) }
 {
     player.write_out(wire)?;
     tell_due(next, wire)
@@ -218,9 +218,9 @@ fn tell_answer<D: Device, B: Board, L: Link>(
 
 /// Tells when an alarm is due next, after all that was written.
 fn tell_due<L: Link>(next: Option<u64>, wire: &mut Wire<L>) -> Result<(), WriteFailed>
-    ensures written { OnOk result (Appends (wire_contents L.report wire.old) (wire_contents L.report wire.new)
+    ensures writes { OnOk result (Appends (wire_contents L.report wire.old) (wire_contents L.report wire.new)
         (due_text next)) }
-    ensures sent { OnOk result (writer_buffer wire.new ≡ []) }
+    ensures empty { OnOk result (writer_buffer wire.new ≡ []) }
 {
     match write_due(next, wire) {
         Ok(()) => tell_all(wire),
@@ -240,8 +240,8 @@ fn write_due<W: Write>(next: Option<u64>, writer: &mut W) -> io::Result<()>
 
 /// Tells all that was written.
 fn tell_all<L: Link>(wire: &mut Wire<L>) -> Result<(), WriteFailed>
-    ensures kept { OnOk result (Keeps (wire_contents L.report wire.old) (wire_contents L.report wire.new)) }
-    ensures sent { OnOk result (writer_buffer wire.new ≡ []) }
+    ensures keeps { OnOk result (Keeps (wire_contents L.report wire.old) (wire_contents L.report wire.new)) }
+    ensures empty { OnOk result (writer_buffer wire.new ≡ []) }
 {
     match wire.flush() {
         Ok(()) => Ok(()),

@@ -47,12 +47,12 @@ impl ReadBuffer {
     /// Reads on until there is the end of a line, or the reader is at its end. Fails only if a read
     /// does, and by `TooLong` if there are 4,098 bytes without the end of a line. No byte is lost then.
     pub fn fill_line<R: Read>(&mut self, reader: &mut R) -> Result<(), ShellFault>
-        ensures left { Keeps (prepend_known (read_ahead self.old) (R.remaining reader.old))
+        ensures keeps { Keeps (prepend_known (read_ahead self.old) (R.remaining reader.old))
             (prepend_known (read_ahead self.new) (R.remaining reader.new)) }
         ensures line { OnOk result (HasLine (read_ahead self.new) ⊎ IsAtEnd (R.remaining reader.new)) }
         ensures long { IsErrOf result ShellFault.TooLong
             → (length (read_ahead self.new) ≡ 4098) × ¬ (HasLine (read_ahead self.new)) }
-        ensures only { IfErr result (λ e. (e ≡ ShellFault.Read) ⊎ (e ≡ ShellFault.TooLong)) }
+        ensures fails { IfErr result (λ e. (e ≡ ShellFault.Read) ⊎ (e ≡ ShellFault.TooLong)) }
     {
         while split_line(self.bytes()).1.is_none() {
             if self.read_more(reader)? == 0 {
@@ -65,13 +65,13 @@ impl ReadBuffer {
     /// Reads what has come, and gives how many bytes: none only at the end of the reader. Fails if the
     /// read does, and by `TooLong` if there is no room.
     fn read_more<R: Read>(&mut self, reader: &mut R) -> Result<usize, ShellFault>
-        ensures left { Keeps (prepend_known (read_ahead self.old) (R.remaining reader.old))
+        ensures keeps { Keeps (prepend_known (read_ahead self.old) (R.remaining reader.old))
             (prepend_known (read_ahead self.new) (R.remaining reader.new)) }
         ensures count { IfOk result (λ n. length (read_ahead self.new) ≡ length (read_ahead self.old) + n) }
         ensures end { IfOk result (λ n. n ≡ 0 → IsAtEnd (R.remaining reader.new)) }
-        ensures failed { IfErr result (λ e. read_ahead self.new ≡ read_ahead self.old) }
+        ensures same { IfErr result (λ e. read_ahead self.new ≡ read_ahead self.old) }
         ensures long { IsErrOf result ShellFault.TooLong → length (read_ahead self.new) ≡ 4098 }
-        ensures only { IfErr result (λ e. (e ≡ ShellFault.Read) ⊎ (e ≡ ShellFault.TooLong)) }
+        ensures fails { IfErr result (λ e. (e ≡ ShellFault.Read) ⊎ (e ≡ ShellFault.TooLong)) }
     {
         self.move_to_front();
         if self.end == ROOM {

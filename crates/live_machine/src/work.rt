@@ -26,10 +26,10 @@ pub fn tell_work<W: Write>(
     checked: &Checked,
     writer: &mut W,
 ) -> Result<Verdict, ShellFault>
-    ensures told { OnOk result (TellsWork checked.now.plan (W.contents writer.old) (W.contents writer.new)) }
+    ensures tells { OnOk result (TellsWork checked.now.plan (W.contents writer.old) (W.contents writer.new)) }
     ensures verdict { IfOk result (λ verdict. verdict ≡ Verdict.Yes) }
     ensures silent { IfErr result (λ e. e ≢ ShellFault.Write → Keeps (W.contents writer.old) (W.contents writer.new)) }
-    ensures only { IfErr result (λ e. (e ≡ ShellFault.NoMemory) ⊎ (e ≡ ShellFault.Write)) }
+    ensures fails { IfErr result (λ e. (e ≡ ShellFault.NoMemory) ⊎ (e ≡ ShellFault.Write)) }
 {
     let bound = bound_of(alloc, checked)?;
     match write_work(bound, writer) {
@@ -49,10 +49,10 @@ pub fn admits<W: Write>(
     checked: &Checked,
     writer: &mut W,
 ) -> Result<bool, ShellFault>
-    ensures told { IfOk result (λ yes. AdmitsWork checked.now.plan yes (W.contents writer.old)
+    ensures tells { IfOk result (λ yes. AdmitsWork checked.now.plan yes (W.contents writer.old)
         (W.contents writer.new)) }
     ensures silent { IfErr result (λ e. e ≢ ShellFault.Write → Keeps (W.contents writer.old) (W.contents writer.new)) }
-    ensures only { IfErr result (λ e. (e ≡ ShellFault.NoMemory) ⊎ (e ≡ ShellFault.Write)) }
+    ensures fails { IfErr result (λ e. (e ≡ ShellFault.NoMemory) ⊎ (e ≡ ShellFault.Write)) }
 {
     let bound = bound_of(alloc, checked)?;
     if is_admitted(bound) {
@@ -67,7 +67,7 @@ pub fn admits<W: Write>(
 /// The work bound. A checked plan has no cycle, so there is one.
 fn bound_of(alloc: Global, checked: &Checked) -> Result<WorkBound, ShellFault>
     ensures bound { IfOk result (λ bound. IsBoundOf (work_bound_of checked.now.plan) bound) }
-    ensures only { IfErr result (λ e. e ≡ ShellFault.NoMemory) }
+    ensures fails { IfErr result (λ e. e ≡ ShellFault.NoMemory) }
 {
     match work_bound(alloc, checked.plan()) {
         Ok(bound) => Ok(bound),

@@ -27,7 +27,7 @@ pub(crate) enum BallCall {
 /// Books this, which the ledger may. Reports what is booked.
 pub(crate) fn book(ledger: &mut BallLedger, call: BallCall) -> Booking
     requires { can_book (ledger_call call) ledger.old ≡ true }
-    ensures booked { result ≡ booking_of (ledger_call call) ledger.old }
+    ensures booking { result ≡ booking_of (ledger_call call) ledger.old }
     ensures ledger { ledger.new ≡ after_call (ledger_call call) ledger.old }
 {
     match call {

@@ -352,7 +352,7 @@ impl<'p, D: Device> Core<'p, D> {
     /// A mode is told to start. Reports whether it starts.
     pub(crate) fn start(&mut self, mode: ModeId) -> bool
         requires { mode.0 < length self.old.plan.modes }
-        ensures started { self.new ≡ after
+        ensures state { self.new ≡ after
             (set_mode mode (after_start (needs_game self.old.plan mode) (has_game self.old.machine)
             (mode_state self.old.machine.modes mode))) self.old }
         ensures starts { result ≡ starts (needs_game self.old.plan mode) (has_game self.old.machine)
@@ -373,7 +373,7 @@ impl<'p, D: Device> Core<'p, D> {
     /// A mode no longer holds the end of the ball. Reports whether it was the last one that did.
     pub(crate) fn drop_hold(&mut self, mode: ModeId) -> bool
         requires { mode.0 < 64 }
-        ensures released { self.new ≡ after (drop_hold mode) self.old }
+        ensures state { self.new ≡ after (drop_hold mode) self.old }
         ensures ends { result ≡ ends_ball mode self.old.machine.game }
     {
         self.game.release(mode)
@@ -399,7 +399,7 @@ impl<'p, D: Device> Core<'p, D> {
     /// At least so many balls are in play from now on, while a ball is on. Reports how many were
     /// missing for that.
     pub(crate) fn add_balls(&mut self, balls: u8) -> usize
-        ensures added { self.new ≡ after (λ s. set_game (more_balls balls s.game) s) self.old }
+        ensures state { self.new ≡ after (λ s. set_game (more_balls balls s.game) s) self.old }
         ensures missing { result ≡ missing balls self.old.machine.game }
     {
         usize::from(self.game.add_balls(balls))
@@ -418,7 +418,7 @@ impl<'p, D: Device> Core<'p, D> {
     /// A mode is told to stop. Reports whether its event for that is to be posted.
     pub(crate) fn stop(&mut self, mode: ModeId) -> bool
         requires { mode.0 < length self.old.plan.modes }
-        ensures stopped { self.new ≡ after (set_mode mode (after_stop (mode_state self.old.machine.modes mode)))
+        ensures state { self.new ≡ after (set_mode mode (after_stop (mode_state self.old.machine.modes mode)))
             self.old }
         ensures posts { result ≡ is_post (stop_answer (mode_state self.old.machine.modes mode).phase) }
     {
@@ -431,11 +431,11 @@ impl<'p, D: Device> Core<'p, D> {
     /// A mode is active, and its bindings are handlers. Reports whether a stop was kept for it.
     pub(crate) fn enter(&mut self, mode: ModeId) -> bool
         requires { mode.0 < length self.old.plan.modes }
-        ensures entered { self.new ≡ record self.old {
+        ensures state { self.new ≡ record self.old {
           machine = set_mode mode (entered (mode_state self.old.machine.modes mode)) self.old.machine;
           running = slice_set self.old.running mode.0 true;
         } }
-        ensures kept { result ≡ (mode_state self.old.machine.modes mode).keeps_stop }
+        ensures keeps { result ≡ (mode_state self.old.machine.modes mode).keeps_stop }
     {
         self.handlers.add_owner(mode);
         self.modes.entered(mode)
@@ -477,7 +477,7 @@ impl<'p, D: Device> Core<'p, D> {
         requires row { row.0 < length self.old.machine.devices }
         requires moment { self.old.machine.moment < 2 ^ 40 }
         requires may { MayCome call (device_at self.old.machine row) }
-        ensures called { self.new ≡ after (set_device row (call_row self.old.plan call row self.old.machine).0)
+        ensures state { self.new ≡ after (set_device row (call_row self.old.plan call row self.old.machine).0)
             self.old }
         ensures lists { result.items ≡ (call_row self.old.plan call row self.old.machine).1 }
     {
@@ -542,7 +542,7 @@ impl<'p, D: Device> Core<'p, D> {
 
     /// The game and its players go on as an event of the game says. Reports what else it leads to.
     pub(crate) fn play(&mut self, event: GameEvent) -> GameWork
-        ensures played { self.new ≡ after (play_event self.old.plan event) self.old }
+        ensures state { self.new ≡ after (play_event self.old.plan event) self.old }
         ensures work { IsWorkOfGame self.old.plan event self.old.machine result }
     {
         let home = home(self.plan, &self.ledger);
@@ -585,7 +585,7 @@ impl<'p, D: Device> Core<'p, D> {
     /// The first coil that the owner holds is turned off, if one is. Reports the command that is
     /// sent.
     pub(crate) fn release(&mut self, owner: Owner) -> Option<Command>
-        ensures released { self.new ≡ after (λ s. set_coils (after_release owner s.moment s.coils) s) self.old }
+        ensures state { self.new ≡ after (λ s. set_coils (after_release owner s.moment s.coils) s) self.old }
         ensures command { result ≡ answer_release owner self.old.machine.moment self.old.machine.coils }
     {
         self.coils.release(owner, self.moment)
@@ -595,9 +595,9 @@ impl<'p, D: Device> Core<'p, D> {
     pub(crate) fn change(&mut self, at: u64, switch: SwitchId, level: bool) -> Option<Change>
         requires at { at < 2 ^ 40 }
         requires switch { switch.0 < length self.old.machine.switches.kinds }
-        ensures changed { self.new ≡ after (set_switches (after_change switch level at self.old.machine.switches))
+        ensures state { self.new ≡ after (set_switches (after_change switch level at self.old.machine.switches))
             self.old }
-        ensures reported { result ≡ reported_by_change switch level at self.old.machine.switches }
+        ensures reports { result ≡ reported_by_change switch level at self.old.machine.switches }
     {
         self.switches.change(switch, level, at)
     }
@@ -627,7 +627,7 @@ impl<'p, D: Device> Core<'p, D> {
         requires state { D.state_of device ≡ device_at self.old.machine row }
         ensures same { self.new ≡ self.old }
         ensures row { D.row_of result ≡ row_at self.old.plan row }
-        ensures stopped { D.state_of result
+        ensures state { D.state_of result
             ≡ stopped_state self.old.machine.moment (world_of self.old.machine) (row_at self.old.plan row)
             (device_at self.old.machine row) }
     {
@@ -640,8 +640,8 @@ impl<'p, D: Device> Core<'p, D> {
     /// The raw level of the switch that is due next is accepted, which one must be.
     pub(crate) fn fire(&mut self) -> Change
         requires { IsSome (next_due self.old.machine.switches) }
-        ensures fired { self.new ≡ after (set_switches (after_fire self.old.machine.switches)) self.old }
-        ensures reported { reported_by_fire self.old.machine.switches ≡ Some result }
+        ensures state { self.new ≡ after (set_switches (after_fire self.old.machine.switches)) self.old }
+        ensures reports { reported_by_fire self.old.machine.switches ≡ Some result }
     {
         self.switches.fire()
     }

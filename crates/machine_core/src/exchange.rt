@@ -10,7 +10,7 @@ use std::mem;
 pub(crate) fn put_in_place<D: Device>(devices: &mut Vec<D>, row: RowId, device: D) -> D
     requires { row.0 < length devices.old.items }
     ensures put { devices.new.items ≡ slice_set devices.old.items row.0 device }
-    ensures taken { slice_get devices.old.items row.0 ≡ Some result }
+    ensures takes { slice_get devices.old.items row.0 ≡ Some result }
 {
     mem::replace(&mut devices[row.0 as usize], device)
 }

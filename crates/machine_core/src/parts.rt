@@ -148,7 +148,7 @@ pub fn settle<D: Device>(core: &mut Core<'_, D>)
     requires handlers { HasHandlers core.old }
     requires calls { CanCall core.old }
     requires room { StaysWithin core.old }
-    ensures settled { HasSettled core.old core.new }
+    ensures settles { HasSettled core.old core.new }
     ensures calls { CanCall core.new }
 {
     while advance(core) {}
@@ -161,7 +161,7 @@ pub fn advance<D: Device>(core: &mut Core<'_, D>) -> bool
     requires handlers { HasHandlers core.old }
     requires calls { CanCall core.old }
     requires room { StaysWithin core.old }
-    ensures advanced { HasAdvanced core.old result core.new }
+    ensures advances { HasAdvanced core.old result core.new }
     ensures calls { CanCall core.new }
 {
     match core.take() {
@@ -207,8 +207,8 @@ fn work_before<D: Device>(core: &mut Core<'_, D>, event: EventId) -> Option<bool
     requires handlers { HasHandlers core.old }
     requires calls { CanCall core.old }
     requires room { IsWithin core.old.room (do_before core.old.plan (work_of core.old.plan event) core.old.machine) }
-    ensures done { core.new ≡ follow (do_before core.old.plan (work_of core.old.plan event)) core.old }
-    ensures kept { result ≡ kept_at (work_of core.old.plan event) core.old.machine }
+    ensures state { core.new ≡ follow (do_before core.old.plan (work_of core.old.plan event)) core.old }
+    ensures keeps { result ≡ kept_at (work_of core.old.plan event) core.old.machine }
 {
     match work_of(core.plan(), event) {
         Work::Nothing => None,
@@ -224,8 +224,8 @@ fn mode_before<D: Device>(core: &mut Core<'_, D>, mode: ModeId, which: ModeEvent
     requires handlers { HasHandlers core.old }
     requires calls { CanCall core.old }
     requires room { IsWithin core.old.room (do_before core.old.plan (works.Mode mode which) core.old.machine) }
-    ensures done { core.new ≡ follow (do_before core.old.plan (works.Mode mode which)) core.old }
-    ensures kept { result ≡ is_kept (works.Mode mode which) core.old.machine }
+    ensures state { core.new ≡ follow (do_before core.old.plan (works.Mode mode which)) core.old }
+    ensures keeps { result ≡ is_kept (works.Mode mode which) core.old.machine }
 {
     match which {
         ModeEvent::Started => {

@@ -30,7 +30,7 @@ pub(crate) fn tell<D: Device>(core: &mut Core<'_, D>, telling: Telling)
 fn told_device<D: Device>(core: &Core<'_, D>, telling: Telling) -> Option<RowId>
     requires telling { IsTellingThere (length core.now.plan.rows) telling }
     requires devices { HasDevices core.now.plan core.now.machine.devices }
-    ensures told { result ≡ told_device core.now.plan telling core.now.machine }
+    ensures tells { result ≡ told_device core.now.plan telling core.now.machine }
     ensures there { IfSome result (λ row. row.0 < length core.now.plan.rows) }
 {
     match telling {

@@ -29,7 +29,7 @@ pub trait Texts {
     fn text(&self, alloc: Global, path: &str) -> Result<Option<Vec<u8>>, ShellFault>
         ensures found { IfOk result (λ found. IsTextAt (text_at self.now path.now) found) }
         ensures read { IfErr result (λ e. e ≡ ShellFault.Read → text_at self.now path.now ≡ None) }
-        ensures only { IfErr result (λ e. IsOfReading e) };
+        ensures fails { IfErr result (λ e. IsOfReading e) };
 }
 
 /// The bundle of the machine whose texts are in this folder: the machine text, and then the texts of
@@ -47,7 +47,7 @@ pub fn folder_bundle<T: Texts>(alloc: Global, texts: &T, folder: &str) -> Result
     ensures bundle { IfOk result (λ all. IsBundleIn (T.text_at texts.now) folder.now all.items) }
     ensures within { IfOk result (λ all. vec_len all ≤ 2 ^ 23) }
     ensures read { IfErr result (λ failure. NamesUnread (T.text_at texts.now) folder.now failure) }
-    ensures only { IfErr result (λ failure. IsOfReading failure.fault) }
+    ensures fails { IfErr result (λ failure. IsOfReading failure.fault) }
 {
     let path = path_in(alloc, folder, MACHINE_NAME)?;
     match read_machine(alloc, texts, &path) {
@@ -69,7 +69,7 @@ fn read_machine<T: Texts>(
         (names_only_view read.1)) }
     ensures within { IfOk result (λ read. vec_len read.0 ≤ 2 ^ 23) }
     ensures unread { IfErr result (λ e. e ≡ ShellFault.Read → MayLack (T.text_at texts.now path.now)) }
-    ensures only { IfErr result (λ e. IsOfReading e) }
+    ensures fails { IfErr result (λ e. IsOfReading e) }
 {
     let Some(text) = texts.text(alloc, path)? else {
         return Err(ShellFault::Read);
@@ -88,11 +88,11 @@ fn append_modes<T: Texts>(
     bundle: &mut Vec<u8>,
 ) -> Result<(), Failure>
     requires { vec_len bundle.old ≤ 2 ^ 23 }
-    ensures joined { OnOk result (AreJoined (T.text_at texts.now) folder.now (map (λ mode. mode.items) modes.now)
+    ensures joins { OnOk result (AreJoined (T.text_at texts.now) folder.now (map (λ mode. mode.items) modes.now)
         bundle.old.items bundle.new.items) }
     ensures within { OnOk result (vec_len bundle.new ≤ 2 ^ 23) }
     ensures read { IfErr result (λ failure. NamesUnread (T.text_at texts.now) folder.now failure) }
-    ensures only { IfErr result (λ failure. IsOfReading failure.fault) }
+    ensures fails { IfErr result (λ failure. IsOfReading failure.fault) }
 {
     for mode in modes {
         append_mode(alloc, texts, folder, mode, bundle)?;
@@ -109,11 +109,11 @@ fn append_mode<T: Texts>(
     bundle: &mut Vec<u8>,
 ) -> Result<(), Failure>
     requires { vec_len bundle.old ≤ 2 ^ 23 }
-    ensures joined { OnOk result (IsModeJoined (T.text_at texts.now) folder.now mode.now bundle.old.items
+    ensures joins { OnOk result (IsModeJoined (T.text_at texts.now) folder.now mode.now bundle.old.items
         bundle.new.items) }
     ensures within { OnOk result (vec_len bundle.new ≤ 2 ^ 23) }
     ensures read { IfErr result (λ failure. NamesUnread (T.text_at texts.now) folder.now failure) }
-    ensures only { IfErr result (λ failure. IsOfReading failure.fault) }
+    ensures fails { IfErr result (λ failure. IsOfReading failure.fault) }
 {
     let name = mode_text_name(alloc, mode)?;
     let path = path_in(alloc, folder, &name)?;
@@ -132,11 +132,11 @@ fn append_text_at<T: Texts>(
     bundle: &mut Vec<u8>,
 ) -> Result<(), ShellFault>
     requires { vec_len bundle.old ≤ 2 ^ 23 }
-    ensures joined { OnOk result (IfSome (T.text_at texts.now path.now)
+    ensures joins { OnOk result (IfSome (T.text_at texts.now path.now)
         (λ text. bundle.new.items ≡ with_text bundle.old.items name.now text)) }
     ensures within { OnOk result (vec_len bundle.new ≤ 2 ^ 23) }
     ensures read { IfErr result (λ e. e ≡ ShellFault.Read → T.text_at texts.now path.now ≡ None) }
-    ensures only { IfErr result (λ e. IsOfReading e) }
+    ensures fails { IfErr result (λ e. IsOfReading e) }
 {
     match texts.text(alloc, path)? {
         Some(text) => append_text(bundle, name, &text),

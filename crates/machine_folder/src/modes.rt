@@ -13,7 +13,7 @@ use std::alloc::Global;
 /// bundle reports that. Fails only by memory.
 pub fn readable_mode_names(alloc: Global, text: &[u8]) -> Result<Vec<Vec<u8>>, ShellFault>
     ensures names { IfOk result (λ names. AreListed text.now (names_only_view names)) }
-    ensures only { IfErr result (λ e. e ≡ ShellFault.NoMemory) }
+    ensures fails { IfErr result (λ e. e ≡ ShellFault.NoMemory) }
 {
     if !may_list_modes(text) {
         return Ok(Vec::new(alloc));

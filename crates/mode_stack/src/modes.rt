@@ -88,7 +88,7 @@ impl<'p> Modes<'p> {
         requires { mode.0 < length self.old.plan.modes }
         ensures state { self.new ≡ record self.old
             { modes = slice_set self.old.modes mode.0 (entered (mode_state self.old.modes mode)) } }
-        ensures kept { result ≡ (mode_state self.old.modes mode).keeps_stop }
+        ensures keeps { result ≡ (mode_state self.old.modes mode).keeps_stop }
         ensures complete { IsComplete self.new }
     {
         let number = mode.0 as usize;

@@ -171,7 +171,7 @@ pub fn take_modes(
     notes: &mut Vec<Note>,
 ) -> Result<Vec<ModeText>, AllocError>
     ensures modes { IfOk result (λ modes. AreModesFound mode_reads.items modes.items) }
-    ensures added { IfOk result (λ _. GainsNotes notes.old notes.new (notes_found mode_reads.items)) }
+    ensures adds { IfOk result (λ _. GainsNotes notes.old notes.new (notes_found mode_reads.items)) }
 {
     let mut modes = Vec::with_capacity(alloc, mode_reads.len())?;
     for one in mode_reads {

@@ -113,7 +113,7 @@ fn add_absent(
     texts: &[NamedText<'_>],
     notes: &mut Vec<Note>,
 ) -> Result<(), ConfigFault>
-    ensures added { IfOk result (λ _. GainsNotes notes.old notes.new (notes_on_absent texts.now modes.now)) }
+    ensures adds { IfOk result (λ _. GainsNotes notes.old notes.new (notes_on_absent texts.now modes.now)) }
     ensures fails { IfErr result (λ e. e ≡ NoMemory) }
 {
     for mode in modes {
@@ -176,7 +176,7 @@ pub fn add_unlisted(
     texts: &[NamedText<'_>],
     notes: &mut Vec<Note>,
 ) -> Result<(), ConfigFault>
-    ensures added { IfOk result (λ _. GainsNotes notes.old notes.new (notes_on_unlisted texts.now modes.now)) }
+    ensures adds { IfOk result (λ _. GainsNotes notes.old notes.new (notes_on_unlisted texts.now modes.now)) }
     ensures fails { IfErr result (λ e. e ≡ NoMemory) }
 {
     for text in texts {

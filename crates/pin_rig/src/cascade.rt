@@ -25,8 +25,8 @@ pub(crate) fn run_cascade<D: Device, B: Board>(
     requires room { StaysWithin core.old }
     requires sendable { (n : ℕ) → All (IsSendable (length driver.old.guard))
         (plan_steps core.old.plan n core.old.machine).lines }
-    ensures settled { HasSettled core.old core.new }
-    ensures served { IsServed core.new.machine.lines result driver.old driver.new }
+    ensures settles { HasSettled core.old core.new }
+    ensures serves { IsServed core.new.machine.lines result driver.old driver.new }
     ensures coils { length driver.new.guard ≡ length driver.old.guard }
 {
     let mut place = driver.serve(core.lines());
@@ -47,7 +47,7 @@ pub(crate) fn run_cascade<D: Device, B: Board>(
 fn serve_rest<B: Board>(driver: &mut Driver<B>, lines: &[Line], from: usize) -> Option<usize>
     requires from { from ≤ length lines.now }
     requires sendable { All (IsSendable (length driver.old.guard)) lines.now }
-    ensures served { (start : DriverView) → HasSent (take from lines.now) start driver.old
+    ensures serves { (start : DriverView) → HasSent (take from lines.now) start driver.old
         → IsServed lines.now result start driver.new }
     ensures coils { length driver.new.guard ≡ length driver.old.guard }
 {

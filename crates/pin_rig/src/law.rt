@@ -14,17 +14,17 @@ ghost use Rattle.pin_rig.specs.Steps.{StepsAreRun, HaltedStepsAreRun, SentIsShow
 /// the beginning of the trace (`halt`).
 ///
 /// The guard of what the board has taken follows from the commands of the lines that were shown
-/// (`sent`). The coils to which `shut_down` sends a disable are those that are on by these commands
+/// (`sends`). The coils to which `shut_down` sends a disable are those that are on by these commands
 /// at the moment of the latest stimulus, and the one whose command the board has not taken (`off`).
 ///
 /// An input is taken exactly if the rig is not halted and the input is a stimulus that may come
-/// (`taken`).
+/// (`takes`).
 ///
 /// It does nothing: its contract is the law, over what `Rig::step` promises of each step.
 pub fn steps_are_run()
     ensures run { StepsAreRun }
     ensures halt { HaltedStepsAreRun }
-    ensures sent { SentIsShown }
+    ensures sends { SentIsShown }
     ensures off { OffIsByCommands }
-    ensures taken { TakesWhatMayCome }
+    ensures takes { TakesWhatMayCome }
 {}

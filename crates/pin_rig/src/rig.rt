@@ -97,7 +97,7 @@ impl<'c, D: Device, B: Board> Rig<'c, D, B> {
     ) -> Result<Rig<'c, D, B>, RigFault>
         ensures rest { IfOk result (λ rig. rig
             ≡ at_rest checked.now (board_view B.command_list B.fault_count B.answers board)) }
-        ensures reached { IfOk result (λ rig. IsReached checked.now.plan [] rig.machine) }
+        ensures of_run { IfOk result (λ rig. IsReached checked.now.plan [] rig.machine) }
         ensures fit { IfOk result (λ rig. IsFit checked.now.plan (map D.row_of devices.items)
             (map D.state_of devices.items)) }
         ensures wrong { (row : ℕ) → result ≡ Err (RigFault.WrongDevice (record { 0 = row }))
@@ -139,7 +139,7 @@ impl<'c, D: Device, B: Board> Rig<'c, D, B> {
     ///   of the cascade: `now`, `next_due` and `state` are of that end.
     pub fn step(&mut self, input: Input) -> Result<&[Line], StepFault>
         ensures* after { sem 𝓛 (HasStepped D.row B.row D.Device B.Board input self.entry result) }
-        ensures judged { MatchResult result (λ _. IsOk (stimulus_at self.old input))
+        ensures judges { MatchResult result (λ _. IsOk (stimulus_at self.old input))
             (λ fault. IsWhy (stimulus_at self.old input) fault) }
     {
         self.act(input)?;
@@ -173,7 +173,7 @@ impl<'c, D: Device, B: Board> Rig<'c, D, B> {
     /// The alarm that is due next, as a stimulus, if it is due at or before a moment, in milliseconds.
     pub fn alarm_by(&self, until: u64) -> Option<Stimulus>
         ensures alarm { option_map stimulus_view result ≡ alarm_by until self.now.machine }
-        ensures reached { IsOfRun self.now }
+        ensures of_run { IsOfRun self.now }
     {
         let (at, source) = self.core.due()?;
         if at <= until {
@@ -188,8 +188,8 @@ impl<'c, D: Device, B: Board> Rig<'c, D, B> {
     /// as much. Whether the board has taken all commands. If not, that is the `BoardFault` of `step`.
     pub fn take(&mut self, stimulus: Stimulus) -> bool
         requires { IsAdmitted self.old (stimulus_view stimulus) }
-        ensures taken { IsTrue result → IsTaken (stimulus_view stimulus) self.old self.new }
-        ensures halted { result ≡ false → IsTakenToHalt (stimulus_view stimulus) self.old self.new }
+        ensures takes { IsTrue result → IsTaken (stimulus_view stimulus) self.old self.new }
+        ensures halts { result ≡ false → IsTakenToHalt (stimulus_view stimulus) self.old self.new }
     {
         begin(&mut self.core, stimulus);
         match run_cascade(&mut self.core, &mut self.driver) {
@@ -207,7 +207,7 @@ impl<'c, D: Device, B: Board> Rig<'c, D, B> {
     /// The moment of the latest stimulus, in milliseconds.
     pub fn now(&self) -> u64
         ensures now { result ≡ self.now.machine.moment }
-        ensures reached { IsOfRun self.now }
+        ensures of_run { IsOfRun self.now }
     {
         self.core.moment()
     }
@@ -216,7 +216,7 @@ impl<'c, D: Device, B: Board> Rig<'c, D, B> {
     pub fn next_due(&self) -> Option<u64>
         ensures least { IsNextMoment self.now.machine result }
         ensures due { result ≡ option_map (λ a. a.0) (next_alarm self.now.machine) }
-        ensures reached { IsOfRun self.now }
+        ensures of_run { IsOfRun self.now }
     {
         let (at, _) = self.core.due()?;
         Some(at)
@@ -225,7 +225,7 @@ impl<'c, D: Device, B: Board> Rig<'c, D, B> {
     /// The state of the device of a row, if the plan has the row.
     pub fn state(&self, row: RowId) -> Option<DeviceState>
         ensures state { result ≡ slice_get self.now.machine.devices row.0 }
-        ensures reached { IsOfRun self.now }
+        ensures of_run { IsOfRun self.now }
     {
         if row.0 as usize >= self.checked.plan().rows().len() {
             return None;
@@ -238,7 +238,7 @@ impl<'c, D: Device, B: Board> Rig<'c, D, B> {
     pub fn trace(&self) -> &[Line]
         ensures lines { result.now ≡ self.now.lines }
         ensures running { RunsUnlessHalted self.now }
-        ensures reached { IsOfRun self.now }
+        ensures of_run { IsOfRun self.now }
     {
         &self.core.lines()[..self.shown_lines]
     }
@@ -260,10 +260,10 @@ impl<'c, D: Device, B: Board> Rig<'c, D, B> {
     pub fn exchange(&mut self, row: RowId, device: D) -> Result<D, (Refusal, D)>
         ensures same { self.new ≡ self.old }
         ensures may { IfOk result (λ taken. MayTakePlace self.old row (D.row_of device) (D.state_of device)) }
-        ensures taken { IfOk result (λ taken. IsTakenOut self.old row (D.row_of taken) (D.state_of taken)) }
+        ensures takes { IfOk result (λ taken. IsTakenOut self.old row (D.row_of taken) (D.state_of taken)) }
         ensures refused { IfErr result (λ refused. IsRefused self.old row (D.row_of device) (D.state_of device)
             refused.0) }
-        ensures kept { IfErr result (λ refused. refused.1 ≡ device) }
+        ensures keeps { IfErr result (λ refused. refused.1 ≡ device) }
     {
         match self.judge_device(row, &device) {
             Ok(()) => Ok(self.core.exchange(row, device)),
@@ -308,7 +308,7 @@ impl<'c, D: Device, B: Board> Rig<'c, D, B> {
 
     /// What `shut_down` and a drop do. Gives the devices, which have stopped, the board and the report.
     fn end(self) -> (Vec<D>, B, ShutReport)
-        ensures stopped { AreStopped self.entry.checked.plan self.entry.machine (map D.row_of result.0.items)
+        ensures stops { AreStopped self.entry.checked.plan self.entry.machine (map D.row_of result.0.items)
             (map D.state_of result.0.items) }
         ensures off { ArePutOff (coils_to_put_off self.entry) self.entry.board result.2.off.items result.2.faults
             (board_view B.command_list B.fault_count B.answers result.1) }

@@ -44,7 +44,7 @@ pub fn check_text<R: Read, W: Write>(
     writer: &mut W,
 ) -> Result<Verdict, ShellFault>
     ensures verdict { IfOk result (λ v. IfSome (R.remaining reader.old) (λ bundle. v ≡ verdict_of (reply_to bundle))) }
-    ensures written { OnOk result (AppendsFor (R.remaining reader.old) (W.contents writer.old) (W.contents writer.new)
+    ensures writes { OnOk result (AppendsFor (R.remaining reader.old) (W.contents writer.old) (W.contents writer.new)
         check_output) }
     ensures silent { IfErr result (λ e. e ≢ ShellFault.Write → Keeps (W.contents writer.old) (W.contents writer.new)) }
     ensures within { OnOk result (HasAtMost (2 ^ 23) (R.remaining reader.old)) }
@@ -63,9 +63,9 @@ pub fn check_bundle<W: Write>(
     writer: &mut W,
 ) -> Result<Verdict, ShellFault>
     ensures verdict { IfOk result (λ v. v ≡ verdict_of (reply_to bundle.now)) }
-    ensures written { OnOk result (Appends (W.contents writer.old) (W.contents writer.new) (check_output bundle.now)) }
+    ensures writes { OnOk result (Appends (W.contents writer.old) (W.contents writer.new) (check_output bundle.now)) }
     ensures silent { IfErr result (λ e. e ≢ ShellFault.Write → Keeps (W.contents writer.old) (W.contents writer.new)) }
-    ensures only { IfErr result (λ e. (e ≡ ShellFault.NoMemory) ⊎ (e ≡ ShellFault.Write)) }
+    ensures fails { IfErr result (λ e. (e ≡ ShellFault.NoMemory) ⊎ (e ≡ ShellFault.Write)) }
 {
     let reply = reply_to_text(alloc, bundle, None)?;
     match write_checked(&reply, writer) {
@@ -90,7 +90,7 @@ pub fn verify_text<R: Read, Q: Read, W: Write>(
 ) -> Result<Verdict, ShellFault>
     ensures verdict { IfOk result (λ v. IfBoth (Q.remaining certificate.old) (R.remaining bundle.old)
         (λ certificate_text text. v ≡ verdict_of (reply_with certificate_text text))) }
-    ensures written { OnOk result (AppendsForBoth (Q.remaining certificate.old) (R.remaining bundle.old)
+    ensures writes { OnOk result (AppendsForBoth (Q.remaining certificate.old) (R.remaining bundle.old)
         (W.contents writer.old) (W.contents writer.new) verify_output) }
     ensures silent { IfErr result (λ e. e ≢ ShellFault.Write → Keeps (W.contents writer.old) (W.contents writer.new)) }
     ensures within { OnOk result (HasAtMost (2 ^ 23) (R.remaining bundle.old)
@@ -115,7 +115,7 @@ pub fn verify_bundle<Q: Read, W: Write>(
 ) -> Result<Verdict, ShellFault>
     ensures verdict { IfOk result (λ v. IfSome (Q.remaining certificate.old)
         (λ certificate_text. v ≡ verdict_of (reply_with certificate_text bundle.now))) }
-    ensures written { OnOk result (AppendsFor (Q.remaining certificate.old) (W.contents writer.old)
+    ensures writes { OnOk result (AppendsFor (Q.remaining certificate.old) (W.contents writer.old)
         (W.contents writer.new)
         (λ certificate_text. verify_output certificate_text bundle.now)) }
     ensures silent { IfErr result (λ e. e ≢ ShellFault.Write → Keeps (W.contents writer.old) (W.contents writer.new)) }
@@ -138,9 +138,9 @@ pub fn load_text<R: Read, W: Write>(
     reader: &mut R,
     writer: &mut W,
 ) -> Result<Option<Checked>, ShellFault>
-    ensures loaded { IfOk result (λ loaded. IfSome (R.remaining reader.old)
+    ensures loads { IfOk result (λ loaded. IfSome (R.remaining reader.old)
         (λ bundle. loaded ≡ accepted_of (reply_to bundle))) }
-    ensures written { OnOk result (AppendsFor (R.remaining reader.old) (W.contents writer.old) (W.contents writer.new)
+    ensures writes { OnOk result (AppendsFor (R.remaining reader.old) (W.contents writer.old) (W.contents writer.new)
         load_output) }
     ensures quiet { IfOk result (λ loaded. IsSome loaded → Keeps (W.contents writer.old) (W.contents writer.new)) }
     ensures silent { IfErr result (λ e. e ≢ ShellFault.Write → Keeps (W.contents writer.old) (W.contents writer.new)) }
@@ -159,11 +159,11 @@ pub fn load_bundle<W: Write>(
     bundle: &[u8],
     writer: &mut W,
 ) -> Result<Option<Checked>, ShellFault>
-    ensures loaded { IfOk result (λ loaded. loaded ≡ accepted_of (reply_to bundle.now)) }
-    ensures written { OnOk result (Appends (W.contents writer.old) (W.contents writer.new) (load_output bundle.now)) }
+    ensures loads { IfOk result (λ loaded. loaded ≡ accepted_of (reply_to bundle.now)) }
+    ensures writes { OnOk result (Appends (W.contents writer.old) (W.contents writer.new) (load_output bundle.now)) }
     ensures quiet { IfOk result (λ loaded. IsSome loaded → Keeps (W.contents writer.old) (W.contents writer.new)) }
     ensures silent { IfErr result (λ e. e ≢ ShellFault.Write → Keeps (W.contents writer.old) (W.contents writer.new)) }
-    ensures only { IfErr result (λ e. (e ≡ ShellFault.NoMemory) ⊎ (e ≡ ShellFault.Write)) }
+    ensures fails { IfErr result (λ e. (e ≡ ShellFault.NoMemory) ⊎ (e ≡ ShellFault.Write)) }
 {
     let reply = reply_to_text(alloc, bundle, None)?;
     if reply.answer.is_err() && write_checked(&reply, writer).is_err() {
@@ -198,7 +198,7 @@ fn reply_to_text(
     certificate: Option<&[u8]>,
 ) -> Result<Reply, ShellFault>
     ensures exact { IfOk result (IsReplyBy certificate.entry bundle.now) }
-    ensures only { IfErr result (λ e. e ≡ ShellFault.NoMemory) }
+    ensures fails { IfErr result (λ e. e ≡ ShellFault.NoMemory) }
 {
     let config = match read_bundle(alloc, bundle) {
         Ok(config) => config,
@@ -224,7 +224,7 @@ fn check_rows(
     certificate: Option<&[u8]>,
 ) -> Result<Result<Checked, BundleRefusal>, ShellFault>
     ensures exact { IfOk result (IsAnswerBy certificate.entry config.now) }
-    ensures only { IfErr result (λ e. e ≡ ShellFault.NoMemory) }
+    ensures fails { IfErr result (λ e. e ≡ ShellFault.NoMemory) }
 {
     let answer = match certificate {
         None => check(alloc, config),

@@ -14,7 +14,7 @@ ghost use Rattle.pinball_shell.specs.FixedPlay.{TakenIsPlayedOut, AnswersFixTheP
 /// It does nothing: its contract is the law, over the outputs that the calls write.
 pub fn printed_certificate_is_verified()
     ensures accepted { AcceptedIsAcceptedAgain }
-    ensures printed { AcceptedIsPrintedAgain }
+    ensures prints { AcceptedIsPrintedAgain }
     ensures short { AcceptedIsShort (2 ^ 20) }
 {}
 
@@ -35,7 +35,7 @@ pub fn any_certificate_plays_the_same()
 ///
 /// It does nothing: its contract is the law, over the runs that a log gives.
 pub fn log_gives_one_play()
-    ensures given { GivesChangesAndWaits }
+    ensures gives { GivesChangesAndWaits }
     ensures play { GivesOnePlay }
 {}
 
@@ -46,6 +46,6 @@ pub fn log_gives_one_play()
 ///
 /// It does nothing: its contract is the law, over the plays that `play_text` ensures.
 pub fn answers_fix_the_play()
-    ensures taken { TakenIsPlayedOut }
+    ensures takes { TakenIsPlayedOut }
     ensures same { AnswersFixThePlay }
 {}

@@ -69,7 +69,7 @@ impl<'c, D: Device, B: Board> LogPlayer<'c, D, B> {
         ensures ready { IfOk result (λ player. player
             ≡ ready checked.now (board_view B.command_list B.fault_count B.answers board)) }
         ensures accepted { IsAccepted checked.now }
-        ensures failed { IfErr result (λ e. (e ≡ ShellFault.NoMemory) ⊎ (e ≡ ShellFault.WrongDevice)) }
+        ensures fails { IfErr result (λ e. (e ≡ ShellFault.NoMemory) ⊎ (e ≡ ShellFault.WrongDevice)) }
         ensures fit { OnOk result (IsFit checked.now.plan (map D.row_of devices.items) (map D.state_of devices.items)) }
         ensures wrong { IsErrOf result ShellFault.WrongDevice
             → ¬ (IsFit checked.now.plan (map D.row_of devices.items) (map D.state_of devices.items)) }
@@ -108,7 +108,7 @@ impl<'c, D: Device, B: Board> LogPlayer<'c, D, B> {
         line: &[u8],
         writer: &mut W,
     ) -> Result<Verdict, Stop>
-        ensures played { self.old.has_stopped ≡ false
+        ensures plays { self.old.has_stopped ≡ false
             → PlaysLine self.old.plan number line.now self.old.rig self.new.rig
             (append_known (W.contents writer.old) self.old.page) (append_known (W.contents writer.new) self.new.page)
             result }
@@ -138,11 +138,11 @@ impl<'c, D: Device, B: Board> LogPlayer<'c, D, B> {
         number: usize,
         writer: &mut W,
     ) -> Result<Verdict, ShellFault>
-        ensures written { OnOk result (Puts (W.contents writer.old) self.old.page (W.contents writer.new) self.new.page
+        ensures writes { OnOk result (Puts (W.contents writer.old) self.old.page (W.contents writer.new) self.new.page
             (refused_text number board_refusal)) }
         ensures verdict { IfOk result (λ v. v ≡ Verdict.Refused) }
-        ensures failed { IfErr result (λ e. e ≡ ShellFault.Write) }
-        ensures kept { self.new ≡ with_page self.new.page self.old }
+        ensures fails { IfErr result (λ e. e ≡ ShellFault.Write) }
+        ensures keeps { self.new ≡ with_page self.new.page self.old }
     {
         put_refused(
             number,
@@ -155,8 +155,8 @@ impl<'c, D: Device, B: Board> LogPlayer<'c, D, B> {
 
     /// Writes what is on the page, which is empty then.
     pub fn write_out<W: Write>(&mut self, writer: &mut W) -> Result<(), WriteFailed>
-        ensures written { OnOk result (Appends (W.contents writer.old) (W.contents writer.new) self.old.page) }
-        ensures kept { self.new ≡ with_page [] self.old }
+        ensures writes { OnOk result (Appends (W.contents writer.old) (W.contents writer.new) self.old.page) }
+        ensures keeps { self.new ≡ with_page [] self.old }
     {
         self.page.write_out(writer)
     }
@@ -164,9 +164,9 @@ impl<'c, D: Device, B: Board> LogPlayer<'c, D, B> {
     /// Shuts the rig down, and writes which coils were turned off. Gives the board back. Fails only by
     /// the writer. What is on the page is lost.
     pub fn shut_down<W: Write>(self, writer: &mut W) -> Result<B, ShellFault>
-        ensures done { IfOk result (λ b. IsShutDown self.entry.plan self.entry.rig
+        ensures ends { IfOk result (λ b. IsShutDown self.entry.plan self.entry.rig
             (board_view B.command_list B.fault_count B.answers b) (W.contents writer.old) (W.contents writer.new)) }
-        ensures failed { IfErr result (λ e. e ≡ ShellFault.Write) }
+        ensures fails { IfErr result (λ e. e ≡ ShellFault.Write) }
     {
         let LogPlayer { plan, rig, .. } = self;
         let now = rig.now();

@@ -92,7 +92,7 @@ pub fn play_text<D: Device, B: Board, R: Read, W: Write>(
     reader: &mut R,
     writer: &mut W,
 ) -> Result<Verdict, ShellFault>
-    ensures played { IfOk result (IsTextPlayedOn checked.now (R.remaining reader.old)
+    ensures plays { IfOk result (IsTextPlayedOn checked.now (R.remaining reader.old)
         (board_view B.command_list B.fault_count B.answers board) (W.contents writer.old) (W.contents writer.new)) }
     ensures run { OnOk result (IfSome (R.remaining reader.old) (PrintsPlayOf checked.now)) }
     ensures silent { IfErr result (λ e. e ≢ ShellFault.Write → Keeps (W.contents writer.old) (W.contents writer.new)) }
@@ -120,11 +120,11 @@ fn play_log<D: Device, B: Board, W: Write>(
     writer: &mut W,
 ) -> Result<(Verdict, B), ShellFault>
     requires { length log.now ≤ 2 ^ 24 }
-    ensures played { IfOk result (GivesBack (board_view B.command_list B.fault_count B.answers) checked.now log.now
+    ensures plays { IfOk result (GivesBack (board_view B.command_list B.fault_count B.answers) checked.now log.now
         board (W.contents writer.old) (W.contents writer.new)) }
     ensures run { PrintsPlayOf checked.now log.now }
     ensures silent { IfErr result (λ e. e ≢ ShellFault.Write → Keeps (W.contents writer.old) (W.contents writer.new)) }
-    ensures failed { IfErr result (λ e. (e ≡ ShellFault.NoMemory) ⊎ (e ≡ ShellFault.WrongDevice)
+    ensures fails { IfErr result (λ e. (e ≡ ShellFault.NoMemory) ⊎ (e ≡ ShellFault.WrongDevice)
         ⊎ (e ≡ ShellFault.Write)) }
     ensures fit { OnOk result (IsFit checked.now.plan (map D.row_of devices.items) (map D.state_of devices.items)) }
     ensures wrong { IsErrOf result ShellFault.WrongDevice
@@ -148,11 +148,11 @@ fn play_lines<D: Device, B: Board, W: Write>(
     requires rest { player.old.rig.machine ≡ initial player.old.plan }
     requires running { player.old.rig.faulted_coil ≡ None }
     requires going { player.old.has_stopped ≡ false }
-    ensures played { IfOk result (λ v. IsLogPlayed player.old.plan player.old.rig.checked.bound log.now player.old.rig
+    ensures plays { IfOk result (λ v. IsLogPlayed player.old.plan player.old.rig.checked.bound log.now player.old.rig
         player.new.rig (append_known (W.contents writer.old) player.old.page)
         (append_known (W.contents writer.new) player.new.page) v) }
     ensures plan { player.new.plan ≡ player.old.plan }
-    ensures failed { IfErr result (λ e. e ≡ ShellFault.Write) }
+    ensures fails { IfErr result (λ e. e ≡ ShellFault.Write) }
 {
     let mut verdict = Verdict::Yes;
     let mut number = 1;
@@ -264,7 +264,7 @@ fn play_stimulus<D: Device, B: Board, W: Write>(
     page: &mut Page,
     writer: &mut W,
 ) -> Result<(), Stop>
-    requires taken { IsAdmitted rig.old (stimulus_view stimulus) }
+    requires may { IsAdmitted rig.old (stimulus_view stimulus) }
     requires plan { rig.old.checked.plan ≡ plan.now }
     ensures { PlaysStimulus plan.now (stimulus_view stimulus) rig.old rig.new
         (append_known (W.contents writer.old) page.old) (append_known (W.contents writer.new) page.new) result }

@@ -58,10 +58,10 @@ pub fn read_all<R: Read>(alloc: Global, reader: &mut R, limit: usize) -> Result<
 /// - `TooLong`: that would have more than 8 MiB.
 /// - `NoMemory`: there is no room for it.
 pub fn join(alloc: Global, bundle: &[u8], name: &[u8], text: &[u8]) -> Result<Vec<u8>, ShellFault>
-    ensures joined { IfOk result (λ all. all.items ≡ join_text bundle.now name.now text.now) }
+    ensures joins { IfOk result (λ all. all.items ≡ join_text bundle.now name.now text.now) }
     ensures within { IfOk result (λ all. vec_len all ≤ 2 ^ 23) }
     ensures too_long { IsErrOf result ShellFault.TooLong → 2 ^ 23 < length (join_text bundle.now name.now text.now) }
-    ensures only { IfErr result (λ e. (e ≡ ShellFault.TooLong) ⊎ (e ≡ ShellFault.NoMemory)) }
+    ensures fails { IfErr result (λ e. (e ≡ ShellFault.TooLong) ⊎ (e ≡ ShellFault.NoMemory)) }
 {
     if is_too_long(bundle, name, text) {
         return Err(ShellFault::TooLong);
@@ -79,12 +79,12 @@ pub fn join(alloc: Global, bundle: &[u8], name: &[u8], text: &[u8]) -> Result<Ve
 /// - `TooLong`: it would have more than 8 MiB. It is as it was.
 /// - `NoMemory`: there is no room for it. How much has been added is not said.
 pub fn append_text(bundle: &mut Vec<u8>, name: &[u8], text: &[u8]) -> Result<(), ShellFault>
-    ensures joined { OnOk result (bundle.new.items ≡ join_text bundle.old.items name.now text.now) }
+    ensures joins { OnOk result (bundle.new.items ≡ join_text bundle.old.items name.now text.now) }
     ensures within { OnOk result (vec_len bundle.new ≤ 2 ^ 23) }
     ensures too_long { IsErrOf result ShellFault.TooLong
         → 2 ^ 23 < length (join_text bundle.old.items name.now text.now) }
     ensures same { IsErrOf result ShellFault.TooLong → bundle.new ≡ bundle.old }
-    ensures only { IfErr result (λ e. (e ≡ ShellFault.TooLong) ⊎ (e ≡ ShellFault.NoMemory)) }
+    ensures fails { IfErr result (λ e. (e ≡ ShellFault.TooLong) ⊎ (e ≡ ShellFault.NoMemory)) }
 {
     if is_too_long(bundle, name, text) {
         return Err(ShellFault::TooLong);

@@ -66,8 +66,8 @@ impl RowText {
 /// Adds one more, or leaves what was there if memory runs out. Everything adds by this call: `push` hands back what
 /// it was given if it fails, and each `?` after a `push` would have to drop it, which is slow to prove.
 pub(crate) fn add<T: Drop>(items: &mut Vec<T>, more: T) -> Result<(), AllocError>
-    ensures added { OnOk result (items.new.items ≡ items.old.items ++ more ∷ []) }
-    ensures kept { OnErr result (items.new.items ≡ items.old.items) }
+    ensures items { OnOk result (items.new.items ≡ items.old.items ++ more ∷ []) }
+    ensures same { OnErr result (items.new.items ≡ items.old.items) }
 {
     items.push(more)?;
     Ok(())

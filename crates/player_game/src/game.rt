@@ -347,7 +347,7 @@ impl Game {
     /// posted: the mode held the end of the ball, and no other mode does.
     pub fn release(&mut self, mode: ModeId) -> bool
         requires { mode.0 < 64 }
-        ensures released { self.new ≡ record self.old { state = release mode self.old.state } }
+        ensures state { self.new ≡ record self.old { state = release mode self.old.state } }
         ensures ends { result ≡ ends_ball mode self.old.state }
     {
         let number = mode.0 as usize;

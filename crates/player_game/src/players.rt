@@ -84,7 +84,7 @@ impl<'p> Players<'p> {
     /// there can be. If not, nothing has changed.
     pub fn add(&mut self) -> bool
         ensures state { self.new ≡ record self.old { state = add_player self.old.plan self.old.state } }
-        ensures added { result ≡ nat_lt (length self.old.state.players) (most_players self.old.plan.game) }
+        ensures adds { result ≡ nat_lt (length self.old.state.players) (most_players self.old.plan.game) }
         ensures few { AreFew self.new.plan self.new.state }
     {
         if self.slots.len() <= self.count {
@@ -190,7 +190,7 @@ impl<'p> Players<'p> {
     /// If there is no condition, there is none to meet.
     pub fn meets(&self, condition: Option<Condition>) -> bool
         requires { IsConditionWithin self.now.plan condition }
-        ensures met { result ≡ is_met self.now.plan self.now.state condition }
+        ensures meets { result ≡ is_met self.now.plan self.now.state condition }
         ensures few { AreFew self.now.plan self.now.state }
     {
         let current = self.current;

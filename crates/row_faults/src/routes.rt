@@ -96,7 +96,7 @@ fn take_switches<'a>(
     switches: &'a [Name],
 ) -> Result<bool, AllocError>
     ensures again { IfOk result (λ again. again ≡ is_one_taken (texts_of switches.now) (is_found names_before.old)) }
-    ensures taken { IfOk result (λ _. is_found names_before.new
+    ensures takes { IfOk result (λ _. is_found names_before.new
         ≡ all_taken (texts_of switches.now) (is_found names_before.old)) }
 {
     let mut again = false;

@@ -141,7 +141,7 @@ fn faults_of_text<'a>(
 ) -> Result<Vec<RowFault>, AllocError>
     ensures faults { IfOk result (λ faults. row_faults_view faults.items
         ≡ faults_of_text modes.now definitions.now shots_before.old text.now sections.now) }
-    ensures taken { IfOk result (λ _. Takes shots_before.old shots_before.new
+    ensures takes { IfOk result (λ _. Takes shots_before.old shots_before.new
         (listed_by_sections definitions.now sections.now)) }
 {
     let own = shots_for_groups(alloc, definitions.config().hashing, sections)?;
@@ -193,7 +193,7 @@ fn add_sections<'a>(
 ) -> Result<(), AllocError>
     ensures faults { OnOk result (Gains faults.old faults.new
         (faults_of_sections faults.old own.now shots_before.old sections.now)) }
-    ensures taken { OnOk result (Takes shots_before.old shots_before.new
+    ensures takes { OnOk result (Takes shots_before.old shots_before.new
         (listed_by_sections faults.old.rows sections.now)) }
 {
     for section in sections {
@@ -211,7 +211,7 @@ fn add_section<'a>(
 ) -> Result<(), AllocError>
     ensures faults { OnOk result (Gains faults.old faults.new
         (faults_of_section faults.old own.now shots_before.old section.now)) }
-    ensures taken { OnOk result (Takes shots_before.old shots_before.new
+    ensures takes { OnOk result (Takes shots_before.old shots_before.new
         (listed_by_section faults.old.rows section.now)) }
 {
     add_posts(faults, section)?;

@@ -92,7 +92,7 @@ pub(crate) fn add_groups<'a>(
 ) -> Result<(), AllocError>
     ensures faults { OnOk result (Gains faults.old faults.new
         (faults_of_listed faults.old own.now shots_before.old (listed_by_section faults.old.rows section.now))) }
-    ensures taken { OnOk result (Takes shots_before.old shots_before.new
+    ensures takes { OnOk result (Takes shots_before.old shots_before.new
         (listed_by_section faults.old.rows section.now)) }
 {
     let groups: &'a [Entry] = section.entries_of(SHOT_GROUPS_NAME);
@@ -111,7 +111,7 @@ fn add_group<'a>(
 ) -> Result<(), AllocError>
     ensures faults { OnOk result (Gains faults.old faults.new
         (faults_of_listed faults.old own.now shots_before.old (listed_by_group faults.old.rows group.entry))) }
-    ensures taken { OnOk result (Takes shots_before.old shots_before.new
+    ensures takes { OnOk result (Takes shots_before.old shots_before.new
         (listed_by_group faults.old.rows group.entry)) }
 {
     let first = first_shot(faults.definitions, group.shots);
@@ -138,7 +138,7 @@ fn add_listed<'a>(
 ) -> Result<(), AllocError>
     ensures faults { OnOk result (Gains faults.old faults.new
         (faults_of_listed faults.old own.now shots_before.old (names_listed first.entry group_names.now))) }
-    ensures taken { OnOk result (Takes shots_before.old shots_before.new (names_listed first.entry group_names.now)) }
+    ensures takes { OnOk result (Takes shots_before.old shots_before.new (names_listed first.entry group_names.now)) }
 {
     for name in group_names {
         let is_fault = is_misplaced(faults, shots_before, own, first, &name.text);

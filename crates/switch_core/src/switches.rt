@@ -85,7 +85,7 @@ impl Switches {
         requires switch { switch.0 < length self.old.kinds }
         requires now { now < 2 ^ 40 }
         ensures state { self.new ≡ after_change switch level now self.old }
-        ensures reported { result ≡ reported_by_change switch level now self.old }
+        ensures reports { result ≡ reported_by_change switch level now self.old }
         ensures complete { IsComplete self.new }
     {
         let number = switch.0 as usize;
@@ -118,7 +118,7 @@ impl Switches {
     pub fn fire(&mut self) -> Change
         requires { IsSome (next_due self.old) }
         ensures state { self.new ≡ after_fire self.old }
-        ensures reported { reported_by_fire self.old ≡ Some result }
+        ensures reports { reported_by_fire self.old ≡ Some result }
         ensures kinds { self.new.kinds ≡ self.old.kinds }
         ensures complete { IsComplete self.new }
     {

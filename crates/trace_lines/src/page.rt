@@ -126,7 +126,7 @@ impl Page {
     /// Writes what is on the page, which is empty then.
     pub fn write_out<W: Write>(&mut self, writer: &mut W) -> Result<(), WriteFailed>
         ensures empty { self.new ≡ [] }
-        ensures written { OnOk result (Appends (W.contents writer.old) (W.contents writer.new) self.old) }
+        ensures writes { OnOk result (Appends (W.contents writer.old) (W.contents writer.new) self.old) }
     {
         let len = self.len;
         self.len = 0;

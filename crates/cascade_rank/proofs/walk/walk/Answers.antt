@@ -24,8 +24,8 @@ loop-on_path-preserved c =
 pub returns-clause-cycle : goal.returns-clause-cycle
 returns-clause-cycle c = search (rules, slice_index_or, get_or_read, IfOk-weaker, cycle_is)
 
-pub returns-clause-reported : goal.returns-clause-reported
-returns-clause-reported c =
+pub returns-clause-reports : goal.returns-clause-reports
+returns-clause-reports c =
     let path = c.loop-on_path.path.items in
     let passed = c.loop-on_path.on_path.items in
     let at = c.loop-on_path.at in

@@ -8,8 +8,8 @@ returns-clause-answers c = answers_are_by_commands
 pub returns-clause-on : goal.returns-clause-on
 returns-clause-on c = states_say_what_is_on
 
-pub returns-clause-held : goal.returns-clause-held
-returns-clause-held c = states_say_who_holds
+pub returns-clause-holds : goal.returns-clause-holds
+returns-clause-holds c = states_say_who_holds
 
 pub returns-clause-next_on : goal.returns-clause-next_on
 returns-clause-next_on c = lowest_is_on

@@ -1,8 +1,8 @@
 use Rattle.coil_guard.proofs.BoardLaws.{memory_keeps_latest, memory_tells_all}
 use Rattle.coil_guard.proofs.law.memory_board_keeps_latest.Goals as goal
 
-pub returns-clause-kept : goal.returns-clause-kept
-returns-clause-kept c = memory_keeps_latest
+pub returns-clause-keeps : goal.returns-clause-keeps
+returns-clause-keeps c = memory_keeps_latest
 
-pub returns-clause-told : goal.returns-clause-told
-returns-clause-told c = memory_tells_all
+pub returns-clause-tells : goal.returns-clause-tells
+returns-clause-tells c = memory_tells_all

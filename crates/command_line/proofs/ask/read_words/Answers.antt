@@ -6,9 +6,9 @@ use Rattle.command_line.specs.CommandLine.{pinball_app, asked_of, asked_at}
 use Rattle.command_line.proofs.Words.{pinball_app_is_simple, pinball_app_is_free, answered, out_of_memory}
 use Rattle.command_line.proofs.ask.read_words.Goals as goal
 
-pub returns-in-Ok-clause-asked : goal.returns-in-Ok-clause-asked
+pub returns-in-Ok-clause-asks : goal.returns-in-Ok-clause-asks
 unfolding asked_at
-returns-in-Ok-clause-asked c =
+returns-in-Ok-clause-asks c =
     let words : List Text = map (string_bytes {Z = Global}) c.args.words.now in
     let met : subcommand_rows_of c.in-Ok.matches ≡ subcommand_of pinball_app words =
     (c.in-Ok.ensures.matches (ap is_simple c.in_ok-pinball.ensures ∙ pinball_app_is_simple)).1
@@ -16,11 +16,11 @@ returns-in-Ok-clause-asked c =
     let none : fault_of pinball_app words ≡ [] =
     sym (ap (λ (a : App). fault_of a words) c.in_ok-pinball.ensures)
     ∙ c.in-Ok.ensures.kinds (ap is_simple_and_free c.in_ok-pinball.ensures ∙ pinball_app_is_free) in
-    IfOk-weaker c.ask_of.result _ _ (λ ask h. answered _ _ none ∙ ap asked_of (sym met) ∙ h) c.ask_of.ensures.asked
+    IfOk-weaker c.ask_of.result _ _ (λ ask h. answered _ _ none ∙ ap asked_of (sym met) ∙ h) c.ask_of.ensures.asks
 
-pub returns-in-Ok-clause-only : goal.returns-in-Ok-clause-only
+pub returns-in-Ok-clause-fails : goal.returns-in-Ok-clause-fails
 unfolding asked_at
-returns-in-Ok-clause-only c =
+returns-in-Ok-clause-fails c =
     let words : List Text = map (string_bytes {Z = Global}) c.args.words.now in
     let met : subcommand_rows_of c.in-Ok.matches ≡ subcommand_of pinball_app words =
     (c.in-Ok.ensures.matches (ap is_simple c.in_ok-pinball.ensures ∙ pinball_app_is_simple)).1
@@ -29,11 +29,11 @@ returns-in-Ok-clause-only c =
     sym (ap (λ (a : App). fault_of a words) c.in_ok-pinball.ensures)
     ∙ c.in-Ok.ensures.kinds (ap is_simple_and_free c.in_ok-pinball.ensures ∙ pinball_app_is_free) in
     IfErr-weaker c.ask_of.result _ _ (λ fault h some. h (subst IsSome (answered _ _ none ∙ ap asked_of (sym met)) some))
-    c.ask_of.ensures.only
+    c.ask_of.ensures.fails
 
-pub returns-in-Err-clause-only : goal.returns-in-Err-clause-only
+pub returns-in-Err-clause-fails : goal.returns-in-Err-clause-fails
 unfolding asked_at
-returns-in-Err-clause-only c =
+returns-in-Err-clause-fails c =
     let words : List Text = map (string_bytes {Z = Global}) c.args.words.now in
     let kinds : HasKind (fault_of pinball_app words) c.in-Err.error =
     subst (λ (a : App). HasKind (fault_of a words) c.in-Err.error) c.in_ok-pinball.ensures

@@ -5,5 +5,5 @@ use Rattle.command_line.proofs.live.live_command.Goals as goal
 pub returns-clause-runs : goal.returns-clause-runs
 returns-clause-runs c = λ folder plain words_are.
     let given : map (string_bytes {Z = Global}) c.deref.result.now ≡ folder ∷ [] = rw c.deref.ensures.value words_are in
-    asks_live c.read_live.result _ _ _ given (run_is_asked folder plain) c.read_live.ensures.asked
-    c.read_live.ensures.only
+    asks_live c.read_live.result _ _ _ given (run_is_asked folder plain) c.read_live.ensures.asks
+    c.read_live.ensures.fails

@@ -5,8 +5,8 @@ use Rattle.event_queue.proofs.Groups.{group-known, group-on, group-room, group-j
 use Rattle.event_queue.proofs.{Handling.order-in_order, Walk.length-put_all}
 use Rattle.event_queue.proofs.orders.add_group.Goals as goal
 
-pub merge-requires-clause-ordered : goal.merge-requires-clause-ordered
-merge-requires-clause-ordered c =
+pub merge-requires-clause-order : goal.merge-requires-clause-order
+merge-requires-clause-order c =
     let plan = c.args.plan.now in
     let known = group-known plan c.args.group.now c.requires.group c.binding.result c.binding.ensures.valid
     c.binding.ensures.binding in

@@ -4,8 +4,8 @@ use Rattle.event_queue.specs.OrderedLists.{put, IsOrdered, runs_before}
 use Rattle.event_queue.proofs.Handling.{binding-event, event-known, order-in_order, order-room, order-added}
 use Rattle.event_queue.proofs.orders.add_place.Goals as goal
 
-pub put_in-requires-clause-ordered : goal.put_in-requires-clause-ordered
-put_in-requires-clause-ordered c =
+pub put_in-requires-clause-order : goal.put_in-requires-clause-order
+put_in-requires-clause-order c =
     let plan = c.args.plan.now in
     let known = event-known plan c.args.place c.binding.result c.binding.ensures.valid c.requires.place
     c.binding.ensures.binding in

@@ -5,8 +5,8 @@ use Rattle.event_queue.proofs.{Handling.order-in_order, Groups.{order-with-group
 use Rattle.event_queue.proofs.Groups.{group-known, group-on, order-short, others, others-short, others-in_order}
 use Rattle.event_queue.proofs.orders.drop_group.Goals as goal
 
-pub part-requires-clause-ordered : goal.part-requires-clause-ordered
-part-requires-clause-ordered c =
+pub part-requires-clause-order : goal.part-requires-clause-order
+part-requires-clause-order c =
     let plan = c.args.plan.now in
     let known = group-known plan c.args.group.now c.requires.group c.binding.result c.binding.ensures.valid
     c.binding.ensures.binding in

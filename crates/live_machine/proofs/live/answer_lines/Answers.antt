@@ -13,7 +13,7 @@ loop-number-init g c =
     let first = c.args.player.now in
     let ready = c.requires.ready in
     record {
-      next = record { going = ready.going; page = ready.page; wire = c.requires.sent };
+      next = record { going = ready.going; page = ready.page; wire = c.requires.empty };
       plan = refl;
       same = refl;
       going = going-none first.plan first.rig.checked.bound g.L.Link.shows_lines first.rig
@@ -30,7 +30,7 @@ returns-in-Ok-None-clause-lines g c =
     c.loop-number.player.rig (wire_report report c.args.wire.now) before after
     c.loop-number.verdict c.loop-number.invariant.going
     (heard-none g.L.Link.shows_lines c.hear.new.room before after c.hear.result c.in-Ok-None.field-0 c.in-Ok-None.is
-    c.in-Ok-None.field-0-is c.hear.ensures.heard)
+    c.in-Ok-None.field-0-is c.hear.ensures.hears)
 
 pub returns-in-Err-clause-lines : goal.returns-in-Err-clause-lines
 returns-in-Err-clause-lines g c =
@@ -40,10 +40,10 @@ returns-in-Err-clause-lines g c =
     let after : Option LinkView = wire_report report c.hear.new.wire in
     let size = c.hear.auto.room in
     broken-goes first.plan g.L.Link.shows_lines first.rig c.loop-number.player.rig (wire_report report c.args.wire.now)
-    after c.in-Err.fault c.in-Err.ensures.failed
+    after c.in-Err.fault c.in-Err.ensures.fails
     (going-broken first.plan first.rig.checked.bound g.L.Link.shows_lines c.loop-number.number first.rig
     c.loop-number.player.rig (wire_report report c.args.wire.now) before after
-    c.loop-number.verdict c.loop-number.invariant.going _ c.in-Err.fault (omega (arith, size)) c.in-Err.ensures.heard)
+    c.loop-number.verdict c.loop-number.invariant.going _ c.in-Err.fault (omega (arith, size)) c.in-Err.ensures.hears)
 
 pub returns-in-Err-Board-clause-lines : goal.returns-in-Err-Board-clause-lines
 returns-in-Err-Board-clause-lines g c =
@@ -63,13 +63,13 @@ returns-in-Err-Board-clause-lines g c =
     let written : Option (List ℕ) = append_known (wire_contents report c.hear.new.wire) now.page in
     let grown : Option (List ℕ) = append_known (wire_contents report c.answer_line.new.wire) next.page in
     let heard = heard-line shows c.hear.new.room line c.in-Ok-Some.len before after c.hear.result c.in-Ok-Some.field-0
-    c.in-Ok-Some.is c.in-Ok-Some.field-0-is c.front.ensures c.hear.ensures.heard in
+    c.in-Ok-Some.is c.in-Ok-Some.field-0-is c.front.ensures c.hear.ensures.hears in
     let fault = fault-same plan first.rig now.rig now.plan c.loop-number.invariant.plan c.loop-number.invariant.same
     number line next.rig written grown
     (halts-in c.answer_line.result _ _ (c.in-Err-Board.is ∙ ap Err c.in-Err-Board.field-0-is)
     c.answer_line.ensures.answers) in
     subst (λ (r : RigView). AnswersLines plan shows first.rig r begun end c.refuse_last.result)
-    (sym (ap (λ (p : PlayerView). p.rig) c.refuse_last.ensures.kept))
+    (sym (ap (λ (p : PlayerView). p.rig) c.refuse_last.ensures.keeps))
     (refused-goes plan shows first.rig next.rig begun end c.refuse_last.result _
     (λ told v is.
     going-fault plan bound shows number first.rig now.rig begun before after c.loop-number.verdict line
@@ -78,10 +78,10 @@ returns-in-Err-Board-clause-lines g c =
     (report (writer_inner c.refuse_last.new.wire).link)
     (writer_buffer c.hear.new.wire) (writer_buffer c.refuse_last.new.wire) grown now.page
     c.loop-number.invariant.next.page fault told) is)
-    c.refuse_last.ensures.written c.refuse_last.ensures.verdict c.refuse_last.ensures.failed)
+    c.refuse_last.ensures.writes c.refuse_last.ensures.verdict c.refuse_last.ensures.fails)
 
 pub returns-in-Err-Board-clause-plan : goal.returns-in-Err-Board-clause-plan
-returns-in-Err-Board-clause-plan g c = ap (λ (p : PlayerView). p.plan) c.refuse_last.ensures.kept
+returns-in-Err-Board-clause-plan g c = ap (λ (p : PlayerView). p.plan) c.refuse_last.ensures.keeps
     ∙ c.answer_line.ensures.plan ∙ c.loop-number.invariant.plan
 
 pub loop-number-preserved : goal.loop-number-preserved
@@ -97,7 +97,7 @@ loop-number-preserved g c =
     let after : Option LinkView = wire_report report c.hear.new.wire in
     let last : Option LinkView = wire_report report c.answer_line.new.wire in
     let heard = heard-line shows c.hear.new.room line c.in-Ok-Some.len before after c.hear.result c.in-Ok-Some.field-0
-    c.in-Ok-Some.is c.in-Ok-Some.field-0-is c.front.ensures c.hear.ensures.heard in
+    c.in-Ok-Some.is c.in-Ok-Some.field-0-is c.front.ensures c.hear.ensures.hears in
     let answered = answered-same first.plan first.rig now.rig next.rig now.plan c.loop-number.invariant.plan
     c.loop-number.invariant.same number line after last c.in-Ok.found c.in-Ok.ensures.answers in
     record {

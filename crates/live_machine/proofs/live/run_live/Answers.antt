@@ -12,12 +12,12 @@ returns-in_err-player-clause-runs g c =
     silent c.args.checked.now g.L.Link.shows_lines
     (board_view g.B.Board.command_list g.B.Board.fault_count g.B.Board.answers c.args.board)
     (wire_report g.L.Link.report c.args.wire.now) c.from_residual.result c.in_err-player.field-0.0
-    (p.1 ∙ ap Err p.2) c.in_err-player.ensures.failed
+    (p.1 ∙ ap Err p.2) c.in_err-player.ensures.fails
 
-pub returns-in_err-player-clause-sent : goal.returns-in_err-player-clause-sent
-returns-in_err-player-clause-sent g c =
+pub returns-in_err-player-clause-sends : goal.returns-in_err-player-clause-sends
+returns-in_err-player-clause-sends g c =
     let p = err_from_is_err_and c.from_residual.result c.from_residual.ensures.1 in
-    unsent c.from_residual.result _ c.in_err-player.field-0.0 (p.1 ∙ ap Err p.2) c.in_err-player.ensures.failed
+    unsent c.from_residual.result _ c.in_err-player.field-0.0 (p.1 ∙ ap Err p.2) c.in_err-player.ensures.fails
 
 pub returns-in_err-player-clause-wrong : goal.returns-in_err-player-clause-wrong
 returns-in_err-player-clause-wrong g c =
@@ -43,5 +43,5 @@ returns-clause-fit g c = on-ok c.run_player.result _ c.in_ok-player.ensures.fit
 pub returns-clause-wrong : goal.returns-clause-wrong
 returns-clause-wrong g c = λ is fit. never-wrong _ _ _ _ _ c.run_player.result is c.run_player.ensures.runs
 
-pub returns-clause-sent : goal.returns-clause-sent
-returns-clause-sent g c = c.run_player.ensures.sent
+pub returns-clause-sends : goal.returns-clause-sends
+returns-clause-sends g c = c.run_player.ensures.sends

@@ -18,10 +18,10 @@ returns-in-Ok-clause-runs g c =
     (due-told first.plan first.rig.machine c.next_due.result (report (writer_inner c.args.wire.now).link)
     (report (writer_inner c.tell_due.new.wire).link) (writer_buffer c.args.wire.now)
     (writer_buffer c.tell_due.new.wire) c.next_due.ensures c.requires.rest
-    (was-told c.tell_due.result _ (sym c.is_err.ensures.value ∙ c.if-is_err.false) c.tell_due.ensures.written))
-    (subst (λ (p : PlanView). IsEnded p now.rig last mid end) c.answer_lines-end.ensures.plan c.in-Ok.ensures.done)
+    (was-told c.tell_due.result _ (sym c.is_err.ensures.value ∙ c.if-is_err.false) c.tell_due.ensures.writes))
+    (subst (λ (p : PlanView). IsEnded p now.rig last mid end) c.answer_lines-end.ensures.plan c.in-Ok.ensures.ends)
     c.answer_lines-end.result c.answer_lines-end.ensures.lines
 
-pub returns-in-Ok-clause-sent : goal.returns-in-Ok-clause-sent
-returns-in-Ok-clause-sent g c = is-sent c.answer_lines-end.result (writer_buffer c.end_machine.new.wire)
-    c.in-Ok.ensures.sent
+pub returns-in-Ok-clause-sends : goal.returns-in-Ok-clause-sends
+returns-in-Ok-clause-sends g c = is-sent c.answer_lines-end.result (writer_buffer c.end_machine.new.wire)
+    c.in-Ok.ensures.empty

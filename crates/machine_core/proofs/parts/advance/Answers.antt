@@ -26,8 +26,8 @@ take_step-requires-clause-room g c =
     written-room c.args.core.now c.args.core.now c.requires.room 0 (follow-none c.args.core.now c.requires.handlers)
     c.in-Some.first rest waits c.take.new.self c.write.new.self took_is c.write.ensures
 
-pub returns-in-Some-clause-advanced : goal.returns-in-Some-clause-advanced
-returns-in-Some-clause-advanced g c =
+pub returns-in-Some-clause-advances : goal.returns-in-Some-clause-advances
+returns-in-Some-clause-advances g c =
     let (rest, waits, took_is) = c.in-Some.ensures in (
       (λ none. let no : [] ≡ c.in-Some.first ∷ rest = sym none ∙ waits in cc),
       next-steps c.args.core.now c.args.core.now c.requires.room 0 (follow-none c.args.core.now c.requires.handlers)

@@ -12,15 +12,15 @@ run_accepted-requires-clause-room g c =
     let core = c.args.core.now in
     let changed = set_switches (after_change c.args.switch c.args.level c.args.at core.machine.switches) core.machine in
     subst (λ (v : CoreView). IsWithin v.room (do_accepted v.plan c.in-Some.change v.machine))
-    (sym c.change.ensures.changed)
+    (sym c.change.ensures.state)
     (subst (λ (o : Option Change). IsWithin core.room (do_if_accepted core.plan o changed))
-    (sym c.in-Some.ensures.reported) c.requires.room)
+    (sym c.in-Some.ensures.reports) c.requires.room)
 
 pub returns-in-Some : goal.returns-in-Some
 returns-in-Some g c =
     let core = c.args.core.now in
     let changed = set_switches (after_change c.args.switch c.args.level c.args.at core.machine.switches) core.machine in
     c.run_accepted.ensures
-    ∙ ap (λ (v : CoreView). after (do_accepted v.plan c.in-Some.change) v) c.change.ensures.changed
+    ∙ ap (λ (v : CoreView). after (do_accepted v.plan c.in-Some.change) v) c.change.ensures.state
     ∙ ap (λ (o : Option Change). record core { machine = do_if_accepted core.plan o changed })
-    c.in-Some.ensures.reported
+    c.in-Some.ensures.reports

@@ -19,5 +19,5 @@ pub returns-in-Switch : goal.returns-in-Switch
 returns-in-Switch g c =
     fired-done c.args.core.now (source_view c.args.source) c.requires.next c.in-Switch.field-0
     (ap source_view c.in-Switch.is)
-    c.fire-change.result c.fire-change.ensures.reported c.fire-change.new.self c.fire-change.ensures.fired
+    c.fire-change.result c.fire-change.ensures.reports c.fire-change.new.self c.fire-change.ensures.state
     c.run_accepted.new.core c.run_accepted.ensures

@@ -9,7 +9,7 @@ pub write-requires : goal.write-requires
 write-requires g c =
     releasing-room c.args.core.now.plan c.args.owner c.args.core.now c.loop-command.core c.loop-command.invariant
     c.in-Some.command c.in-Some.ensures.command
-    c.release.new.self c.in-Some.ensures.released _ refl c.requires.room
+    c.release.new.self c.in-Some.ensures.state _ refl c.requires.room
 
 pub loop-command-smaller : goal.loop-command-smaller
 loop-command-smaller g c = search (rules, releasing-smaller)

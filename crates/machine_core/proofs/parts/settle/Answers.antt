@@ -10,13 +10,13 @@ advance-requires-clause-room g c =
 pub loop-smaller : goal.loop-smaller
 loop-smaller g c =
     let (count, is, can) = c.loop.invariant in
-    let (waits, new_is) = c.loop-test.ensures.advanced in
+    let (waits, new_is) = c.loop-test.ensures.advances in
     advanced-smaller c.args.core.now c.loop.core c.requires.room count is c.advance.new.core new_is waits
 
 pub loop-preserved : goal.loop-preserved
 loop-preserved g c =
     let (count, is, can) = c.loop.invariant in
-    let (waits, new_is) = c.loop-test.ensures.advanced in (
+    let (waits, new_is) = c.loop-test.ensures.advances in (
       count + 1,
       advanced-steps c.args.core.now c.loop.core c.requires.room count is c.advance.new.core new_is,
       c.loop-test.ensures.calls,

@@ -8,6 +8,6 @@ loop-mode-preserved g c = record {
       c.mode-item.result c.deref.result.now c.args.bundle.now.items c.loop-mode.bundle.items
       c.append_mode.new.bundle.items
       c.loop-mode-test.true c.mode-item.is c.deref.ensures.value c.loop-mode.invariant.joined
-      c.in_ok-append_mode.ensures.joined;
+      c.in_ok-append_mode.ensures.joins;
   within = c.in_ok-append_mode.ensures.within;
 }

@@ -35,7 +35,7 @@ loop-section-preserved c =
           first one so_far)
       | else-is_skipped+then-eq+in_ok-add_absent w ↦
           let same = rw name at (sym w.eq.ensures ∙ w.if-eq.true) in
-          let now = w.in_ok-add_absent.ensures.added in
+          let now = w.in_ok-add_absent.ensures.adds in
           let those = on_modes machine_name absent section (sym skips ∙ w.if-is_skipped.false) same in
           rw w.notes-is (more_notes notes_on notes (notes_view w.add_absent.new.notes) section rest all total absent now
           first those so_far)

@@ -17,7 +17,7 @@ advance-requires-clause-room g c = now-stays c.args.core.now c.loop-place.core c
 
 pub serve_rest-place-requires-clause-from : goal.serve_rest-place-requires-clause-from
 serve_rest-place-requires-clause-from g c =
-    let (waits, new_is) = c.if-not-advance.ensures.advanced in
+    let (waits, new_is) = c.if-not-advance.ensures.advances in
     let more = lines-more c.args.core.now c.loop-place.core c.loop-place.invariant.count c.loop-place.invariant.steps
     c.advance.new.core 1 new_is in
     omega (
@@ -29,7 +29,7 @@ serve_rest-place-requires-clause-from g c =
 
 pub serve_rest-place-requires-clause-sendable : goal.serve_rest-place-requires-clause-sendable
 serve_rest-place-requires-clause-sendable g c =
-    let (waits, new_is) = c.if-not-advance.ensures.advanced in
+    let (waits, new_is) = c.if-not-advance.ensures.advances in
     let count = c.loop-place.invariant.count in
     let steps = steps-join c.args.core.now c.loop-place.core count c.loop-place.invariant.steps c.advance.new.core 1
     new_is in
@@ -40,13 +40,13 @@ serve_rest-place-requires-clause-sendable g c =
 
 pub loop-place-smaller : goal.loop-place-smaller
 loop-place-smaller g c =
-    let (waits, new_is) = c.if-not-advance.ensures.advanced in
+    let (waits, new_is) = c.if-not-advance.ensures.advances in
     advanced-smaller c.args.core.now c.loop-place.core c.requires.room c.loop-place.invariant.count
     c.loop-place.invariant.steps c.advance.new.core new_is waits
 
 pub loop-place-preserved : goal.loop-place-preserved
 loop-place-preserved g c =
-    let (waits, new_is) = c.if-not-advance.ensures.advanced in
+    let (waits, new_is) = c.if-not-advance.ensures.advances in
     let was = c.loop-place.invariant in
     let old = c.loop-place.core.machine.lines in
     let more = lines-more c.args.core.now c.loop-place.core was.count was.steps c.advance.new.core 1 new_is in
@@ -61,7 +61,7 @@ loop-place-preserved g c =
       calls = c.advance.ensures.calls;
       served = subst (λ (xs : List Line). IsServed xs c.serve_rest-place.result c.args.driver.now
           c.serve_rest-place.new.driver) c.lines-in-loop-place.ensures
-          (c.serve_rest-place.ensures.served c.args.driver.now
+          (c.serve_rest-place.ensures.serves c.args.driver.now
           (subst (λ (xs : List Line). HasSent xs c.args.driver.now c.loop-place.driver) (sym first) sent));
       coils = c.serve_rest-place.ensures.coils ∙ was.coils;
     }
@@ -70,14 +70,14 @@ pub settle-requires-clause-room : goal.settle-requires-clause-room
 settle-requires-clause-room g c = now-stays c.args.core.now c.loop-place.core c.requires.room
     c.loop-place.invariant.count c.loop-place.invariant.steps
 
-pub returns-clause-settled : goal.returns-clause-settled
-returns-clause-settled g c = settled-join c.args.core.now c.loop-place.core c.loop-place.invariant.count
-    c.loop-place.invariant.steps c.settle.new.core c.settle.ensures.settled
+pub returns-clause-settles : goal.returns-clause-settles
+returns-clause-settles g c = settled-join c.args.core.now c.loop-place.core c.loop-place.invariant.count
+    c.loop-place.invariant.steps c.settle.new.core c.settle.ensures.settles
 
-pub returns-clause-served : goal.returns-clause-served
-returns-clause-served g c =
+pub returns-clause-serves : goal.returns-clause-serves
+returns-clause-serves g c =
     let was = c.loop-place.invariant in
-    let settled = c.settle.ensures.settled in
+    let settled = c.settle.ensures.settles in
     let some : is_none c.loop-place.place ≡ false = search rules in
     let more = lines-more c.args.core.now c.loop-place.core was.count was.steps c.settle.new.core settled.count
     settled.new_is in

@@ -15,8 +15,8 @@ returns-clause-halt c = λ checked board inputs last trace display new halt.
     let taken = halt-taken inputs last (at_rest checked board) trace display new halt
     in (halt-run inputs last (at_rest checked board) trace display new refl halt, taken.0, taken.1)
 
-pub returns-clause-sent : goal.returns-clause-sent
-returns-clause-sent c = record {
+pub returns-clause-sends : goal.returns-clause-sends
+returns-clause-sends c = record {
   steps = λ checked board inputs trace new accepted steps. steps-follow checked board accepted inputs trace new steps;
   halt = λ checked board inputs last trace display new accepted halt. halt-follow checked board accepted inputs last
       trace
@@ -31,8 +31,8 @@ returns-clause-off c = record {
       (halt-follow checked board accepted inputs last trace display new halt);
 }
 
-pub returns-clause-taken : goal.returns-clause-taken
-returns-clause-taken c = λ rig input stimulus. (
+pub returns-clause-takes : goal.returns-clause-takes
+returns-clause-takes c = λ rig input stimulus. (
   λ judged. (
     judged-running rig input stimulus judged,
     judged-of_input rig input stimulus judged,

@@ -12,8 +12,8 @@ loop-alarm-init g c =
     alarms-start c.args.plan.now c.args.rig.now.checked.bound c.args.until c.args.rig.now
     (append_known (g.W.Write.contents c.args.writer.now) c.args.page.now) c.requires.rig.running c.requires.forward
 
-pub play_stimulus-requires-clause-taken : goal.play_stimulus-requires-clause-taken
-play_stimulus-requires-clause-taken g c =
+pub play_stimulus-requires-clause-may : goal.play_stimulus-requires-clause-may
+play_stimulus-requires-clause-may g c =
     let service = c.loop-alarm.invariant.play.output.service in
     let comes = coming c.loop-alarm.rig.machine c.args.until (stimulus_view c.in-Some.alarm)
     (ap (option_map stimulus_view) (sym c.in-Some.is) ∙ c.alarm_by.ensures.alarm) in
@@ -31,9 +31,9 @@ loop-alarm-smaller g c =
     let played = alarm-played c.args.plan.now c.args.until c.args.rig.now c.loop-alarm.rig c.play_stimulus.new.rig
     before after service.checked_is alarm comes c.in_ok-play_stimulus.ensures in
     alarms-fewer c.args.plan.now c.args.rig.now.checked.bound (valid-of c.args.plan.now c.args.rig.now c.requires.rig)
-    c.args.until c.alarm_by.ensures.reached.0 c.loop-alarm.rig c.play_stimulus.new.rig before after
+    c.args.until c.alarm_by.ensures.of_run.0 c.loop-alarm.rig c.play_stimulus.new.rig before after
     (reached-of c.args.plan.now c.args.rig.now c.loop-alarm.rig c.requires.rig service.checked_is
-    c.alarm_by.ensures.reached) comes.next played
+    c.alarm_by.ensures.of_run) comes.next played
 
 pub loop-alarm-preserved : goal.loop-alarm-preserved
 loop-alarm-preserved g c =
@@ -48,9 +48,9 @@ loop-alarm-preserved g c =
     let played = alarm-played c.args.plan.now c.args.until c.args.rig.now c.loop-alarm.rig c.play_stimulus.new.rig
     before after service.checked_is alarm comes c.in_ok-play_stimulus.ensures in
     alarms-more c.args.plan.now c.args.rig.now.checked.bound (valid-of c.args.plan.now c.args.rig.now c.requires.rig)
-    c.args.until c.alarm_by.ensures.reached.0 c.loop-alarm.rig c.play_stimulus.new.rig before after
+    c.args.until c.alarm_by.ensures.of_run.0 c.loop-alarm.rig c.play_stimulus.new.rig before after
     (reached-of c.args.plan.now c.args.rig.now c.loop-alarm.rig c.requires.rig service.checked_is
-    c.alarm_by.ensures.reached) comes.next played
+    c.alarm_by.ensures.of_run) comes.next played
     c.args.rig.now begun (all_alarms_by c.args.plan.now c.args.rig.now.checked.bound c.args.until
     c.args.rig.now.machine) c.loop-alarm.invariant
 
@@ -67,10 +67,10 @@ returns-in_err-play_stimulus g c =
     let p = err_from_is_err_and c.from_residual.result c.from_residual.ensures.1 in
     halts-on c.in_err-play_stimulus.field-0.0 c.from_residual.result _ _ _ _ (p.1 ∙ ap Err p.2)
     (λ fault. alarms-fault c.args.plan.now c.args.rig.now.checked.bound
-    (valid-of c.args.plan.now c.args.rig.now c.requires.rig) c.args.until c.alarm_by.ensures.reached.0
+    (valid-of c.args.plan.now c.args.rig.now c.requires.rig) c.args.until c.alarm_by.ensures.of_run.0
     c.loop-alarm.rig c.play_stimulus.new.rig before after
     (reached-of c.args.plan.now c.args.rig.now c.loop-alarm.rig c.requires.rig service.checked_is
-    c.alarm_by.ensures.reached) comes.next
+    c.alarm_by.ensures.of_run) comes.next
     (alarm-fault c.args.plan.now c.args.until c.args.rig.now c.loop-alarm.rig c.play_stimulus.new.rig before after
     service.checked_is alarm comes fault)
     c.args.rig.now begun (all_alarms_by c.args.plan.now c.args.rig.now.checked.bound c.args.until

@@ -20,8 +20,8 @@ play_alarms-requires-clause-forward g c =
     given-forward c.args.plan.now c.args.rig.now c.requires c.args.line.now c.in-Ok-Some.at
     (stimulus_view c.in-Ok-Some.stimulus) given
 
-pub play_stimulus-requires-clause-taken : goal.play_stimulus-requires-clause-taken
-play_stimulus-requires-clause-taken g c =
+pub play_stimulus-requires-clause-may : goal.play_stimulus-requires-clause-may
+play_stimulus-requires-clause-may g c =
     let given = timed-given c.args.plan.now c.given_by.result c.in-Ok-Some.at c.in-Ok-Some.stimulus
     c.args.rig.now.machine c.args.line.now c.now.result _ c.now.ensures.now c.read_line.ensures
     (c.in-Ok-Some.is ∙ ap Ok c.in-Ok-Some.field-0-is) c.given_by.ensures in

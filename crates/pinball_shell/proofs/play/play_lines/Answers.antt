@@ -35,11 +35,11 @@ loop-rest-preserved g c =
           c.first_line.ensures.shorter
           (line-same first.plan first.rig now.rig now.plan c.loop-rest.invariant.plan going.output.service.checked_is
           c.loop-rest.number line next.rig before after c.in-Ok.found
-          (c.in-Ok.ensures.played c.loop-rest.invariant.going)) c.worse-verdict.ensures;
+          (c.in-Ok.ensures.plays c.loop-rest.invariant.going)) c.worse-verdict.ensures;
     }
 
-pub returns-in-Err-Board-clause-played : goal.returns-in-Err-Board-clause-played
-returns-in-Err-Board-clause-played g c =
+pub returns-in-Err-Board-clause-plays : goal.returns-in-Err-Board-clause-plays
+returns-in-Err-Board-clause-plays g c =
     let first = c.args.player.now in
     let now = c.loop-rest.player in
     let next = c.play.new.self in
@@ -53,11 +53,11 @@ returns-in-Err-Board-clause-played g c =
     let fault = fault-same first.plan first.rig now.rig now.plan c.loop-rest.invariant.plan
     going.output.service.checked_is c.loop-rest.number line next.rig before after
     (halts-in c.play.result _ _ (c.in-Err-Board.is ∙ ap Err c.in-Err-Board.field-0-is)
-    (c.play.ensures.played c.loop-rest.invariant.going)) in
+    (c.play.ensures.plays c.loop-rest.invariant.going)) in
     ok-both c.refuse_for_board.result _ _ _
     (λ v text is. subst (λ (r : RigView). IsLogPlayed first.plan first.rig.checked.bound c.args.log.now first.rig r
-    begun end v) (sym (ap (λ (p : PlayerView). p.rig) c.refuse_for_board.ensures.kept))
+    begun end v) (sym (ap (λ (p : PlayerView). p.rig) c.refuse_for_board.ensures.keeps))
     (lines-fault first.plan first.rig.checked.bound c.args.log.now first.rig c.loop-rest.number c.loop-rest.rest.now
     line c.first_line.result.1.now now.rig next.rig begun before after
     c.loop-rest.verdict going c.first_line.ensures.first end v fault text is))
-    c.refuse_for_board.ensures.written c.refuse_for_board.ensures.verdict
+    c.refuse_for_board.ensures.writes c.refuse_for_board.ensures.verdict

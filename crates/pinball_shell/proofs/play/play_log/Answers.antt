@@ -31,8 +31,8 @@ returns-in_err-board-clause-run g c = log_is_run c.args.checked.now c.in_ok-play
 pub returns-clause-run : goal.returns-clause-run
 returns-clause-run g c = log_is_run c.args.checked.now c.in_ok-player.ensures.accepted c.args.log.now
 
-pub returns-clause-played : goal.returns-clause-played
-returns-clause-played g c =
+pub returns-clause-plays : goal.returns-clause-plays
+returns-clause-plays g c =
     let first = c.in_ok-player.player in
     let now = c.play_lines.new.player in
     let written : Option (List ℕ) = g.W.Write.contents c.args.writer.now in
@@ -45,11 +45,11 @@ returns-clause-played g c =
     let played =
     log-written first.plan first.rig.checked.bound c.args.log.now first.rig now.rig written
     (g.W.Write.contents c.play_lines.new.writer) out first.page now.page c.in_ok-verdict.verdict
-    (ap (λ (p : PlayerView). p.page) ready) c.in_ok-write_out.ensures.written c.in_ok-verdict.ensures.played in
+    (ap (λ (p : PlayerView). p.page) ready) c.in_ok-write_out.ensures.writes c.in_ok-verdict.ensures.plays in
     let shut =
     subst (λ (p : PlanView). IsShutDown p now.rig last out end) c.in_ok-verdict.ensures.plan
-    (subst (λ (p : PlayerView). IsShutDown p.plan p.rig last out end) c.write_out.ensures.kept
-    c.in_ok-board.ensures.done) in
+    (subst (λ (p : PlayerView). IsShutDown p.plan p.rig last out end) c.write_out.ensures.keeps
+    c.in_ok-board.ensures.ends) in
     log-played first.plan c.args.checked.now first.rig now.rig begun last c.args.log.now written out end
     c.in_ok-verdict.verdict
     (ap (λ (p : PlayerView). p.plan) ready) (ap (λ (p : PlayerView). p.rig) ready) played shut

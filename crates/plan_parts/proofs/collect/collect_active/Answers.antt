@@ -12,7 +12,7 @@ returns c =
     let tags = map tag_event row.tags in
     let named = c.join_pieces.ensures ∙ ap (λ n. n ++ [] ++ codes "_active") c.deref.ensures
     ∙ ap (λ n. n ++ codes "_active") (append-nil row.name.text) in
-    let first = ap names_view c.in_ok-add.ensures.added ∙ names_view-push c.args.active.now.items c.join_pieces.result
+    let first = ap names_view c.in_ok-add.ensures.items ∙ names_view-push c.args.active.now.items c.join_pieces.result
     ∙ ap (λ n. old ++ n ∷ []) named in
     on_ok_weaker c.collect_names.result
     (λ last. last

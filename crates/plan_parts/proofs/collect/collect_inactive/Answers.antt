@@ -11,7 +11,7 @@ returns c =
     let own = row.name.text ++ codes "_inactive" in
     let named = c.join_pieces.ensures ∙ ap (λ n. n ++ [] ++ codes "_inactive") c.deref.ensures
     ∙ ap (λ n. n ++ codes "_inactive") (append-nil row.name.text) in
-    let first = ap names_view c.in_ok-add.ensures.added ∙ names_view-push c.args.inactive.now.items c.join_pieces.result
+    let first = ap names_view c.in_ok-add.ensures.items ∙ names_view-push c.args.inactive.now.items c.join_pieces.result
     ∙ ap (λ n. old ++ n ∷ []) named in
     on_ok_weaker c.collect_names.result (λ last. last ∙ ap (λ l. l ++ texts row.deactivation_events) first
     ∙ append_assoc old (own ∷ []) (texts row.deactivation_events)) c.collect_names.ensures

@@ -10,7 +10,7 @@ returns-then-drain c =
     let other_mentions = c.args.other_mentions.now.items in
     let old = names_view other_mentions in
     let entered = ball_event name (codes "_ball_enter") in
-    let one = ap names_view c.in_ok-add.ensures.added ∙ names_view-push other_mentions c.ball_event.result
+    let one = ap names_view c.in_ok-add.ensures.items ∙ names_view-push other_mentions c.ball_event.result
     ∙ ap (λ n. old ++ n ∷ []) c.ball_event.ensures in
     on_ok_weaker c.add-then-drain.result
     (λ added. ap names_view added
@@ -18,13 +18,13 @@ returns-then-drain c =
     ∙ (λ i. one i ++ c.whole.ensures i ∷ [])
     ∙ append_assoc old (entered ∷ []) (codes "ball_drain" ∷ [])
     ∙ ap (λ (d : Bool). old ++ entry_mentions name d) (sym c.if-drain.true))
-    c.add-then-drain.ensures.added
+    c.add-then-drain.ensures.items
 
 pub returns : goal.returns
 returns c =
     let other_mentions = c.args.other_mentions.now.items in
     let old = names_view other_mentions in
-    ap names_view c.in_ok-add.ensures.added
+    ap names_view c.in_ok-add.ensures.items
     ∙ names_view-push other_mentions c.ball_event.result
     ∙ ap (λ n. old ++ n ∷ []) c.ball_event.ensures
     ∙ ap (λ (d : Bool). old ++ entry_mentions c.args.name.now d) (sym c.if-drain.false)

@@ -11,7 +11,7 @@ loop-switch-preserved c =
     let before = bytes_view l.listens.items in
     let later = texts (map name_view (drop (l.switch-index + 1) switches)) in
     let here = c.as_slice.ensures ∙ ap (λ (n : Name). n.text.items) c.switch-item.is in
-    ap (λ xs. bytes_view xs ++ later) c.in_ok-add.ensures.added
+    ap (λ xs. bytes_view xs ++ later) c.in_ok-add.ensures.items
     ∙ ap (λ xs. xs ++ later) (bytes_view-push l.listens.items c.as_slice.result ∙ ap (λ n. before ++ n ∷ []) here)
     ∙ append_assoc before (_ ∷ []) later
     ∙ ap (λ xs. before ++ xs) (sym (at_drop_more (λ xs. texts (map name_view xs)) switches l.switch-index

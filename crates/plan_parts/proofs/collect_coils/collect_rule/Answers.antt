@@ -17,7 +17,7 @@ returns c =
       of = refl;
       known = refl;
       mentions = refl;
-      listens = ap bytes_view c.in_ok-add.ensures.added
+      listens = ap bytes_view c.in_ok-add.ensures.items
           ∙ map-append (λ n. n.now) old.listens.items (c.args.row.switch.text ∷ []);
       event_acts = acting ∙ ap (λ l. l ++ disables) c.in_ok-collect_acts.ensures
           ∙ append_assoc (acts_view old.event_acts.items) enables disables;

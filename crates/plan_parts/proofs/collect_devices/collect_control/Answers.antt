@@ -20,4 +20,4 @@ returns c =
     ∙ (λ i. old ++ (c.as_written.ensures i, act i) ∷ [])
     ∙ ap (λ o. old ++ map act_of_control (with_control o []))
     (ap (option_map control_view) (sym c.in-Some.is) ∙ c.as_control.ensures))
-    c.add.ensures.added
+    c.add.ensures.items

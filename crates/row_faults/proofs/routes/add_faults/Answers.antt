@@ -34,7 +34,7 @@ loop-number-preserved c =
     ap (λ (g : FaultsView). with_faults g (rest_faults devices after g.text rest)) found
     ∙ with-more f fault (rest_faults devices after f.text rest)
     ∙ ap (λ (test : List ℕ → Bool). with_faults f (fault ++ rest_faults devices test f.text rest))
-    c.in_ok-again.ensures.taken
+    c.in_ok-again.ensures.takes
     ∙ next-is (λ (ds : List BallDeviceEntry). with_faults f (rest_faults devices before f.text ds)) devices n d within
     (sym here)
     ∙ l.invariant

@@ -19,7 +19,7 @@ loop-section-preserved c =
     let ls = listed_in f.rows section in
     let after = is_found c.add_section.new.shots_before in
     let found : c.add_section.new.faults ≡ with_faults f each = c.in_ok-add_section.ensures.faults in
-    let taken = c.in_ok-add_section.ensures.taken in
+    let taken = c.in_ok-add_section.ensures.takes in
     record {
       found_faults =
           ap (λ (g : FaultsView). with_faults g (all g after others)) found

@@ -20,7 +20,7 @@ returns c =
     ∙ ap (λ (fs : List RowFaultView). fs ++ mode_faults modes given (is_found c.faults_of_text.new.shots_before)
     (map mode_view texts)) c.in_ok-faults.ensures.faults
     ∙ ap (λ (test : List ℕ → Bool). text_faults modes given nothing machine_name (map section_view machine)
-    ++ mode_faults modes given test (map mode_view texts)) c.in_ok-faults.ensures.taken
+    ++ mode_faults modes given test (map mode_view texts)) c.in_ok-faults.ensures.takes
     ∙ (λ i. text_faults modes (is i) (none i) machine_name (map section_view (c.as_slice-machine.ensures.value i))
     ++ mode_faults modes (is i) (taken_after (none i)
     (listed_of (is i) (map section_view (c.as_slice-machine.ensures.value i))))

@@ -18,7 +18,7 @@ loop-group-preserved c =
     let found : c.add_group.new.faults ≡ with_faults f (group_faults f own (is_found l.shots_before) ls) =
     c.in_ok-add_group.ensures.faults ∙ ap (λ g. with_faults f
     (group_faults f own (is_found l.shots_before) (listed_by f.rows g))) c.as_shot_group.ensures in
-    let taken = c.in_ok-add_group.ensures.taken
+    let taken = c.in_ok-add_group.ensures.takes
     ∙ ap (λ g. taken_after (is_found l.shots_before) (listed_by f.rows g)) c.as_shot_group.ensures in
     record {
       found_faults =

@@ -20,7 +20,7 @@ loop-number-preserved g c =
           r.faults) (sym w.report-is)
           (putting-more plan now start number c.loop-number.self c.loop-number.report.off.items
           c.loop-number.report.faults c.loop-number.invariant there c.requires c.takes_off.new.self
-          c.takes_off.ensures.sent
+          c.takes_off.ensures.state
           c.takes_off.result c.takes_off.ensures.due
           w.if-takes_off.true w.put_off_one.new.self w.put_off_one.new.report.off.items w.put_off_one.new.report.faults
           w.put_off_one.ensures.put w.put_off_one.ensures.rest))
@@ -31,7 +31,7 @@ loop-number-preserved g c =
           r.faults) (sym w.report-is)
           (putting-left plan now start number c.loop-number.self c.loop-number.report.off.items
           c.loop-number.report.faults c.loop-number.invariant there c.requires c.takes_off.new.self
-          c.takes_off.ensures.sent
+          c.takes_off.ensures.state
           c.takes_off.result c.takes_off.ensures.due
           w.if-takes_off.false))
     ]

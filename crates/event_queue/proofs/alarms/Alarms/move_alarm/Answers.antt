@@ -14,8 +14,8 @@ take_out-requires c =
           ∙ ap (λ o. put_alarm o (others dues row within)) (sym c.alarm_of.ensures),
     )
 
-pub put_in-requires-clause-ordered : goal.put_in-requires-clause-ordered
-put_in-requires-clause-ordered c =
+pub put_in-requires-clause-order : goal.put_in-requires-clause-order
+put_in-requires-clause-order c =
     let dues = c.self.inside.dues.items in
     let row = c.args.row in
     let within : row.0 < length dues = omega (arith, c.requires, ap length c.self.view_is) in

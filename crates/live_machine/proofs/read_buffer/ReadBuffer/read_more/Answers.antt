@@ -4,8 +4,8 @@ use borrow.Rule.Slice.PartMut.{post_of}
 use Rattle.live_machine.{specs.LineLinks.read_ahead, proofs.Buffers.{front-more, front-same, read-on, still-held}}
 use Rattle.live_machine.proofs.read_buffer.ReadBuffer.read_more.Goals as goal
 
-pub returns-in-Ok-clause-left : goal.returns-in-Ok-clause-left
-returns-in-Ok-clause-left g c =
+pub returns-in-Ok-clause-keeps : goal.returns-in-Ok-clause-keeps
+returns-in-Ok-clause-keeps g c =
     let after = c.move_to_front.new.self in
     let lent = c.deref_mut.result.now in
     let read = c.read.new.buf in
@@ -23,8 +23,8 @@ returns-in-Ok-clause-left g c =
     ∙ ap (λ (l : List ℕ). l ++ take c.in-Ok.count read) c.move_to_front.ensures.same)
     c.in-Ok.ensures.bytes.0
 
-pub returns-in-Err-clause-left : goal.returns-in-Err-clause-left
-returns-in-Err-clause-left g c =
+pub returns-in-Err-clause-keeps : goal.returns-in-Err-clause-keeps
+returns-in-Err-clause-keeps g c =
     let after = c.move_to_front.new.self in
     let lent = c.deref_mut.result.now in
     let more : List ℕ = c.read.new.buf ++ post_of after.end (length lent - after.end) lent in

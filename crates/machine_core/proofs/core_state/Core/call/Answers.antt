@@ -35,5 +35,5 @@ invariant_of-self g c =
       lines_fit = was.lines_fit;
     }
 
-pub returns-clause-called : goal.returns-clause-called
-returns-clause-called g c = search (rules, length-map, states-turned)
+pub returns-clause-state : goal.returns-clause-state
+returns-clause-state g c = search (rules, length-map, states-turned)

@@ -26,12 +26,12 @@ returns-clause-row g c =
     let same_state : state device ≡ device_state (map state items) c.args.row = c.requires.state
     ∙ ap (λ (v : CoreView). device_at v.machine c.args.row) (sym c.self.view_is) in
     c.stop_one.ensures.row
-    ∙ old-row row state plan items c.args.row put.result device c.self.invariant.rows_are put.ensures.taken same_row
+    ∙ old-row row state plan items c.args.row put.result device c.self.invariant.rows_are put.ensures.takes same_row
     same_state
     ∙ ap (λ (v : CoreView). row_at v.plan c.args.row) c.self.view_is
 
-pub returns-clause-stopped : goal.returns-clause-stopped
-returns-clause-stopped g c =
+pub returns-clause-state : goal.returns-clause-state
+returns-clause-state g c =
     let row = g.D.Device.row_of in
     let state = g.D.Device.state_of in
     let items = c.self.inside.devices.items in
@@ -57,7 +57,7 @@ returns-clause-stopped g c =
     } in
     c.stop_one.ensures.state
     ∙ (λ i. stopped_state c.self.inside.moment (world_is i) (row put.result) (state put.result))
-    ∙ old-stopped row state plan items c.args.row put.result device c.self.invariant.rows_are put.ensures.taken same_row
+    ∙ old-stopped row state plan items c.args.row put.result device c.self.invariant.rows_are put.ensures.takes same_row
     same_state c.self.inside.moment world
     ∙ ap (λ (v : CoreView). stopped_state v.machine.moment (world_of v.machine) (row_at v.plan c.args.row)
     (device_at v.machine c.args.row)) c.self.view_is

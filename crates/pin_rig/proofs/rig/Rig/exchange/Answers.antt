@@ -39,8 +39,8 @@ returns-in-Ok-clause-same g c =
     ap (λ (core : CoreView). rig_of rig.checked.now core rig.driver rig.shown_lines) c.exchange.ensures.same
     ∙ c.self.view_is
 
-pub returns-in-Ok-clause-taken : goal.returns-in-Ok-clause-taken
-returns-in-Ok-clause-taken g c =
+pub returns-in-Ok-clause-takes : goal.returns-in-Ok-clause-takes
+returns-in-Ok-clause-takes g c =
     let rig = c.self.inside in
     let row = g.D.Device.row_of in
     let state = g.D.Device.state_of in
@@ -50,4 +50,4 @@ returns-in-Ok-clause-taken g c =
     c.in-Ok.ensures in
     subst (λ (v : RigView). IsTakenOut v c.args.row (row taken) (state taken)) c.self.view_is
     (taken-out rig.checked.now rig.core rig.driver rig.shown_lines c.self.invariant c.args.row (row device)
-    (state device) may (row taken) (state taken) c.exchange.ensures.row c.exchange.ensures.stopped)
+    (state device) may (row taken) (state taken) c.exchange.ensures.row c.exchange.ensures.state)

@@ -11,5 +11,5 @@ returns-in_err-check_moment g c =
     let next : next_alarm rig.machine ≡ Some (c.in_ok-at.at, source_view c.in_ok-at.source) = search rules in
     let valid : IsValid rig.checked.plan =
     subst (λ (r : RigView). IsValid r.checked.plan) c.self.view_is c.self.invariant.acceptance.valid in
-    let judged = alarm-judged rig valid c.now.ensures.reached (c.in_ok-at.at, source_view c.in_ok-at.source) next in
+    let judged = alarm-judged rig valid c.now.ensures.of_run (c.in_ok-at.at, source_view c.in_ok-at.source) next in
     search (rules, judged)

@@ -65,9 +65,9 @@ invariant_of-self g c =
     let judged = subst (λ (rig : RigView). Admits rig input stimulus) (sym c.self.view_is) here in
     held-again c.self.inside.checked.now c.self.inside.core c.self.inside.driver c.self.inside.shown_lines
     c.self.invariant input stimulus judged
-    c.begin.new.core c.begin.ensures c.run_cascade.new.core c.run_cascade.ensures.settled
+    c.begin.new.core c.begin.ensures c.run_cascade.new.core c.run_cascade.ensures.settles
     c.run_cascade.new.driver c.run_cascade.ensures.coils (length c.lines.result.now)
-    c.run_cascade.new.core.machine.lines refl c.in-None.ensures.served
+    c.run_cascade.new.core.machine.lines refl c.in-None.ensures.serves
     (ap (λ (ls : List Line). length ls) c.lines.ensures)
 
 pub invariant_of-self-in-Some : goal.invariant_of-self-in-Some
@@ -77,35 +77,35 @@ invariant_of-self-in-Some g c =
     let judged = subst (λ (rig : RigView). Admits rig input stimulus) (sym c.self.view_is) here in
     held-halted c.self.inside.checked.now c.self.inside.core c.self.inside.driver c.self.inside.shown_lines
     c.self.invariant input stimulus judged
-    c.begin.new.core c.begin.ensures c.run_cascade.new.core c.run_cascade.ensures.settled
+    c.begin.new.core c.begin.ensures c.run_cascade.new.core c.run_cascade.ensures.settles
     c.run_cascade.new.driver c.run_cascade.ensures.coils c.in-Some.place c.run_cascade.new.core.machine.lines refl
-    c.in-Some.ensures.served
+    c.in-Some.ensures.serves
 
-pub returns-in-None-clause-taken : goal.returns-in-None-clause-taken
-returns-in-None-clause-taken g c = λ all input here.
+pub returns-in-None-clause-takes : goal.returns-in-None-clause-takes
+returns-in-None-clause-takes g c = λ all input here.
     let stimulus = stimulus_view c.args.stimulus in
     let judged = subst (λ (rig : RigView). Admits rig input stimulus) (sym c.self.view_is) here in
     let step =
     steps-on c.self.inside.checked.now c.self.inside.core c.self.inside.driver c.self.inside.shown_lines
     c.self.invariant input stimulus judged
-    c.begin.new.core c.begin.ensures c.run_cascade.new.core c.run_cascade.ensures.settled
+    c.begin.new.core c.begin.ensures c.run_cascade.new.core c.run_cascade.ensures.settles
     c.run_cascade.new.driver c.run_cascade.ensures.coils (length c.lines.result.now)
-    c.run_cascade.new.core.machine.lines refl c.in-None.ensures.served
+    c.run_cascade.new.core.machine.lines refl c.in-None.ensures.serves
     (ap (λ (ls : List Line). length ls) c.lines.ensures) in
     subst (λ (rig : RigView). RigStep input rig
     (rig_of c.self.inside.checked.now c.run_cascade.new.core c.run_cascade.new.driver (length c.lines.result.now)))
     c.self.view_is step
 
-pub returns-in-Some-clause-halted : goal.returns-in-Some-clause-halted
-returns-in-Some-clause-halted g c = λ none input here.
+pub returns-in-Some-clause-halts : goal.returns-in-Some-clause-halts
+returns-in-Some-clause-halts g c = λ none input here.
     let stimulus = stimulus_view c.args.stimulus in
     let judged = subst (λ (rig : RigView). Admits rig input stimulus) (sym c.self.view_is) here in
     let halt =
     halts c.self.inside.checked.now c.self.inside.core c.self.inside.driver c.self.inside.shown_lines c.self.invariant
     input stimulus judged
-    c.begin.new.core c.begin.ensures c.run_cascade.new.core c.run_cascade.ensures.settled
+    c.begin.new.core c.begin.ensures c.run_cascade.new.core c.run_cascade.ensures.settles
     c.run_cascade.new.driver c.run_cascade.ensures.coils c.in-Some.place c.run_cascade.new.core.machine.lines refl
-    c.in-Some.ensures.served in
+    c.in-Some.ensures.serves in
     subst (λ (rig : RigView). RigHalt input rig
     (rig_of c.self.inside.checked.now c.run_cascade.new.core c.run_cascade.new.driver c.in-Some.place))
     c.self.view_is halt

@@ -14,8 +14,8 @@ invariant_of-self g c =
     (append_known (g.W.Write.contents c.play_line-answer.new.writer) c.play_line-answer.new.page)
     c.play_line-answer.result (c.self.invariant c.if-self.false) c.play_line-answer.ensures)
 
-pub returns-clause-played : goal.returns-clause-played
-returns-clause-played g c =
+pub returns-clause-plays : goal.returns-clause-plays
+returns-clause-plays g c =
     let written : Option (List ℕ) = g.W.Write.contents c.args.writer.now in
     let grown : Option (List ℕ) = append_known (g.W.Write.contents c.play_line-answer.new.writer)
     c.play_line-answer.new.page in
@@ -35,6 +35,6 @@ pub returns-clause-over : goal.returns-clause-over
 returns-clause-over g c = λ over. let no : true ≡ false = sym over
     ∙ sym (ap (λ (p : PlayerView). p.has_stopped) c.self.view_is) ∙ c.if-self.false in cc
 
-pub returns-then-self-clause-played : goal.returns-then-self-clause-played
-returns-then-self-clause-played g c = λ going. let no : true ≡ false = sym c.if-self.true
+pub returns-then-self-clause-plays : goal.returns-then-self-clause-plays
+returns-then-self-clause-plays g c = λ going. let no : true ≡ false = sym c.if-self.true
     ∙ ap (λ (p : PlayerView). p.has_stopped) c.self.view_is ∙ going in cc

@@ -3,8 +3,8 @@ use Rattle.coil_driver.specs.Board.{BoardView, board_view}
 use Rattle.pinball_shell.specs.{Played.IsShutDown, LogPlayers.PlayerView}
 use Rattle.pinball_shell.proofs.log_player.LogPlayer.shut_down.Goals as goal
 
-pub returns-in-Ok-clause-done : goal.returns-in-Ok-clause-done
-returns-in-Ok-clause-done g c =
+pub returns-in-Ok-clause-ends : goal.returns-in-Ok-clause-ends
+returns-in-Ok-clause-ends g c =
     let last : BoardView = board_view g.B.Board.command_list g.B.Board.fault_count g.B.Board.answers
     c.shut_down-board.result.0
     in

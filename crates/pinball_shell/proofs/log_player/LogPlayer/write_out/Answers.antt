@@ -2,14 +2,14 @@ use Rattle.std.{proofs.Common.{List, ℕ, [], ap, ◌∙◌, subst}, specs.{Resu
 use Rattle.pinball_shell.specs.LogPlayers.{PlayerView, with_page}
 use Rattle.pinball_shell.proofs.log_player.LogPlayer.write_out.Goals as goal
 
-pub returns-clause-written : goal.returns-clause-written
-returns-clause-written g c =
+pub returns-clause-writes : goal.returns-clause-writes
+returns-clause-writes g c =
     subst (λ (p : PlayerView). OnOk c.write_out.result
     (Appends (g.W.Write.contents c.args.writer.now) (g.W.Write.contents c.write_out.new.writer) p.page))
-    c.self.view_is c.write_out.ensures.written
+    c.self.view_is c.write_out.ensures.writes
 
-pub returns-clause-kept : goal.returns-clause-kept
-returns-clause-kept g c =
+pub returns-clause-keeps : goal.returns-clause-keeps
+returns-clause-keeps g c =
     let was = c.self.inside in
     let begun : PlayerView = record { plan = was.plan; rig = was.rig; page = was.page; has_stopped = was.has_stopped }
     in

@@ -10,7 +10,7 @@ invariant_of-self-then-count-gt0 c =
     in
     let end : c.len.result ≡ length new.items = omega (arith, c.len.ensures, new.ok.0) in
     ends_added inside.ends.items inside.effects.items new.items c.args.effect c.len-count.result c.len.result
-    c.self.invariant counted c.in_ok-add.ensures.added end c.if-count-gt0.true
+    c.self.invariant counted c.in_ok-add.ensures.items end c.if-count-gt0.true
 
 pub returns-in_ok-add : goal.returns-in_ok-add
 returns-in_ok-add c =
@@ -20,5 +20,5 @@ returns-in_ok-add c =
     in
     let end : c.len.result ≡ length new.items = omega (arith, c.len.ensures, new.ok.0) in
     lists_added inside.ends.items inside.effects.items new.items c.args.effect c.len-count.result c.len.result
-    c.self.invariant counted c.in_ok-add.ensures.added end effect_view (effect_view c.args.effect) c.args.self.now
+    c.self.invariant counted c.in_ok-add.ensures.items end effect_view (effect_view c.args.effect) c.args.self.now
     refl c.self.view_is

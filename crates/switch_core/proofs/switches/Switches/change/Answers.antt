@@ -63,8 +63,8 @@ pub returns-clause-state : goal.returns-clause-state
 returns-clause-state c = elim c.if-ne.branch
     [ then-ne w ↦ w.self-is ∙ changed-is c | else-ne w ↦ w.self-is ∙ changed-is c ]
 
-pub returns-clause-reported : goal.returns-clause-reported
-returns-clause-reported c =
+pub returns-clause-reports : goal.returns-clause-reports
+returns-clause-reports c =
     subst (λ (s : SwitchesView). c.then_some.result ≡ reported_by_change c.args.switch c.args.level c.args.now s)
     c.self.view_is
     (c.then_some.ensures

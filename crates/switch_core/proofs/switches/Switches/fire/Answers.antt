@@ -65,8 +65,8 @@ returns-clause-state c =
     (fire-set kinds states c.in-Some.switch c.index.result.now c.index-old.result.now c.fire_change-new_state.result
     in_kinds in_states c.index.ensures c.index-old.ensures c.in-Some.field-0-0 next c.fire_change-new_state.ensures)
 
-pub returns-clause-reported : goal.returns-clause-reported
-returns-clause-reported c =
+pub returns-clause-reports : goal.returns-clause-reports
+returns-clause-reports c =
     let kinds = c.self.inside.kinds.items in
     let states = c.self.inside.states.items in
     let in_kinds = kept-in_kinds kinds states c.self.inside.next c.self.inside.waiting c.self.invariant
