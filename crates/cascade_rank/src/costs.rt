@@ -33,7 +33,7 @@ ghost use Rattle.cascade_rank.specs.Tellings.{IsTellingWithin};
 
 use crate::measure::Measure;
 use crate::releases::count_enabled;
-use crate::tellings::{OneDevice, Tells, Untold};
+use crate::tellings::{OneDevice, TellCost, Untold};
 use crate::work::led_by;
 use device_objects::{Call, outcomes};
 use plan_tables::{
@@ -93,7 +93,7 @@ fn measure_target<M: Measure>(measure: &mut M, plan: &Plan, target: Target) -> M
 }
 
 /// A call of a device: a step, and the dearest of what it can answer.
-pub(crate) fn measure_call<T: Tells, M: Measure>(
+pub(crate) fn measure_call<T: TellCost, M: Measure>(
     measure: &mut M,
     plan: &Plan,
     row: RowId,
@@ -108,7 +108,7 @@ pub(crate) fn measure_call<T: Tells, M: Measure>(
 }
 
 /// The dearest of what a call of a device can answer.
-fn measure_answers<T: Tells, M: Measure>(
+fn measure_answers<T: TellCost, M: Measure>(
     measure: &mut M,
     plan: &Plan,
     row: RowId,
@@ -128,7 +128,7 @@ fn measure_answers<T: Tells, M: Measure>(
 }
 
 /// The effect lists of a row that its device answers.
-fn measure_answer<T: Tells, M: Measure>(
+fn measure_answer<T: TellCost, M: Measure>(
     measure: &mut M,
     plan: &Plan,
     row: RowId,
@@ -146,14 +146,14 @@ fn measure_answer<T: Tells, M: Measure>(
     total
 }
 
-fn measure_list<T: Tells, M: Measure>(measure: &mut M, plan: &Plan, list: ListId) -> M::Value
+fn measure_list<T: TellCost, M: Measure>(measure: &mut M, plan: &Plan, list: ListId) -> M::Value
     requires { list.0 < length plan.now.lists }
     ensures { M.Measures measure.old (cost_of_list_by plan.now (T.cost plan.now) list) measure.new result }
 {
     measure_actions::<T, M>(measure, plan, plan.list(list))
 }
 
-fn measure_actions<T: Tells, M: Measure>(
+fn measure_actions<T: TellCost, M: Measure>(
     measure: &mut M,
     plan: &Plan,
     actions: &[Action],
@@ -170,7 +170,7 @@ fn measure_actions<T: Tells, M: Measure>(
     total
 }
 
-fn measure_action<T: Tells, M: Measure>(measure: &mut M, plan: &Plan, action: Action) -> M::Value
+fn measure_action<T: TellCost, M: Measure>(measure: &mut M, plan: &Plan, action: Action) -> M::Value
     requires { IsActionWithin plan.now action }
     ensures { M.Measures measure.old (cost_of_action_by plan.now (T.cost plan.now) action) measure.new result }
 {
@@ -196,7 +196,7 @@ fn measure_action<T: Tells, M: Measure>(measure: &mut M, plan: &Plan, action: Ac
 
 /// A ball enters a device: the line, the event, and the dearer of the drain and what the device answers
 /// that ejected the ball.
-fn measure_entry<T: Tells, M: Measure>(
+fn measure_entry<T: TellCost, M: Measure>(
     measure: &mut M,
     plan: &Plan,
     device: RowId,

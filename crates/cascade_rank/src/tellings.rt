@@ -10,7 +10,7 @@ use crate::measure::Measure;
 use plan_tables::{Plan, Telling};
 
 /// What it costs to tell a ball device.
-pub(crate) trait Tells {
+pub(crate) trait TellCost {
     ghost use Rattle.std.specs.Prelude.{length};
     ghost use Rattle.plan_tables.specs.PlanView.{PlanView};
     ghost use Rattle.plan_tables.specs.declared.devices.Telling.{Telling};
@@ -29,7 +29,7 @@ pub(crate) trait Tells {
 /// No device is told, as by the effect lists that a told device answers.
 pub(crate) struct Untold;
 
-impl Tells for Untold {
+impl TellCost for Untold {
     ghost use Rattle.cascade_rank.specs.Cost.{cost_of_nobody};
 
     ghost cost = { λ _. cost_of_nobody };
@@ -42,7 +42,7 @@ impl Tells for Untold {
 /// One device is told: of those that eject their balls to where one has arrived, or the first trough.
 pub(crate) struct OneDevice;
 
-impl Tells for OneDevice {
+impl TellCost for OneDevice {
     ghost use Rattle.cascade_rank.specs.Cost.{cost_of_telling};
 
     ghost cost = { cost_of_telling };

@@ -3,7 +3,7 @@
 ghost use Rattle.std.specs.Prelude.{◌≡◌, ◌+◌, ◌<◌, ◌≤◌, ◌++◌, true, false, Bool, List, [], ◌∷◌, length, slice_index_or};
 ghost use Rattle.std.specs.Prelude.{vec_capacity, IfOk};
 ghost use Rattle.std.specs.{List.{All, AllPairs, AllWithin}, Ordering.is_lt};
-ghost use Rattle.plan_tables.specs.declared.entries.BindingId.{BindingId as Place};
+ghost use Rattle.plan_tables.specs.declared.entries.BindingId.{BindingId};
 ghost use Rattle.plan_tables.specs.PlanView.{binding_at, no_binding};
 ghost use Rattle.event_queue.specs.Handlers.{runs_at, takes_part};
 ghost use Rattle.event_queue.specs.OrderedLists.{put, put_all, IsOrdered, IsPlaceOf, IsInTurn, ranks_before};
@@ -97,8 +97,8 @@ fn rooms(alloc: Global, plan: &Plan) -> Result<Vec<Vec<BindingId>>, AllocError>
 /// The binding at a place takes part from now on. It did not before.
 fn add_place(orders: &mut Vec<Vec<BindingId>>, plan: &Plan, place: BindingId)
     requires place { place.0 < length plan.now.bindings }
-    requires orders { (takes : Place → Bool) × HasOrders plan.now takes orders.old.items × (takes place ≡ false) }
-    ensures { (takes : Place → Bool) → HasOrders plan.now takes orders.old.items → takes place ≡ false
+    requires orders { (takes : BindingId → Bool) × HasOrders plan.now takes orders.old.items × (takes place ≡ false) }
+    ensures { (takes : BindingId → Bool) → HasOrders plan.now takes orders.old.items → takes place ≡ false
         → HasOrders plan.now (also takes place) orders.new.items }
 {
     let event = plan.binding(place).event;
@@ -109,7 +109,7 @@ fn add_place(orders: &mut Vec<Vec<BindingId>>, plan: &Plan, place: BindingId)
 pub(crate) fn of_one_event(plan: &Plan, places: &[BindingId]) -> usize
     requires { 0 < length places.now }
     ensures count { (0 < result) × (result ≤ length places.now) }
-    ensures same { (first : Place) → AllWithin
+    ensures same { (first : BindingId) → AllWithin
         (λ p. (binding_at plan.now p).event.0 ≡ (binding_at plan.now (slice_index_or places.now 0 first)).event.0)
         places.now 0 result }
 {
@@ -131,10 +131,10 @@ pub(crate) fn add_group(
     group: &[BindingId],
 )
     requires group { IsGroup plan.now group.now }
-    requires orders { (takes : Place → Bool) × HasOrders plan.now takes orders.old.items
+    requires orders { (takes : BindingId → Bool) × HasOrders plan.now takes orders.old.items
         × All (λ p. takes p ≡ false) group.now }
     requires room { length plan.now.bindings ≤ vec_capacity fresh.old }
-    ensures orders { (takes : Place → Bool) → HasOrders plan.now takes orders.old.items
+    ensures orders { (takes : BindingId → Bool) → HasOrders plan.now takes orders.old.items
         → All (λ p. takes p ≡ false) group.now → HasOrders plan.now (also_all takes group.now) orders.new.items }
     ensures room { vec_capacity fresh.old ≤ vec_capacity fresh.new }
 {
@@ -152,10 +152,10 @@ pub(crate) fn drop_group(
     group: &[BindingId],
 )
     requires group { IsGroup plan.now group.now }
-    requires orders { (takes : Place → Bool) × HasOrders plan.now takes orders.old.items
+    requires orders { (takes : BindingId → Bool) × HasOrders plan.now takes orders.old.items
         × All (λ p. takes p ≡ true) group.now }
     requires room { length plan.now.bindings ≤ vec_capacity fresh.old }
-    ensures orders { (takes : Place → Bool) → HasOrders plan.now takes orders.old.items
+    ensures orders { (takes : BindingId → Bool) → HasOrders plan.now takes orders.old.items
         → All (λ p. takes p ≡ true) group.now → HasOrders plan.now (without_all takes group.now) orders.new.items }
     ensures room { vec_capacity fresh.old ≤ vec_capacity fresh.new }
 {
@@ -192,10 +192,10 @@ fn merge(fresh: &mut Vec<BindingId>, plan: &Plan, order: &[BindingId], group: &[
 fn part(fresh: &mut Vec<BindingId>, plan: &Plan, order: &[BindingId], group: &[BindingId])
     requires order { IsOrdered (runs_before plan.now) order.now }
     requires group { IsInTurn (runs_before plan.now) group.now }
-    requires among { (others : List Place) × IsOrdered (runs_before plan.now) others
+    requires among { (others : List BindingId) × IsOrdered (runs_before plan.now) others
         × (order.now ≡ put_all (runs_before plan.now) group.now others) }
     requires room { length order.now ≤ vec_capacity fresh.old }
-    ensures items { (others : List Place) → IsOrdered (runs_before plan.now) others
+    ensures items { (others : List BindingId) → IsOrdered (runs_before plan.now) others
         → order.now ≡ put_all (runs_before plan.now) group.now others → fresh.new.items ≡ others }
     ensures capacity { vec_capacity fresh.old ≤ vec_capacity fresh.new }
 {

@@ -22,13 +22,13 @@ use std::{env, io};
 use wire_board::WireBoard;
 
 /// A change of a switch: its moment in milliseconds, the switch, and whether it becomes active.
-type Change = (u64, &'static str, bool);
+type TimedChange = (u64, &'static str, bool);
 
 /// What comes before the exchange.
-const BEFORE: [Change; 2] = [(1_000, "s_start", true), (1_500, "s_start", false)];
+const BEFORE: [TimedChange; 2] = [(1_000, "s_start", true), (1_500, "s_start", false)];
 
 /// What comes after it.
-const AFTER: [Change; 2] = [(2_000, "s_sling", true), (3_000, "s_ramp", true)];
+const AFTER: [TimedChange; 2] = [(2_000, "s_sling", true), (3_000, "s_ramp", true)];
 
 fn main(rt: HostRuntime) -> Result<()> {
     let folder = env::args(&rt)?.nth(1);
@@ -84,7 +84,7 @@ fn drive<D: Device, B: Board>(
 fn play<D: Device, B: Board>(
     plan: &Plan,
     rig: &mut Rig<'_, D, B>,
-    changes: &[Change],
+    changes: &[TimedChange],
 ) -> Result<(), StepFault> {
     for &(at, name, level) in changes {
         let switch = plan.find_switch(name.as_bytes());

@@ -14,7 +14,7 @@ use Rattle.pinball_shell.specs.RunOfLog.{given_by_line, PrintedLine, Traced, Ref
 use Rattle.pinball_shell.specs.RunOfLog.{printed_for_lines, printed_for_log, trace_in}
 use Rattle.pinball_shell.proofs.{LogRuns.log_is_run, Playing.printed-push}
 use Rattle.live_machine.specs.Talk.{Talk, Heard, Told, heard_text, transcript, LinkView}
-use Rattle.live_machine.specs.Answers.{Answer, next_state, answer, answers, answer_text, rounds}
+use Rattle.live_machine.specs.Answers.{LineAnswer, next_state, answer, answers, answer_text, rounds}
 use Rattle.live_machine.specs.Live.{AreAnswered, AreCutOff, HaveEnded, Answered, CutOff, AllAnswered, IsLive}
 use Rattle.live_machine.specs.LiveLaws.{AnswersComeFirst, RoundsGoOn, AnswersArePlay, LiveIsPlay, LiveIsRun, by_lines}
 use Rattle.live_machine.specs.LiveLaws.{is_of_bytes, TranscriptsLoseNothing}
@@ -24,7 +24,7 @@ use Rattle.live_machine.specs.LiveLaws.{is_of_bytes, TranscriptsLoseNothing}
 pub answers_first : AnswersComeFirst
 answers_first plan bound number [] more s = refl
 answers_first plan bound number (line ∷ first) more s =
-    ap (λ (xs : List Answer). answer plan bound number s line ∷ xs)
+    ap (λ (xs : List LineAnswer). answer plan bound number s line ∷ xs)
     (answers_first plan bound (number + 1) first more (next_state plan bound s line))
 
 pub rounds_go_on : RoundsGoOn
@@ -39,7 +39,8 @@ rounds_go_on plan bound number (line ∷ first) more s =
 -- ---- a live run is a play
 
 pub answers_printed : (plan : PlanView) (bound number : ℕ) (ls : List (List ℕ)) (s : Machine)
-    → flat_map (λ (a : Answer). a.output) (answers plan bound number ls s) ≡ printed_for_lines plan bound number ls s
+    → flat_map (λ (a : LineAnswer). a.output) (answers plan bound number ls s)
+    ≡ printed_for_lines plan bound number ls s
 answers_printed plan bound number [] s = refl
 answers_printed plan bound number (line ∷ more) s =
     ap (λ (ps : List PrintedLine). printed_for_line plan bound number s (given_by_line plan s.moment (meaning line))

@@ -20,23 +20,23 @@ abbrev pub next_state : PlanView → ℕ → Machine → List ℕ → Machine
 next_state plan bound s line = after_line plan bound s (given_by_line plan s.moment (meaning line))
 
 -- an answer: what is printed for a line, and when an alarm is due next after it
-pub record Answer : Type 0 where
+pub record LineAnswer : Type 0 where
   pub output : List PrintedLine
   pub due : Option ℕ
 
 -- the answer to the line of this number
-abbrev pub answer : PlanView → ℕ → ℕ → Machine → List ℕ → Answer
+abbrev pub answer : PlanView → ℕ → ℕ → Machine → List ℕ → LineAnswer
 answer plan bound number s line = record {
   output = printed_for_line plan bound number s (given_by_line plan s.moment (meaning line));
   due = due_of (next_state plan bound s line);
 }
 
 -- the lines that are printed, and then the line `due`
-abbrev pub answer_text : PlanView → Answer → List ℕ
+abbrev pub answer_text : PlanView → LineAnswer → List ℕ
 answer_text plan a = printed_texts plan a.output ++ due_text a.due
 
 -- The answers to these lines, which are numbered from `number` on. Each is that of the state after the lines before it.
-abbrev pub answers : PlanView → ℕ → ℕ → List (List ℕ) → Machine → List Answer
+abbrev pub answers : PlanView → ℕ → ℕ → List (List ℕ) → Machine → List LineAnswer
 answers plan bound number [] s = []
 answers plan bound number (line ∷ more) s =
     answer plan bound number s line ∷ answers plan bound (number + 1) more (next_state plan bound s line)

@@ -9,7 +9,7 @@ use Rattle.pinball_shell.specs.TraceText.{printed_texts, log_verdict}
 use Rattle.pinball_shell.specs.RunOfLog.{PrintedLine, printed_for_log, trace_in}
 use Rattle.pinball_shell.specs.{RunGiven.IsPlayOfLog, Ends.{after_log_lines, IsPlayOn}}
 use Rattle.live_machine.specs.Talk.{Talk, Heard, Told, transcript, LinkView}
-use Rattle.live_machine.specs.{Answers.{Answer, answers, rounds}, Live.{IsLive, AllAnswered}}
+use Rattle.live_machine.specs.{Answers.{LineAnswer, answers, rounds}, Live.{IsLive, AllAnswered}}
 
 -- ---- the first answers depend on the first lines alone
 

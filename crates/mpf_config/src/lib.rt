@@ -42,6 +42,6 @@ pub use mpf_tables::tables::{
     VARIABLE_PLAYER_NAME,
 };
 pub use notes::write_note;
-pub use section_tables::rows::{Entry, Player};
+pub use section_tables::rows::{Entry, PlayerEntry};
 pub use setting_values::values::{Fields, Guard, Handler, KeyedValues, Name, Plain, Value};
 pub use texts::{MACHINE_NAME, mode_text_name};

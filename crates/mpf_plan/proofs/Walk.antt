@@ -5,8 +5,8 @@ use Rattle.std.proofs.{Common.{arith, Option}, lemmas.List.{take_more, take-map,
 use Rattle.std.specs.{Str.bytes_eq, List.{All, flat_map, sum_by}}
 use Rattle.std.proofs.lemmas.List.Elements.{All-nil, All-cons, All-append, All-head, All-tail, All-map}
 use Rattle.std.proofs.lemmas.List.Sums.{sum_by-append, sum_by-cons, sum_by-take-le}
-use Rattle.mpf_sections.specs.Rows.{Entry, Player, Content, entries, players, entry as single, name_list, SectionRows}
-use Rattle.mpf_sections.specs.{Typed.mode_settings, TypedBalls.{ball_devices_name, ball_device_of}}
+use Rattle.mpf_sections.specs.Rows.{Entry, PlayerEntry, Content, entries, players, entry as single, name_list}
+use Rattle.mpf_sections.specs.{Rows.SectionRows, Typed.mode_settings, TypedBalls.{ball_devices_name, ball_device_of}}
 use Rattle.mpf_sections.specs.TypedShots.{shots_name, shot_groups_name, shot_of, shot_group_of}
 use Rattle.mpf_config.specs.{Rows.{ModeRows, Rows}, FewModes.AreFewModes}
 use Rattle.plan_rows.specs.{declared.destination.Destination.Destination, Rows.rows_of}

@@ -6,7 +6,7 @@ use Rattle.std.specs.{List.{All, list_any}, Prelude.{if◌then◌else◌, option
 use Rattle.mpf_tables.specs.SectionTables.{named_in}
 use Rattle.mpf_values.specs.Names.{IsName}
 use Rattle.setting_values.specs.Values.{Plain, KeyedValues, Value}
-use Rattle.section_tables.specs.{Rows.{Entry, Player}, Named.{IsNamedEntry, IsNamedPlayer, IsShortPlayer}}
+use Rattle.section_tables.specs.{Rows.{Entry, PlayerEntry}, Named.{IsNamedEntry, IsNamedPlayer, IsShortPlayer}}
 use Rattle.mpf_sections.specs.{Rows.{WrittenName, SectionRows}, Short.IsCoilPlayerInRange}
 use Rattle.mpf_sections.specs.{EntryReading.rule_at, Named.IsNamed}
 use Rattle.mpf_sections.specs.Typed.{text_of, listed_keyed, name_in, pulse_in, power_in, entries_of, players_of}
@@ -27,7 +27,7 @@ unfolding coil_of
 coil_named e h = record { name = h.name }
 
 -- The names in an entry of `coil_player` are names.
-pub coil_player_named : (p : Player) → IsNamedPlayer p → IsNamedCoilPlayer (coil_player_of p)
+pub coil_player_named : (p : PlayerEntry) → IsNamedPlayer p → IsNamedCoilPlayer (coil_player_of p)
 unfolding coil_player_of coil_item_of
 coil_player_named p h = record {
   event = event_named p.event h.event;
@@ -113,7 +113,7 @@ item_in_range : (k : KeyedValues) → IsItemInRange (coil_item_of k)
 unfolding coil_item_of
 item_in_range k = search rules
 
-pub coil_player_in_range : (p : Player) → IsCoilPlayerInRange (coil_player_of p)
+pub coil_player_in_range : (p : PlayerEntry) → IsCoilPlayerInRange (coil_player_of p)
 unfolding coil_player_of
 coil_player_in_range p = all_mapped IsItemInRange coil_item_of item_in_range (listed_keyed (Some p.value))
 
@@ -121,7 +121,7 @@ coil_player_in_range p = all_mapped IsItemInRange coil_item_of item_in_range (li
 pub keyed_short : (o : Option Value) → IsShortOption o → length (listed_keyed o) ≤ 1024
 keyed_short x1 h = search rules
 
-pub coil_player_short : (p : Player) → IsShortPlayer 1024 p → IsShortCoilPlayer (coil_player_of p)
+pub coil_player_short : (p : PlayerEntry) → IsShortPlayer 1024 p → IsShortCoilPlayer (coil_player_of p)
 unfolding coil_player_of
 coil_player_short p h = search (rules, keyed_short, length-map)
 

@@ -2,7 +2,7 @@
 -- names, and their settings are in their ranges.
 use Rattle.std.proofs.{Common.{rules, ◌≤◌, ℤ, pos, neg_ℤ, ◌≤ℤ◌, List}, lemmas.List.length-map}
 use Rattle.mpf_values.specs.Names.{IsName}
-use Rattle.section_tables.specs.{Rows.{Entry, Player}, Named.{IsNamedPlayer, IsShortPlayer}}
+use Rattle.section_tables.specs.{Rows.{Entry, PlayerEntry}, Named.{IsNamedPlayer, IsShortPlayer}}
 use Rattle.mpf_sections.specs.{Rows.SectionRows, Named.IsNamedVariablePlayer}
 use Rattle.mpf_sections.specs.TypedGame.{variable_item_of, variable_player_of, game_of, min_balls_of}
 use Rattle.mpf_sections.specs.Short.{IsShortVariablePlayer, IsGameInRange}
@@ -11,7 +11,7 @@ use Rattle.mpf_sections.proofs.{RowNames.{event_named, keyed_named}, CoilRows.ke
 -- ---- names
 
 -- The names in an entry of `variable_player` are names.
-pub variable_player_named : (p : Player) → IsNamedPlayer p → IsNamedVariablePlayer (variable_player_of p)
+pub variable_player_named : (p : PlayerEntry) → IsNamedPlayer p → IsNamedVariablePlayer (variable_player_of p)
 unfolding variable_player_of variable_item_of
 variable_player_named p h = record {
   event = event_named p.event h.event;
@@ -24,7 +24,7 @@ abbrev IsChange : ℤ → Type 0
 IsChange n = (neg_ℤ (pos 1000000000) ≤ℤ n) × (n ≤ℤ pos 1000000000)
 
 -- It says of at most 1,024 variables what is done with them.
-pub variable_player_short : (p : Player) → IsShortPlayer 1024 p → IsShortVariablePlayer (variable_player_of p)
+pub variable_player_short : (p : PlayerEntry) → IsShortPlayer 1024 p → IsShortVariablePlayer (variable_player_of p)
 unfolding variable_player_of
 variable_player_short p h = search (rules, keyed_short, length-map)
 

@@ -4,7 +4,7 @@ use Rattle.std.{proofs.Common.slice_get, specs.{List.{All, AllByRecursion}, Str.
 use Rattle.std.proofs.lemmas.List.Elements.{All-nil, All-map, All-tail, All-weaker, All-from_recursion}
 use Rattle.mpf_values.specs.Names.{IsName}
 use Rattle.setting_values.specs.Values.{Plain, KeyedValues, Value, by_key}
-use Rattle.section_tables.specs.{Rows.{Entry, Player}, Named.{IsNamedEvent, IsNamedEntry, IsNamedPlayer}}
+use Rattle.section_tables.specs.{Rows.{Entry, PlayerEntry}, Named.{IsNamedEvent, IsNamedEntry, IsNamedPlayer}}
 use Rattle.setting_values.specs.NamedValues.{IsNamedHandled, IsNamedKeyed, IsNamedValue}
 use Rattle.mpf_sections.specs.{Rows.{WrittenName, Content, SectionRows}, Named.{IsNamedContent, IsNamed}}
 use Rattle.mpf_tables.specs.SectionTables.{switches_name}
@@ -51,7 +51,7 @@ unfolding switch_of
 switch_named e h = search (rules, names_named, slice_get, value_at_named, posts_named)
 
 -- Those in an entry of `event_player` are, too.
-pub event_player_named : (p : Player) → IsNamedPlayer p → IsNamedEventPlayer (event_player_of p)
+pub event_player_named : (p : PlayerEntry) → IsNamedPlayer p → IsNamedEventPlayer (event_player_of p)
 unfolding event_player_of
 event_player_named p h = record { event = event_named p.event h.event; posts = posts_named (Some p.value) h.value }
 

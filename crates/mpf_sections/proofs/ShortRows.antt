@@ -2,7 +2,7 @@
 use Rattle.std.proofs.Common.{rules, ℕ, zero, suc, ◌≤◌, List, [], ◌∷◌, length, Option, Some, None, slice_get, arith}
 use Rattle.std.{specs.{List.All, Str.bytes_eq}, proofs.lemmas.List.Elements.{All-head, All-tail}}
 use Rattle.setting_values.specs.{Values.Value, NamedValues.IsShortValue}
-use Rattle.section_tables.specs.{Rows.{Entry, Player}, Named.{IsShortEntry, IsShortPlayer}}
+use Rattle.section_tables.specs.{Rows.{Entry, PlayerEntry}, Named.{IsShortEntry, IsShortPlayer}}
 use Rattle.mpf_sections.specs.{Rows.SectionRows, Typed.switches_in}
 use Rattle.mpf_sections.specs.Short.{IsShortSection, IsShortSwitch, IsShortEventPlayer}
 use Rattle.mpf_tables.specs.SectionTables.{switches_name}
@@ -31,6 +31,6 @@ pub posts_short : (o : Option Value) → IsShortOption o → length (listed_post
 posts_short x1 h = search rules
 
 -- No list in an entry of `event_player` has, either.
-pub event_player_short : (p : Player) → IsShortPlayer 1024 p → IsShortEventPlayer (event_player_of p)
+pub event_player_short : (p : PlayerEntry) → IsShortPlayer 1024 p → IsShortEventPlayer (event_player_of p)
 unfolding event_player_of
 event_player_short p h = posts_short (Some p.value) h

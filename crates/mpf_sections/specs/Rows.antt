@@ -8,7 +8,7 @@ use Rattle.machine_settings.specs.declared.settings.CounterSettings.{CounterSett
 use Rattle.machine_settings.specs.declared.settings.{TimerSettings.TimerSettings, EjectSettings.EjectSettings}
 use Rattle.machine_settings.specs.declared.settings.MultiballSettings.{MultiballSettings}
 pub use Rattle.setting_values.specs.Values.{WrittenName, HandledEvent}
-pub use Rattle.section_tables.specs.Rows.{Entry, Player}
+pub use Rattle.section_tables.specs.Rows.{Entry, PlayerEntry}
 
 -- an entry of `switches`
 pub record Switch : Type 0 where
@@ -192,7 +192,7 @@ pub record ShotProfile : Type 0 where
 -- what stands in a section, as written: entries by its table, those of a player, one entry, or a list of names
 pub data Content : Type 0 where
   entries : List Entry → Content
-  players : List Player → Content
+  players : List PlayerEntry → Content
   entry : Entry → Content
   name_list : List WrittenName → Content
 

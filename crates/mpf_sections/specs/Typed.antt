@@ -10,7 +10,7 @@ use Rattle.mpf_sections.specs.declared.words.ControlAction.{ControlAction, TheVa
 use Rattle.mpf_sections.specs.declared.words.ControlAction.TheVariants.{Start, Stop, Pause, Reset, Restart, Add}
 use Rattle.setting_values.specs.Values.{WrittenName, HandledEvent, Plain, flag, number, time, power, word, name, event}
 use Rattle.setting_values.specs.Values.{Fields, KeyedValues, Value, one, names, posts, events, steps, maps, by_key}
-use Rattle.section_tables.specs.{Rows.{Entry, Player}, Shapes.Setting, Tables.{setting_key, setting_default}}
+use Rattle.section_tables.specs.{Rows.{Entry, PlayerEntry}, Shapes.Setting, Tables.{setting_key, setting_default}}
 use Rattle.setting_values.specs.{Kinds.Field, Values.handled_at, ValueOf.within, KeyRules.{found_in, field_key}}
 use Rattle.mpf_tables.specs.SectionTables as tables
 pub use Rattle.mpf_tables.specs.SectionTables.{switches_name, event_player_name, counters_name, accruals_name}
@@ -271,7 +271,7 @@ timer_of e =
 
 -- ---- `event_player`
 
-unfoldable pub event_player_of : Player → EventPlayer
+unfoldable pub event_player_of : PlayerEntry → EventPlayer
 event_player_of p = record { event = handled_in p.event; posts = listed_posts (Some p.value) }
 
 -- ---- `mode`
@@ -300,7 +300,7 @@ abbrev pub entries_in : Content → List Entry
 entries_in (entries es) = es
 entries_in _ = []
 
-abbrev pub players_in : Content → List Player
+abbrev pub players_in : Content → List PlayerEntry
 players_in (players ps) = ps
 players_in _ = []
 
@@ -318,7 +318,7 @@ names_in _ = []
 abbrev pub entries_of : List ℕ → SectionRows → List Entry
 entries_of section s = if bytes_eq s.name section then entries_in s.content else []
 
-abbrev pub players_of : List ℕ → SectionRows → List Player
+abbrev pub players_of : List ℕ → SectionRows → List PlayerEntry
 players_of section s = if bytes_eq s.name section then players_in s.content else []
 
 -- the switches of a section: of `switches` its entries, of any other none

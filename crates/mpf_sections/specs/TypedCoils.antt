@@ -3,7 +3,7 @@ use Rattle.std.specs.Prelude.{◌∷◌, ℕ, nat_lt, Bool, true, false, ◌||�
 use Rattle.std.specs.{Prelude.{slice_get, unwrap_or, codes}, Str.bytes_eq}
 use Rattle.mpf_sections.specs.declared.words.CoilAction.{CoilAction, TheVariants.{Pulse, Enable, Disable}}
 use Rattle.setting_values.specs.Values.{WrittenName, Plain, KeyedValues}
-use Rattle.section_tables.specs.{Rows.{Entry, Player}, Shapes.Setting}
+use Rattle.section_tables.specs.{Rows.{Entry, PlayerEntry}, Shapes.Setting}
 use Rattle.mpf_tables.specs.SectionTables as tables
 pub use Rattle.mpf_tables.specs.SectionTables.{coils_name, coil_player_name, flippers_name, autofire_coils_name}
 use Rattle.mpf_sections.specs.Typed.{setting_of, field_of, text_of, flag_of, listed_events, listed_keyed, handled_in}
@@ -62,7 +62,7 @@ coil_item_of k = record {
   hold_power = power_in (field_of tables.coil_item (codes "hold_power") k.values);
 }
 
-unfoldable pub coil_player_of : Player → CoilPlayer
+unfoldable pub coil_player_of : PlayerEntry → CoilPlayer
 coil_player_of p = record { event = handled_in p.event; items = map coil_item_of (listed_keyed (Some p.value)) }
 
 -- ---- `flippers` and `autofire_coils`

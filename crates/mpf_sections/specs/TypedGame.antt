@@ -2,7 +2,7 @@
 use Rattle.std.specs.{Prelude.{ℕ, ℤ, pos, negsuc, if◌then◌else◌, List, map, Option, Some, codes}, Str.bytes_eq}
 use Rattle.machine_settings.specs.declared.words.VariableAction.{VariableAction, TheVariants.{Add, Set}}
 use Rattle.setting_values.specs.{Values.{Plain, number, KeyedValues}, ValueOf.within}
-use Rattle.section_tables.specs.Rows.{Entry, Player}
+use Rattle.section_tables.specs.Rows.{Entry, PlayerEntry}
 use Rattle.mpf_tables.specs.SectionTables as tables
 pub use Rattle.mpf_tables.specs.SectionTables.{variable_player_name, machine_section_name, game_name}
 use Rattle.mpf_sections.specs.Typed.{field_of, listed_keyed, handled_in, word_in, players_of, content_named, row_or}
@@ -27,7 +27,7 @@ variable_item_of k = record {
   number = change_in (field_of tables.variable_item (codes "int") k.values);
 }
 
-unfoldable pub variable_player_of : Player → VariablePlayer
+unfoldable pub variable_player_of : PlayerEntry → VariablePlayer
 variable_player_of p = record { event = handled_in p.event; items = map variable_item_of (listed_keyed (Some p.value)) }
 
 -- the entries of a section: of `variable_player` its own, of any other none

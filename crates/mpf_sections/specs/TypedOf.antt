@@ -4,7 +4,7 @@ use Rattle.setting_values.specs.declared.values.{Name.Name, Handler.Handler}
 use Rattle.setting_values.specs.declared.values.Fields as field_rows
 use Rattle.setting_values.specs.declared.values.KeyedValues as keyed_rows
 use Rattle.section_tables.specs.declared.rows.Entry as entry_rows
-use Rattle.section_tables.specs.declared.rows.Player as player_rows
+use Rattle.section_tables.specs.declared.rows.PlayerEntry as player_rows
 use Rattle.mpf_sections.specs.declared.section.Content as contents
 use Rattle.mpf_sections.specs.declared.{section.Section.Section, typed.{NameAt.NameAt, HandledAt.HandledAt}}
 use Rattle.mpf_sections.specs.declared.typed.Switch as typed_switches
@@ -53,11 +53,11 @@ abbrev pub IsSwitchOf : entry_rows.Entry → typed_switches.Switch → Type 0
 IsSwitchOf entry switch = switch_view switch ≡ switch_of (entry_view entry)
 
 -- what this entry of `event_player` posts, and at what event
-abbrev pub IsEventPlayerOf : player_rows.Player → typed_players.EventPlayer → Type 0
+abbrev pub IsEventPlayerOf : player_rows.PlayerEntry → typed_players.EventPlayer → Type 0
 IsEventPlayerOf player row = event_player_view row ≡ event_player_of (player_view player)
 
 -- what this entry of `coil_player` does with coils, and at what event
-abbrev pub IsCoilPlayerOf : player_rows.Player → typed_coil_players.CoilPlayer → Type 0
+abbrev pub IsCoilPlayerOf : player_rows.PlayerEntry → typed_coil_players.CoilPlayer → Type 0
 IsCoilPlayerOf player answer = coil_player_view answer ≡ coil_player_of (player_view player)
 
 -- what is done with the coil of this name
@@ -65,7 +65,7 @@ abbrev pub IsCoilItemOf : keyed_rows.KeyedValues → typed_coil_items.CoilItem �
 IsCoilItemOf pair item = coil_item_view item ≡ coil_item_of (keyed_view pair)
 
 -- what this entry of `variable_player` does with variables, and at what event
-abbrev pub IsVariablePlayerOf : player_rows.Player → typed_variable_players.VariablePlayer → Type 0
+abbrev pub IsVariablePlayerOf : player_rows.PlayerEntry → typed_variable_players.VariablePlayer → Type 0
 IsVariablePlayerOf player answer = variable_player_view answer ≡ variable_player_of (player_view player)
 
 -- what is done with the variable of this name
@@ -169,7 +169,7 @@ abbrev pub AreEntriesIn : contents.Content → List entry_rows.Entry → Type 0
 AreEntriesIn content entries = map entry_view entries ≡ entries_in (content_view content)
 
 -- the entries of a player that stand in a section
-abbrev pub ArePlayersIn : contents.Content → List player_rows.Player → Type 0
+abbrev pub ArePlayersIn : contents.Content → List player_rows.PlayerEntry → Type 0
 ArePlayersIn content players = map player_view players ≡ players_in (content_view content)
 
 -- the entries of a section, if it has this name
@@ -177,5 +177,5 @@ abbrev pub AreEntriesOf : List ℕ → Section → List entry_rows.Entry → Typ
 AreEntriesOf name section entries = map entry_view entries ≡ entries_of name (section_view section)
 
 -- the entries of a player, if its section has this name
-abbrev pub ArePlayersOf : List ℕ → Section → List player_rows.Player → Type 0
+abbrev pub ArePlayersOf : List ℕ → Section → List player_rows.PlayerEntry → Type 0
 ArePlayersOf name section players = map player_view players ≡ players_of name (section_view section)

@@ -9,7 +9,7 @@ use crate::typed::HandledAt;
 use crate::values::{field, flag, handled_event, keyed_values, power_in, pulse, text, word_field};
 use crate::words::CoilAction;
 use mpf_tables::tables::COILS;
-use section_tables::rows::{Entry, Player};
+use section_tables::rows::{Entry, PlayerEntry};
 use setting_values::values::{KeyedValues, Name};
 
 /// An entry of `coils`. Powers are in thousandths of full power.
@@ -156,7 +156,7 @@ pub fn as_coil_item(pair: &KeyedValues) -> CoilItem<'_>
 
 /// An entry of `coil_player`, by the names of what it has.
 #[tactic(auto, unfolding(crate::specs::TypedCoils::coil_player_of))]
-pub fn as_coil_player(player: &Player) -> CoilPlayer<'_>
+pub fn as_coil_player(player: &PlayerEntry) -> CoilPlayer<'_>
     ensures { IsCoilPlayerOf player.now result }
 {
     CoilPlayer {

@@ -10,7 +10,7 @@ use crate::typed::{HandledAt, section_named};
 use crate::values::{change, handled_event, keyed_values, word_field};
 use machine_settings::VariableAction;
 use mpf_tables::tables::{GAME, MACHINE, MACHINE_SECTION_NAME};
-use section_tables::rows::{Entry, Player};
+use section_tables::rows::{Entry, PlayerEntry};
 use setting_values::values::{KeyedValues, Name};
 
 /// What is done with a variable when an event is handled.
@@ -80,7 +80,7 @@ pub fn as_variable_item(pair: &KeyedValues) -> VariableItem<'_>
 
 /// An entry of `variable_player`, by the names of what it has.
 #[tactic(auto, unfolding(crate::specs::TypedGame::variable_player_of))]
-pub fn as_variable_player(player: &Player) -> VariablePlayer<'_>
+pub fn as_variable_player(player: &PlayerEntry) -> VariablePlayer<'_>
     ensures { IsVariablePlayerOf player.now result }
 {
     VariablePlayer {

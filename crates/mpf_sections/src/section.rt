@@ -1,6 +1,6 @@
 //! Sections by name, as written.
 
-use section_tables::rows::{Entry, Player};
+use section_tables::rows::{Entry, PlayerEntry};
 use setting_values::values::Name;
 
 /// The content of a section, as written.
@@ -9,7 +9,7 @@ pub enum Content {
     /// Entries by the table of the section.
     Entries(Vec<Entry>),
     /// The entries of a player.
-    Players(Vec<Player>),
+    Players(Vec<PlayerEntry>),
     /// The section is one entry, as `mode` is.
     Entry(Entry),
     /// The section is a list of names, as `modes` is.

@@ -15,7 +15,7 @@ use crate::values::{
 use crate::words::Debounce;
 use machine_settings::Contact;
 use mpf_tables::tables::{MODE_NAME, MODES_NAME};
-use section_tables::rows::{Entry, Player};
+use section_tables::rows::{Entry, PlayerEntry};
 use setting_values::values::{Guard, Handler, Name};
 
 /// A name where it is written.
@@ -153,7 +153,7 @@ pub fn as_switch(entry: &Entry) -> Switch<'_>
 
 /// An entry of `event_player`, by the names of what it has.
 #[tactic(auto, unfolding(crate::specs::Typed::event_player_of))]
-pub fn as_event_player(player: &Player) -> EventPlayer<'_>
+pub fn as_event_player(player: &PlayerEntry) -> EventPlayer<'_>
     ensures { IsEventPlayerOf player.now result }
 {
     EventPlayer {
@@ -278,7 +278,7 @@ impl Content {
         }
     }
 
-    fn players(&self) -> &[Player]
+    fn players(&self) -> &[PlayerEntry]
         ensures { ArePlayersIn self.now result.now }
     {
         match self {
@@ -301,7 +301,7 @@ impl Section {
     }
 
     /// The entries of the player, if the section has this name; none otherwise.
-    pub fn players_of(&self, name: &[u8]) -> &[Player]
+    pub fn players_of(&self, name: &[u8]) -> &[PlayerEntry]
         ensures { ArePlayersOf name.now self.now result.now }
     {
         if self.name.as_slice() == name {

@@ -5,14 +5,15 @@ use Rattle.mpf_config.specs.{Rows.{Rows, RowsFault}, Reading.rows_at}
 use Rattle.written_machine.specs.CheckedView.{CheckedView}
 use Rattle.config_checker.specs.{CertificateText.certificate_text, Checking.{FaultView, checked_at}}
 use Rattle.config_checker.proofs.{ReadBack.read-again, CertificateLength.certificate-few}
-use Rattle.pinball_shell.specs.{Reply.{Answer, answer_of, reply_of, reply_to, reply_with}, CheckOutput.verify_output}
+use Rattle.pinball_shell.specs.Reply.{CheckAnswer, answer_of, reply_of, reply_to, reply_with}
+use Rattle.pinball_shell.specs.CheckOutput.{verify_output}
 use Rattle.pinball_shell.specs.CheckOutput.{notes_text, acceptance_text, verification_text, reply_text, check_output}
 
 -- an answer with something accepted is that of the checker
 accepted_is : (found : Result CheckedView (List FaultView)) (c : CheckedView) → answer_of found ≡ Ok c → found ≡ Ok c
-accepted_is (Ok d) c is = ap (λ (a : Answer). found_of a) is
+accepted_is (Ok d) c is = ap (λ (a : CheckAnswer). found_of a) is
   where
-    found_of : Answer → Result CheckedView (List FaultView)
+    found_of : CheckAnswer → Result CheckedView (List FaultView)
     found_of (Ok e) = Ok e
     found_of (Err r) = Ok d
 accepted_is (Err faults) c is = absurd cc

@@ -3,7 +3,7 @@ use Rattle.std.specs.{Prelude.{ℕ, List, [], ◌∷◌, ◌++◌, Ok, Err, code
 use Rattle.mpf_config.specs.{Rows.Note, FaultLine.fault_line, NoteLine.note_line}
 use Rattle.written_machine.specs.CheckedView.{CheckedView}
 use Rattle.config_checker.specs.{CertificateText.{bound_line, certificate_text}, ReportText.report_text}
-use Rattle.pinball_shell.specs.Reply.{RefusalView, unread, unfit, Answer, Reply, reply_to, reply_with}
+use Rattle.pinball_shell.specs.Reply.{RefusalView, unread, unfit, CheckAnswer, Reply, reply_to, reply_with}
 
 -- a line for each note, in order
 abbrev pub notes_text : List Note → List ℕ
@@ -26,7 +26,7 @@ refusal_lines (unfit faults) = report_text faults
 unfoldable pub refusal_text : RefusalView → List ℕ
 refusal_text r = refusal_lines r ++ codes "no" ++ 10 ∷ []
 
-abbrev pub answer_text : (CheckedView → List ℕ) → Answer → List ℕ
+abbrev pub answer_text : (CheckedView → List ℕ) → CheckAnswer → List ℕ
 answer_text text_of (Ok c) = text_of c
 answer_text text_of (Err r) = refusal_text r
 
@@ -43,7 +43,7 @@ abbrev pub verify_output : List ℕ → List ℕ → List ℕ
 verify_output certificate bundle = reply_text verification_text (reply_with certificate bundle)
 
 -- nothing for a yes, and a refusal as it is printed
-abbrev pub where_refused : Answer → List ℕ → List ℕ
+abbrev pub where_refused : CheckAnswer → List ℕ → List ℕ
 where_refused (Ok c) text = []
 where_refused (Err r) text = text
 

@@ -11,15 +11,15 @@ pub data RefusalView : Type 0 where
   unfit : List FaultView → RefusalView
 
 -- what was accepted, or why nothing was
-abbrev pub Answer : Type 0
-Answer = Result CheckedView RefusalView
+abbrev pub CheckAnswer : Type 0
+CheckAnswer = Result CheckedView RefusalView
 
 -- the notes on the rows of a bundle, and the answer
 pub record Reply : Type 0 where
   pub notes : List Note
-  pub answer : Answer
+  pub answer : CheckAnswer
 
-abbrev pub answer_of : Result CheckedView (List FaultView) → Answer
+abbrev pub answer_of : Result CheckedView (List FaultView) → CheckAnswer
 answer_of (Ok c) = Ok c
 answer_of (Err faults) = Err (unfit faults)
 
@@ -41,7 +41,7 @@ reply_to bundle = reply_of None (rows_at bundle)
 abbrev pub reply_with : List ℕ → List ℕ → Reply
 reply_with certificate bundle = reply_of (Some certificate) (rows_at bundle)
 
-abbrev pub verdict_on : Answer → Verdict
+abbrev pub verdict_on : CheckAnswer → Verdict
 verdict_on (Ok c) = Yes
 verdict_on (Err r) = Refused
 
@@ -49,7 +49,7 @@ abbrev pub verdict_of : Reply → Verdict
 verdict_of r = verdict_on r.answer
 
 -- what was accepted, if it was
-abbrev pub accepted_by : Answer → Option CheckedView
+abbrev pub accepted_by : CheckAnswer → Option CheckedView
 accepted_by (Ok c) = Some c
 accepted_by (Err r) = None
 

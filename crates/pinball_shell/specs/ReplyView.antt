@@ -7,14 +7,14 @@ use Rattle.config_checker.specs.View as checked_views
 use Rattle.pinball_shell.specs.declared.reply.{BundleRefusal.BundleRefusal, Reply.Reply as HeldReply}
 use Rattle.pinball_shell.specs.declared.reply.BundleRefusal.TheVariants as refusals
 use Rattle.pinball_shell.specs.{declared.fault.Verdict.Verdict, Reply.{reply_with, verdict_of}, CheckOutput.reply_text}
-use Rattle.pinball_shell.specs.Reply.{RefusalView, unread, unfit, Answer, Reply, answer_of, checked_by, reply_of}
+use Rattle.pinball_shell.specs.Reply.{RefusalView, unread, unfit, CheckAnswer, Reply, answer_of, checked_by, reply_of}
 use Rattle.pinball_shell.specs.CheckOutput.{notes_text, refusal_lines, refusal_text, acceptance_text, verification_text}
 
 abbrev pub refusal_view : BundleRefusal → RefusalView
 refusal_view (refusals.Unread f) = unread (rows_views.rows_fault_view f)
 refusal_view (refusals.Unfit faults) = unfit (map checked_views.fault_view faults.items)
 
-abbrev pub answer_view : Result CheckedView BundleRefusal → Answer
+abbrev pub answer_view : Result CheckedView BundleRefusal → CheckAnswer
 answer_view (Ok c) = Ok c
 answer_view (Err r) = Err (refusal_view r)
 

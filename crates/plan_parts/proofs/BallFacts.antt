@@ -5,12 +5,12 @@ use Rattle.std.proofs.Common.{rules, ◌≡◌, ℕ, Bool, true, false, if◌the
 use Rattle.std.proofs.{Common.codes, lemmas.List.{length-map, Elements.{All-nil, All-cons, All-append}}}
 use Rattle.std.specs.{Prelude.{Option, None, Some, IfSome, slice_index_or}, Str.bytes_eq, List.All}
 use Rattle.mpf_sections.specs.Rows as sections
-use Rattle.mpf_sections.specs.Rows.{WrittenName, Entry, Player, Shot, BallDeviceEntry, ModeSettings, Content, entries}
-use Rattle.mpf_sections.specs.{Rows.{players, SectionRows}, TypedBalls.ball_device_of}
+use Rattle.mpf_sections.specs.Rows.{WrittenName, Entry, PlayerEntry, Shot, BallDeviceEntry, ModeSettings, Content}
+use Rattle.mpf_sections.specs.Rows.{entries, players, SectionRows}
+use Rattle.mpf_sections.specs.{TypedBalls.ball_device_of, TypedShots.{shot_of, shot_group_of}}
 use Rattle.mpf_sections.specs.Typed.{switches_name, event_player_name, switch_of, event_player_of, mode_settings}
 use Rattle.mpf_sections.specs.TypedCoils.{coils_name, coil_player_name, coil_of, coil_player_of}
 use Rattle.mpf_sections.specs.TypedGame.{variable_player_name, game_name, variable_player_of, game_of}
-use Rattle.mpf_sections.specs.TypedShots.{shot_of, shot_group_of}
 use Rattle.mpf_config.specs.Rows.{Rows}
 use Rattle.machine_definitions.specs.Shots.{Profile, has_profile, profile_of_name}
 use Rattle.plan_tables.specs.declared.{devices.Settings.Settings, entries.ModeId.ModeId}
@@ -159,7 +159,8 @@ module _ (rows : Rows) (whose : Whose) where
   in_alone Control section e = All-nil IsRight
   in_alone Mode section e = All-nil IsRight
 
-  in_player : (place : Place) (section : List ℕ) (p : Player) → Are (row_parts machine whose (player place section p))
+  in_player : (place : Place) (section : List ℕ) (p : PlayerEntry)
+      → Are (row_parts machine whose (player place section p))
   unfolding row_parts player_parts
   in_player place section p = by (bytes_eq section event_player_name) (bytes_eq section coil_player_name)
       (bytes_eq section variable_player_name)
@@ -211,7 +212,7 @@ module _ (rows : Rows) (whose : Whose) where
   in_text : (place : Place) (n : ℕ) (ss : List SectionRows) → Are (text_parts rows whose place n ss)
   in_text place n ss =
       let any_entry : List ℕ → Entry → Type 0 = λ section e. Unit {0} in
-      let any_player : List ℕ → Player → Type 0 = λ section p. Unit {0} in
+      let any_player : List ℕ → PlayerEntry → Type 0 = λ section p. Unit {0} in
       text_each rows whose place n ss IsRight any_entry any_player
       (record {
         shot = λ section e h is. in_shot place (seat_of place n ss) (shot_of e);

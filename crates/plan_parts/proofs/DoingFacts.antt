@@ -7,8 +7,8 @@ use Rattle.std.specs.{Str.bytes_eq, List.{All, AllPairs, flat_map, list_any}}
 use Rattle.std.proofs.lemmas.List.Elements.{All-nil, All-cons, All-head, All-tail, All-append, All-map, All-weaker}
 use Rattle.mpf_values.specs.Events.{Event}
 use Rattle.mpf_sections.specs.Rows as sections
-use Rattle.mpf_sections.specs.Rows.{WrittenName, Entry, Player, Shot, ShotGroup, BallDeviceEntry, ModeSettings, Content}
-use Rattle.mpf_sections.specs.{Rows.{entries, players, SectionRows}, CoilRules.{CoilRule, coil_rule_of}}
+use Rattle.mpf_sections.specs.Rows.{WrittenName, Entry, PlayerEntry, Shot, ShotGroup, BallDeviceEntry, ModeSettings}
+use Rattle.mpf_sections.specs.{Rows.{Content, entries, players, SectionRows}, CoilRules.{CoilRule, coil_rule_of}}
 use Rattle.mpf_sections.specs.Typed.{switches_name, event_player_name, switch_of, event_player_of, mode_settings}
 use Rattle.mpf_sections.specs.Typed.{switches_in, event_players_in, counter_of, step_block_of, timer_of}
 use Rattle.mpf_sections.specs.TypedCoils.{coils_name, coil_player_name, coil_of, coil_player_of, coil_players_in}
@@ -239,7 +239,7 @@ module _ (P : Effect → Type 0) (S L : List ℕ → Type 0) where
         by false false hs h = in_where whose (machine_device machine whose section e) h
             (machine_apart machine whose section e)
 
-    in_player : (place : Place) (section : List ℕ) (p : Player)
+    in_player : (place : Place) (section : List ℕ) (p : PlayerEntry)
         → Where (bytes_eq section event_player_name) (IsPlayerDoing P S L (event_player_of p))
         → Where (bytes_eq section coil_player_name) (IsCoilPlayerDoing P S L rows (coil_player_of p))
         → Where (bytes_eq section variable_player_name) (IsVariablePlayerDoing P S L (variable_player_of p))
@@ -284,7 +284,7 @@ module _ (P : Effect → Type 0) (S L : List ℕ → Type 0) where
 
     -- ---- sections
 
-    in_players : (place : Place) (s : SectionRows) (ps : List Player)
+    in_players : (place : Place) (s : SectionRows) (ps : List PlayerEntry)
         → All (IsPlayerDoing P S L) (map event_player_of (if bytes_eq s.name event_player_name then ps else []))
         → All (IsCoilPlayerDoing P S L rows) (map coil_player_of (if bytes_eq s.name coil_player_name then ps else []))
         → All (IsVariablePlayerDoing P S L)

@@ -5,7 +5,7 @@ use Rattle.std.specs.{Prelude.{Option, None, Some}, Str.bytes_eq, List.flat_map}
 use Rattle.std.proofs.lemmas.{Grind.flat_map-append, List.{map-append, append-nil}, Slice.Eq.bytes_eq-Decides}
 use Rattle.mpf_values.specs.Events.{Event}
 use Rattle.mpf_sections.specs.Rows as sections
-use Rattle.mpf_sections.specs.Rows.{WrittenName, Entry, Player, Shot, ModeSettings, Content, entries, players}
+use Rattle.mpf_sections.specs.Rows.{WrittenName, Entry, PlayerEntry, Shot, ModeSettings, Content, entries, players}
 use Rattle.mpf_sections.specs.{Rows.SectionRows, TypedBalls.ball_device_of}
 use Rattle.mpf_sections.specs.Typed.{entries_of, switches_name, event_player_name, switch_of, event_player_of}
 use Rattle.mpf_sections.specs.{Typed.{mode_settings, switches_in}, TypedShots.{shot_of, shot_group_of}}
@@ -136,7 +136,7 @@ module _ {X : Type 0} (tell : Part → List X) (quiet : IsQuiet tell) where
         (silent_unknown (is_known (to d.target.text))) (one (device whose ball) (quiet.devices whose ball)))
         other
 
-    silent_player : (place : Place) (section : List ℕ) (p : Player) → IsSilentRow (player place section p)
+    silent_player : (place : Place) (section : List ℕ) (p : PlayerEntry) → IsSilentRow (player place section p)
     unfolding row_parts player_parts
     silent_player place section p =
         let event = event_player_of p in

@@ -4,7 +4,7 @@ use Rattle.std.specs.{Prelude.{Option, None, Some, IfSome}, List.All}
 use Rattle.std.proofs.lemmas.List.Elements.{All-nil, All-cons, All-append, All-map, All-weaker}
 use Rattle.mpf_values.specs.Events.{Event}
 use Rattle.mpf_config.specs.{Rows.Rows, Named.IsNamedMode}
-use Rattle.mpf_sections.specs.Rows.{HandledEvent, Entry, Player, ModeSettings}
+use Rattle.mpf_sections.specs.Rows.{HandledEvent, Entry, PlayerEntry, ModeSettings}
 use Rattle.mpf_sections.specs.Rows.{Content, entries, players, entry as single, name_list, SectionRows}
 use Rattle.mpf_sections.specs.Named.{IsName, IsNamedEntry, IsNamedPlayer, IsNamedHandled, AllNamedEvents}
 use Rattle.mpf_sections.specs.Named.{AreNamedSettings, IsNamedContent, IsNamed}
@@ -39,7 +39,7 @@ module _ (P : List ℕ → Type 0) where
     abbrev E : List ℕ → Entry → Type 0
     E section e = IsNamedEntry e
 
-    abbrev L : List ℕ → Player → Type 0
+    abbrev L : List ℕ → PlayerEntry → Type 0
     L section p = IsNamedPlayer p
 
     -- ---- a text

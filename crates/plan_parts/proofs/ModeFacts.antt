@@ -5,7 +5,7 @@ use Rattle.std.specs.{Prelude.{Option, IfSome}, List.{All, flat_map}}
 use Rattle.std.proofs.lemmas.List.Elements.{All-nil, All-cons, All-head, All-tail, All-append, All-map}
 use Rattle.mpf_values.specs.Events.{Event}
 use Rattle.mpf_config.specs.Rows.{ModeRows, Rows}
-use Rattle.mpf_sections.specs.Rows.{Entry, Player, ModeSettings, Content, entries, players}
+use Rattle.mpf_sections.specs.Rows.{Entry, PlayerEntry, ModeSettings, Content, entries, players}
 use Rattle.mpf_sections.specs.{Rows.{entry as single, name_list, SectionRows}, Typed.mode_settings, TypedShots.shot_of}
 use Rattle.plan_tables.specs.declared.entries.ModeId.{ModeId}
 use Rattle.plan_rows.specs.{declared.place.Place.{Place, TheVariants.{Machine, Mode}}, Seats.rows_after_text}
@@ -23,7 +23,7 @@ if_device whose x1 = search rules
 abbrev E : List ℕ → Entry → Type 0
 E section e = Unit {0}
 
-abbrev L : List ℕ → Player → Type 0
+abbrev L : List ℕ → PlayerEntry → Type 0
 L section p = Unit {0}
 
 any : (s : SectionRows) → IsSuch E L s

@@ -8,7 +8,7 @@ use Rattle.std.proofs.lemmas.{Grind.flat_map-append, Option.slice_get_within}
 use Rattle.std.proofs.lemmas.List.Elements.{All-nil, All-cons, All-append, All-map, All-weaker}
 use Rattle.mpf_values.specs.Events.{Event}
 use Rattle.mpf_config.specs.{Rows.Rows, Short.{IsShortMode, AreListsShort}, States.HaveStates}
-use Rattle.mpf_sections.specs.Rows.{WrittenName, Entry, Player, Shot, BallDeviceEntry, ModeSettings, Content}
+use Rattle.mpf_sections.specs.Rows.{WrittenName, Entry, PlayerEntry, Shot, BallDeviceEntry, ModeSettings, Content}
 use Rattle.mpf_sections.specs.Rows.{entries, players, entry as single, name_list, SectionRows}
 use Rattle.mpf_sections.specs.{Typed.{event_player_of, mode_settings}, TypedCoils.{coil_of, coil_player_of}}
 use Rattle.mpf_sections.specs.TypedGame.{game_name, game_of, min_balls_of, variable_player_of}
@@ -165,7 +165,7 @@ module _ (rows : Rows) where
   abbrev E : List ℕ → Entry → Type 0
   E section e = AreListsShort rows → IsShortEntry 1024 e
 
-  abbrev L : List ℕ → Player → Type 0
+  abbrev L : List ℕ → PlayerEntry → Type 0
   L section p = AreListsShort rows → IsShortPlayer 1024 p
 
   module _ (whose : Whose) (place : Place) (n : ℕ) (ss : List SectionRows) (at : IsTextOf rows whose place n ss) where

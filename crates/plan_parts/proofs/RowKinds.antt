@@ -1,7 +1,7 @@
 -- What an entry gives, by the name of its section.
 use Rattle.std.proofs.Common.{◌≡◌, ◌≤◌, true, false, ℕ, Option, None, Some, List, [], ◌∷◌, length, map, refl, sym, ap}
 use Rattle.std.{proofs.Common.◌∙◌, specs.{Prelude.slice_get, Str.bytes_eq}}
-use Rattle.mpf_sections.{specs.Rows.{Entry, Player, Shot, SectionRows}, proofs.ShotRows.few_short}
+use Rattle.mpf_sections.{specs.Rows.{Entry, PlayerEntry, Shot, SectionRows}, proofs.ShotRows.few_short}
 use Rattle.mpf_sections.specs.{TypedBalls.ball_device_of, CoilRules.{CoilRule, coil_rule_of}}
 use Rattle.mpf_sections.specs.Typed.{switches_name, event_player_name, switch_of, event_player_of, listed_names}
 use Rattle.mpf_sections.specs.TypedGame.{variable_player_name, variable_player_of}
@@ -43,7 +43,7 @@ module _ (machine : List SectionRows) (section : List ℕ) where
             → where_some (device whose) (device_of section e) ≡ machine_entry_parts machine whose section e
         device_there is = ap given_by is ∙ machine_device_there
 
-  module _ (p : Player) (whose : Whose) where
+  module _ (p : PlayerEntry) (whose : Whose) where
     pub event_player_there : bytes_eq section event_player_name ≡ true
         → handler whose (event_player_of p).event.event (run (map posts (texts (event_player_of p).posts))) ∷ []
         ≡ player_parts machine whose section p

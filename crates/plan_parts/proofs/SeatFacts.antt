@@ -9,7 +9,7 @@ use Rattle.std.proofs.lemmas.{Grind.flat_map-append, List.Folds.list_any-append,
 use Rattle.std.proofs.lemmas.List.Elements.{All-nil, All-cons, All-tail, All-append, All-weaker}
 use Rattle.yaml_subset.specs.Keys.{is_among}
 use Rattle.mpf_values.specs.Events.{Event}
-use Rattle.mpf_sections.specs.Rows.{WrittenName, Entry, Player, Shot, Content, entries, players, entry as single}
+use Rattle.mpf_sections.specs.Rows.{WrittenName, Entry, PlayerEntry, Shot, Content, entries, players, entry as single}
 use Rattle.mpf_sections.specs.{Rows.{name_list, SectionRows}, Typed.timer_of}
 use Rattle.mpf_sections.{specs.TypedGame.{variable_player_name, game_name}, proofs.CoilRows.coil_rule_some}
 use Rattle.mpf_sections.specs.CoilRules.{CoilRule, coil_rule_of, coil_rule_sections}
@@ -300,14 +300,14 @@ module _ (whose : Whose) where
     none_if : (b : Bool) (ps qs : List Part) → marks ps ≡ [] → marks qs ≡ [] → marks (if b then ps else qs) ≡ []
     none_if x1 ps qs first other = search rules
 
-    player_gives : (section : List ℕ) (p : Player) → given (player place section p) ≡ []
+    player_gives : (section : List ℕ) (p : PlayerEntry) → given (player place section p) ≡ []
     unfolding row_parts player_parts
     player_gives section p =
         none_if (bytes_eq section event_player_name) _ _ refl
         (none_if (bytes_eq section coil_player_name) _ _ refl
         (none_if (bytes_eq section variable_player_name) _ _ refl refl))
 
-    players_give : (name : List ℕ) (ps : List Player) → all_given (map (player place name) ps) ≡ []
+    players_give : (name : List ℕ) (ps : List PlayerEntry) → all_given (map (player place name) ps) ≡ []
     players_give name [] = refl
     players_give name (p ∷ ps) =
         all_given-cons (player place name p) (map (player place name) ps) ∙

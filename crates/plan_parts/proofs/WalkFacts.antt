@@ -2,7 +2,7 @@
 use Rattle.std.proofs.Common.{rules, ◌≡◌, ℕ, Bool, true, if◌then◌else◌, List, [], ◌∷◌, ◌++◌, map, get_or, refl}
 use Rattle.std.specs.{Prelude.{Option, None, Some, IfSome}, Str.bytes_eq, List.All}
 use Rattle.std.proofs.lemmas.List.Elements.{All-nil, All-cons, All-append, All-map}
-use Rattle.mpf_sections.specs.Rows.{WrittenName, Entry, Player, Shot, Content, entries, players, entry as single}
+use Rattle.mpf_sections.specs.Rows.{WrittenName, Entry, PlayerEntry, Shot, Content, entries, players, entry as single}
 use Rattle.mpf_sections.specs.{Rows.{name_list, SectionRows}, TypedBalls.{ball_devices_name, ball_device_of}}
 use Rattle.mpf_sections.specs.TypedShots.{shots_name, shot_groups_name, shot_of, shot_group_of}
 use Rattle.mpf_sections.specs.Typed.{switches_name, event_player_name, switch_of, event_player_of}
@@ -50,19 +50,19 @@ entry_such R rows place seat to section e of_shot of_group of_ball other =
     by x1 x2 x3 x4 = search (rules, in_other)
 
 -- E holds of each entry of a section, and L of each entry of a player
-abbrev pub IsSuchContent : (List ℕ → Entry → Type 0) → (List ℕ → Player → Type 0) → List ℕ → Content → Type 0
+abbrev pub IsSuchContent : (List ℕ → Entry → Type 0) → (List ℕ → PlayerEntry → Type 0) → List ℕ → Content → Type 0
 IsSuchContent E L section (entries es) = All (E section) es
 IsSuchContent E L section (players ps) = All (L section) ps
 IsSuchContent E L section (single e) = E section e
 IsSuchContent E L section (name_list ws) = Unit {0}
 
-abbrev pub IsSuch : (List ℕ → Entry → Type 0) → (List ℕ → Player → Type 0) → SectionRows → Type 0
+abbrev pub IsSuch : (List ℕ → Entry → Type 0) → (List ℕ → PlayerEntry → Type 0) → SectionRows → Type 0
 IsSuch E L s = IsSuchContent E L s.name s.content
 
 -- ---- the parts of a text
 
 module _ (rows : Rows) (whose : Whose) (place : Place) (n : ℕ) (ss : List SectionRows) (Q : Part → Type 0)
-    (E : List ℕ → Entry → Type 0) (L : List ℕ → Player → Type 0) where
+    (E : List ℕ → Entry → Type 0) (L : List ℕ → PlayerEntry → Type 0) where
   abbrev seat : List ℕ → Option Seat
   seat = seat_of place n ss
 
@@ -82,7 +82,7 @@ module _ (rows : Rows) (whose : Whose) (place : Place) (n : ℕ) (ss : List Sect
         → bytes_eq section ball_devices_name ≡ true → OfRow (ball_device_row to (ball_device_of e))
     pub entry : (section : List ℕ) (e : Entry) → E section e → OfRow (entry place section e)
     pub alone : (section : List ℕ) (e : Entry) → E section e → OfRow (alone place section e)
-    pub player : (section : List ℕ) (p : Player) → L section p → OfRow (player place section p)
+    pub player : (section : List ℕ) (p : PlayerEntry) → L section p → OfRow (player place section p)
 
   module _ (each : EachRow) where
     of_content : (s : SectionRows) → IsSuch E L s → All OfRow (rows_from rows place seat to s.name s.content)
@@ -135,12 +135,12 @@ module _ (rows : Rows) (whose : Whose) (place : Place) (n : ℕ) (ss : List Sect
         → IfDevice (machine_device rows.machine whose section e)
     pub devices : (section : List ℕ) (e : Entry) → E section e → IfDevice (device_of section e)
     pub games : (section : List ℕ) (e : Entry) → E section e → Q (game_part rows.machine whose (game_of e))
-    pub event_players : (section : List ℕ) (p : Player) → L section p
+    pub event_players : (section : List ℕ) (p : PlayerEntry) → L section p
         → Q (handler whose (event_player_of p).event.event (run (map posts (texts (event_player_of p).posts))))
-    pub coil_players : (section : List ℕ) (p : Player) → L section p
+    pub coil_players : (section : List ℕ) (p : PlayerEntry) → L section p
         → Q (handler whose (coil_player_of p).event.event
         (run (map (item_effect rows.machine) (coil_player_of p).items)))
-    pub variable_players : (section : List ℕ) (p : Player) → L section p
+    pub variable_players : (section : List ℕ) (p : PlayerEntry) → L section p
         → Q (handler whose (variable_player_of p).event.event (run (map item_change (variable_player_of p).items)))
 
   module _ (each : EachPart) where
@@ -185,7 +185,7 @@ module _ (rows : Rows) (whose : Whose) (place : Place) (n : ℕ) (ss : List Sect
         either (bytes_eq section game_name) _ _ (one _ (each.games section e is)) (All-nil Q)
     in_alone _ section e is = All-nil Q
 
-    in_player : (section : List ℕ) (p : Player) → L section p → All Q (player_parts rows.machine whose section p)
+    in_player : (section : List ℕ) (p : PlayerEntry) → L section p → All Q (player_parts rows.machine whose section p)
     unfolding player_parts
     in_player section p is =
         either (bytes_eq section event_player_name) _ _ (one _ (each.event_players section p is))

@@ -1,7 +1,7 @@
 -- What rows give to a plan, as the program has them.
 use Rattle.std.specs.Prelude.{ℕ, Bool, ◌≡◌, List, [], ◌∷◌, ◌++◌, map, Option, option_map}
 use Rattle.section_tables.specs.declared.rows.Entry as entry_rows
-use Rattle.section_tables.specs.declared.rows.Player as player_rows
+use Rattle.section_tables.specs.declared.rows.PlayerEntry as player_rows
 use Rattle.mpf_sections.specs.declared.typed.Switch as typed_switches
 use Rattle.mpf_sections.specs.declared.typed.EventPlayer as typed_players
 use Rattle.mpf_sections.specs.declared.typed.ModeSettings as typed_settings
@@ -105,7 +105,7 @@ machine_entry_gives machine section e whose = machine_entry_parts machine whose 
 abbrev pub alone_gives : List SectionRows → Place → List ℕ → entry_rows.Entry → Whose → List Part
 alone_gives machine place section e whose = alone_parts machine whose place section (entry_view e)
 
-abbrev pub player_entry_gives : List SectionRows → List ℕ → player_rows.Player → Whose → List Part
+abbrev pub player_entry_gives : List SectionRows → List ℕ → player_rows.PlayerEntry → Whose → List Part
 player_entry_gives machine section p whose = player_parts machine whose section (player_view p)
 
 abbrev pub device_entry_gives : List ℕ → entry_rows.Entry → Whose → List Part

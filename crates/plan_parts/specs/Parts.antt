@@ -4,7 +4,7 @@ use Rattle.std.specs.{Prelude.{None, Some, codes}, List.{flat_map, list_any}, St
 use Rattle.mpf_values.specs.Events.{Event}
 use Rattle.mpf_config.specs.Rows.{ModeRows, Rows}
 use Rattle.mpf_sections.specs.declared.words.Debounce.{Debounce, TheVariants.{Auto, Quick, Normal}}
-use Rattle.mpf_sections.specs.Rows.{WrittenName, Entry, Player, Switch, Coil, GameSettings, Shot, ModeSettings}
+use Rattle.mpf_sections.specs.Rows.{WrittenName, Entry, PlayerEntry, Switch, Coil, GameSettings, Shot, ModeSettings}
 use Rattle.mpf_sections.specs.{Rows.SectionRows, CoilRules.coil_rule_of}
 use Rattle.mpf_sections.specs.Typed.{mode_settings, switches_name, event_player_name, switch_of, event_player_of}
 use Rattle.mpf_sections.specs.TypedCoils.{coils_name, coil_player_name, coil_of, coil_player_of}
@@ -168,7 +168,7 @@ module _ (machine : List SectionRows) (whose : Whose) where
   alone_parts _ section e = []
 
   -- an entry of a player: one handler, whose list does what the entry says, in order
-  unfoldable pub player_parts : List ℕ → Player → List Part
+  unfoldable pub player_parts : List ℕ → PlayerEntry → List Part
   player_parts section p =
       if bytes_eq section event_player_name
       then handler whose (event_player_of p).event.event (run (map posts (texts (event_player_of p).posts))) ∷ []

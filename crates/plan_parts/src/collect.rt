@@ -21,7 +21,7 @@ use crate::row_parts::{HandledName, ModeControl, RowHead, RowParts, RowText, Who
 use machine_definitions::Definitions;
 use mpf_config::{
     COIL_PLAYER_NAME, COILS_NAME, Debounce, EVENT_PLAYER_NAME, Entry, EventPlayer, GAME_NAME,
-    GameSettings, ModeSettings, Name, Player, SWITCHES_NAME, Switch, VARIABLE_PLAYER_NAME,
+    GameSettings, ModeSettings, Name, PlayerEntry, SWITCHES_NAME, Switch, VARIABLE_PLAYER_NAME,
     as_ball_device, as_coil, as_coil_player, as_event_player, as_game, as_shot, as_shot_group,
     as_switch, as_variable_player, mode_settings,
 };
@@ -133,7 +133,7 @@ fn collect_player<'a>(
     parts: &mut RowParts<'a>,
     definitions: &Definitions<'_>,
     section: &[u8],
-    player: &'a Player,
+    player: &'a PlayerEntry,
 ) -> Result<(), AllocError>
     ensures { OnOk result (Gives parts.old parts.new
         (player_entry_gives definitions.now.machine section.now player.now)) }

@@ -3,7 +3,7 @@ use Rattle.std.specs.{Prelude.{◌≡◌, ℕ, Bool, List, ◌++◌, fold, map},
 use Rattle.std.specs.{List.list_any, Str.bytes_eq, Borrow.Bor, Global.Vec}
 use Rattle.section_tables.specs.declared.rows.Entry as written_entries
 use Rattle.setting_values.specs.declared.values.Name.{Name}
-use Rattle.section_tables.specs.declared.rows.Player as written_players
+use Rattle.section_tables.specs.declared.rows.PlayerEntry as written_players
 use Rattle.mpf_sections.specs.{declared.section.Section.Section, TypedShots.{shot_of, shot_group_of}}
 use Rattle.mpf_sections.specs.{Rows.{WrittenName, Entry}, TypedBalls.ball_device_of}
 use Rattle.mpf_sections.specs.View.{name_view, entry_view, player_view, section_view}
@@ -129,7 +129,7 @@ row_of_ball_device seats_so_far e = ball_device_row (found_destination seats_so_
     (ball_device_of (entry_view e))
 
 -- the entries of a player
-abbrev pub rows_of_players : Place → List ℕ → List written_players.Player → List Row
+abbrev pub rows_of_players : Place → List ℕ → List written_players.PlayerEntry → List Row
 rows_of_players place section ps = map (player place section) (map player_view ps)
 
 -- a text, and a mode with its text, before which come so many rows of devices

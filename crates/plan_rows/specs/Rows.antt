@@ -1,7 +1,7 @@
 -- The rows of a configuration, in plan order.
 use Rattle.std.specs.{Prelude.{ℕ, Bool, if◌then◌else◌, List, [], ◌∷◌, ◌++◌, map, Option}, List.flat_map, Str.bytes_eq}
-use Rattle.mpf_sections.specs.Rows.{Entry, Player, ModeSettings, Content, entries, players, entry as single, name_list}
-use Rattle.mpf_sections.specs.Rows.{SectionRows, Shot, ShotGroup, BallDeviceEntry}
+use Rattle.mpf_sections.specs.Rows.{Entry, PlayerEntry, ModeSettings, Content, entries, players, entry as single}
+use Rattle.mpf_sections.specs.Rows.{name_list, SectionRows, Shot, ShotGroup, BallDeviceEntry}
 use Rattle.mpf_config.specs.Rows.{ModeRows, Rows}
 use Rattle.mpf_sections.specs.{Typed.mode_settings, TypedBalls.{ball_devices_name, ball_device_of}}
 use Rattle.plan_rows.specs.declared.place.Place.{Place, TheVariants.{Machine, Control, Mode}}
@@ -20,7 +20,7 @@ pub data Row : Type 0 where
   shot : Place → Shot → Option Seat → Bool → Profile → Row
   group : Place → ShotGroup → Members → Row
   ball_device : BallDeviceEntry → Destination → Row
-  player : Place → List ℕ → Player → Row
+  player : Place → List ℕ → PlayerEntry → Row
   of_mode : List ℕ → ModeSettings → Row
 
 -- Here `seat` says of a name which seat the shot of this name has, if it has one.

@@ -17,7 +17,7 @@ use crate::seats::{Seat, Seats, seats_of};
 use machine_definitions::{Definitions, Profile};
 use mpf_config::config::ModeText;
 use mpf_config::{
-    BALL_DEVICES_NAME, Content, Entry, Player, SHOT_GROUPS_NAME, SHOTS_NAME, Section,
+    BALL_DEVICES_NAME, Content, Entry, PlayerEntry, SHOT_GROUPS_NAME, SHOTS_NAME, Section,
     as_ball_device, as_shot, as_shot_group,
 };
 use std::alloc::{AllocError, Global};
@@ -36,7 +36,7 @@ pub enum Row<'d, 'a> {
     /// A ball device of the machine text, with where it ejects its balls to.
     BallDevice(&'a Entry, Destination),
     /// An entry of a player in the section of this name, whose bindings have this place.
-    Player(Place, &'a [u8], &'a Player),
+    Player(Place, &'a [u8], &'a PlayerEntry),
     /// A mode by its name, with the sections of its text.
     Mode(&'a [u8], &'a [Section]),
 }
@@ -167,7 +167,7 @@ fn add_players<'d, 'a>(
     rows: &mut Vec<Row<'d, 'a>>,
     place: Place,
     section: &'a [u8],
-    players: &'a [Player],
+    players: &'a [PlayerEntry],
 ) -> Result<(), AllocError>
     ensures { OnOk result (Gains rows.old rows.new (rows_of_players place section.now players.now)) }
 {

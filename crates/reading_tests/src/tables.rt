@@ -7,7 +7,7 @@ use crate::{balls, saves, shots};
 use config_faults::ConfigFault;
 use mpf_sections::as_handled;
 use mpf_tables::{TextKind, shape_of};
-use section_tables::rows::{Entry, Player};
+use section_tables::rows::{Entry, PlayerEntry};
 use section_tables::table::{BarredNames, PlayerKinds, Setting, Shape, Without};
 use section_tables::{entries, entry, name_list, players};
 use setting_values::kinds::{Absent, Bounds, Field, Kind, Others, Scalar};
@@ -553,7 +553,7 @@ fn show_entries(pen: &mut Pen, rows: &[Entry]) {
     pen.put(";");
 }
 
-fn show_players(pen: &mut Pen, rows: &[Player]) {
+fn show_players(pen: &mut Pen, rows: &[PlayerEntry]) {
     let mut between = "";
     for row in rows {
         pen.put(between);

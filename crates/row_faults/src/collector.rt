@@ -9,7 +9,7 @@ ghost use Rattle.row_faults.specs.View.{row_fault_view, row_faults_view};
 ghost use Rattle.row_faults.specs.FaultsOf.{fault_where};
 
 use crate::fault::{RowFault, RowFaultKind};
-use crate::reserved::ModeEvents;
+use crate::reserved::ModeEventNames;
 use crate::text_name::TextName;
 use machine_definitions::Definitions;
 use mpf_config::{Name, NameAt};
@@ -24,7 +24,7 @@ pub(crate) struct Faults<'k, 'd> {
     /// What the entries of the configuration define.
     pub(crate) definitions: &'k Definitions<'d>,
     /// The events of its modes.
-    pub(crate) modes: &'k ModeEvents,
+    pub(crate) modes: &'k ModeEventNames,
     /// The name of the text.
     pub(crate) text: &'k TextName,
     pub(crate) found_faults: Vec<RowFault>,

@@ -26,12 +26,12 @@ use std::alloc::{AllocError, Global};
 use std::collections::BTreeSet;
 
 /// The names of events of modes, each without the `mode_` that it begins with.
-pub(crate) type ModeEvents = BTreeSet<Vec<u8>>;
+pub(crate) type ModeEventNames = BTreeSet<Vec<u8>>;
 
 // ---- names
 
 /// The events of the modes of these names.
-pub(crate) fn events_of_modes(alloc: Global, modes: &[Name]) -> Result<ModeEvents, AllocError>
+pub(crate) fn events_of_modes(alloc: Global, modes: &[Name]) -> Result<ModeEventNames, AllocError>
     ensures { IfOk result (λ events. HasEvents events (events_of_listed modes.now)) }
 {
     let mut events = BTreeSet::new(alloc);
@@ -44,7 +44,7 @@ pub(crate) fn events_of_modes(alloc: Global, modes: &[Name]) -> Result<ModeEvent
 /// Adds the events of the modes that have these texts.
 pub(crate) fn add_texts(
     alloc: Global,
-    events: &mut ModeEvents,
+    events: &mut ModeEventNames,
     texts: &[ModeText],
 ) -> Result<(), AllocError>
     ensures { OnOk result (HasEvents events.new (events_view events.old ++ events_of_texts texts.now)) }
@@ -56,7 +56,7 @@ pub(crate) fn add_texts(
 }
 
 /// Adds the events of a mode.
-fn add_mode(alloc: Global, events: &mut ModeEvents, mode: &[u8]) -> Result<(), AllocError>
+fn add_mode(alloc: Global, events: &mut ModeEventNames, mode: &[u8]) -> Result<(), AllocError>
     ensures { OnOk result (GainsEvents events.old events.new (mode_events mode.now)) }
 {
     add_event(alloc, events, mode, b"_stopped")?;
@@ -69,7 +69,7 @@ fn add_mode(alloc: Global, events: &mut ModeEvents, mode: &[u8]) -> Result<(), A
 /// Adds the event of a mode that ends so.
 fn add_event(
     alloc: Global,
-    events: &mut ModeEvents,
+    events: &mut ModeEventNames,
     mode: &[u8],
     end: &[u8],
 ) -> Result<(), AllocError>
@@ -99,7 +99,7 @@ fn is_of_game(name: &[u8]) -> bool
 }
 
 /// Whether a name is that of one of these events of modes. Few names begin as those do.
-fn is_of_mode(modes: &ModeEvents, name: &[u8]) -> bool
+fn is_of_mode(modes: &ModeEventNames, name: &[u8]) -> bool
     ensures { result ≡ is_among (events_view modes.now) name.now }
 {
     match name.strip_prefix(b"mode_") {
@@ -109,7 +109,7 @@ fn is_of_mode(modes: &ModeEvents, name: &[u8]) -> bool
 }
 
 /// Whether a name is one of an event of a game, or one of these events of modes.
-pub(crate) fn is_reserved(modes: &ModeEvents, name: &[u8]) -> bool
+pub(crate) fn is_reserved(modes: &ModeEventNames, name: &[u8]) -> bool
     ensures { result ≡ is_reserved_by (events_view modes.now) name.now }
 {
     is_of_game(name) || is_of_mode(modes, name)

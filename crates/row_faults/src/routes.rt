@@ -21,7 +21,7 @@ use mpf_tables::tables::BALL_DEVICES_NAME;
 use std::alloc::{AllocError, Global};
 
 /// Names of ball switches, which lie where they are written.
-type Switches<'a> = Names<'a>;
+type SwitchNames<'a> = Names<'a>;
 
 /// Adds the faults of the ways of balls through the ball devices of these sections.
 pub(crate) fn add_route_faults(
@@ -92,7 +92,7 @@ fn is_wrong(leads: bool, again: bool, device: BallDeviceEntry<'_>) -> bool
 /// Takes the ball switches of a ball device, and says whether one was taken, or stands twice among
 /// them. If memory runs out, some may be taken.
 fn take_switches<'a>(
-    names_before: &mut Switches<'a>,
+    names_before: &mut SwitchNames<'a>,
     switches: &'a [Name],
 ) -> Result<bool, AllocError>
     ensures again { IfOk result (λ again. again ≡ is_one_taken (texts_of switches.now) (is_found names_before.old)) }

@@ -16,9 +16,9 @@ use crate::coil_faults::add_coil_faults;
 use crate::collector::{Faults, add_if, at, found_in};
 use crate::fault::{RowFault, RowFaultKind};
 use crate::once::listed_once;
-use crate::reserved::{ModeEvents, add_posts, add_texts, events_of_modes};
+use crate::reserved::{ModeEventNames, add_posts, add_texts, events_of_modes};
 use crate::routes::add_route_faults;
-use crate::shot_faults::{Shots, add_groups, add_shots, shots_for_groups};
+use crate::shot_faults::{ShotNames, add_groups, add_shots, shots_for_groups};
 use crate::text_name::TextName;
 use crate::variable_faults::add_variable_players;
 use indexmap::IndexSet;
@@ -56,7 +56,7 @@ pub fn faults_of_rows(
 /// are those of the configuration.
 fn faults_of_texts<'a>(
     alloc: Global,
-    modes: &ModeEvents,
+    modes: &ModeEventNames,
     definitions: &Definitions<'_>,
     config: &'a Config,
 ) -> Result<Vec<RowFault>, AllocError>
@@ -66,7 +66,7 @@ fn faults_of_texts<'a>(
 {
     let machine: &'a [Section] = config.machine.sections.as_slice();
     let texts: &'a [ModeText] = config.modes.as_slice();
-    let mut shots_before: Shots<'a> = IndexSet::with_hasher(alloc, config.hashing);
+    let mut shots_before: ShotNames<'a> = IndexSet::with_hasher(alloc, config.hashing);
     let mut faults = faults_of_text(
         alloc,
         &mut shots_before,
@@ -91,8 +91,8 @@ fn faults_of_texts<'a>(
 fn add_modes<'a>(
     alloc: Global,
     faults: &mut Vec<RowFault>,
-    shots_before: &mut Shots<'a>,
-    modes: &ModeEvents,
+    shots_before: &mut ShotNames<'a>,
+    modes: &ModeEventNames,
     definitions: &Definitions<'_>,
     texts: &'a [ModeText],
 ) -> Result<(), AllocError>
@@ -133,8 +133,8 @@ fn add_all(faults: &mut Vec<RowFault>, own: Vec<RowFault>) -> Result<(), AllocEr
 /// shots that are taken. Takes those that its groups list.
 fn faults_of_text<'a>(
     alloc: Global,
-    shots_before: &mut Shots<'a>,
-    modes: &ModeEvents,
+    shots_before: &mut ShotNames<'a>,
+    modes: &ModeEventNames,
     definitions: &Definitions<'_>,
     text: &[u8],
     sections: &'a [Section],
@@ -187,8 +187,8 @@ fn sort_by_line(faults: &mut Vec<RowFault>) -> Result<(), AllocError>
 /// Adds the faults of these sections, as written. Here `own` are the shots that their text defines.
 fn add_sections<'a>(
     faults: &mut Faults<'_, '_>,
-    shots_before: &mut Shots<'a>,
-    own: &Shots<'_>,
+    shots_before: &mut ShotNames<'a>,
+    own: &ShotNames<'_>,
     sections: &'a [Section],
 ) -> Result<(), AllocError>
     ensures faults { OnOk result (Gains faults.old faults.new
@@ -205,8 +205,8 @@ fn add_sections<'a>(
 /// Adds the faults of a section, as written.
 fn add_section<'a>(
     faults: &mut Faults<'_, '_>,
-    shots_before: &mut Shots<'a>,
-    own: &Shots<'_>,
+    shots_before: &mut ShotNames<'a>,
+    own: &ShotNames<'_>,
     section: &'a Section,
 ) -> Result<(), AllocError>
     ensures faults { OnOk result (Gains faults.old faults.new

@@ -24,7 +24,7 @@ use std::alloc::{AllocError, Global};
 use yaml_subset::keys::KeyHashing;
 
 /// Names of shots, which lie where they are written.
-pub(crate) type Shots<'a> = Names<'a>;
+pub(crate) type ShotNames<'a> = Names<'a>;
 
 // ---- `shots`
 
@@ -86,8 +86,8 @@ pub(crate) fn add_named_switch(
 #[tactic(auto, unfolding(mpf_sections::specs::TypedShots::shot_groups_in))]
 pub(crate) fn add_groups<'a>(
     faults: &mut Faults<'_, '_>,
-    shots_before: &mut Shots<'a>,
-    own: &Shots<'_>,
+    shots_before: &mut ShotNames<'a>,
+    own: &ShotNames<'_>,
     section: &'a Section,
 ) -> Result<(), AllocError>
     ensures faults { OnOk result (Gains faults.old faults.new
@@ -105,8 +105,8 @@ pub(crate) fn add_groups<'a>(
 /// The same of one group.
 fn add_group<'a>(
     faults: &mut Faults<'_, '_>,
-    shots_before: &mut Shots<'a>,
-    own: &Shots<'_>,
+    shots_before: &mut ShotNames<'a>,
+    own: &ShotNames<'_>,
     group: ShotGroup<'a>,
 ) -> Result<(), AllocError>
     ensures faults { OnOk result (Gains faults.old faults.new
@@ -131,8 +131,8 @@ fn first_shot<'d>(definitions: &Definitions<'d>, group_names: &[Name]) -> Option
 /// The same of shots that a group lists, of which this one is the first.
 fn add_listed<'a>(
     faults: &mut Faults<'_, '_>,
-    shots_before: &mut Shots<'a>,
-    own: &Shots<'_>,
+    shots_before: &mut ShotNames<'a>,
+    own: &ShotNames<'_>,
     first: Option<Shot<'_>>,
     group_names: &'a [Name],
 ) -> Result<(), AllocError>
@@ -151,8 +151,8 @@ fn add_listed<'a>(
 /// Whether a group may not list the shot of this name.
 fn is_misplaced(
     faults: &Faults<'_, '_>,
-    shots_before: &Shots<'_>,
-    own: &Shots<'_>,
+    shots_before: &ShotNames<'_>,
+    own: &ShotNames<'_>,
     first: Option<Shot<'_>>,
     name: &[u8],
 ) -> bool
@@ -164,7 +164,7 @@ fn is_misplaced(
 }
 
 /// Whether one of these names is this one.
-fn has_name(names: &Shots<'_>, name: &[u8]) -> bool
+fn has_name(names: &ShotNames<'_>, name: &[u8]) -> bool
     ensures { result ≡ is_found names.now name.now }
 {
     names.contains(name)
@@ -188,7 +188,7 @@ pub(crate) fn shots_for_groups<'a>(
     alloc: Global,
     hashing: KeyHashing,
     sections: &'a [Section],
-) -> Result<Shots<'a>, AllocError>
+) -> Result<ShotNames<'a>, AllocError>
     ensures { IfOk result (λ shots. HasShotsForGroups sections.now shots) }
 {
     if have_no_groups(sections) {
@@ -216,7 +216,7 @@ fn shots_of<'a>(
     alloc: Global,
     hashing: KeyHashing,
     sections: &'a [Section],
-) -> Result<Shots<'a>, AllocError>
+) -> Result<ShotNames<'a>, AllocError>
     ensures { IfOk result (λ shots. HasOwnShots sections.now shots) }
 {
     let mut shots = IndexSet::with_hasher(alloc, hashing);
@@ -226,7 +226,7 @@ fn shots_of<'a>(
     Ok(shots)
 }
 
-fn take_shots<'a>(shots: &mut Shots<'a>, entries: &'a [Entry]) -> Result<(), AllocError>
+fn take_shots<'a>(shots: &mut ShotNames<'a>, entries: &'a [Entry]) -> Result<(), AllocError>
     ensures { OnOk result (GainsNames shots.old shots.new (defines_shot entries.now)) }
 {
     shots.reserve(entries.len())?;

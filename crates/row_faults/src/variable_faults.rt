@@ -8,7 +8,7 @@ ghost use Rattle.row_faults.specs.FaultsOf.{faults_of_variable_item, faults_of_v
 
 use crate::collector::{Faults, add_if, at};
 use crate::fault::RowFaultKind;
-use crate::reserved::{ModeEvents, is_reserved};
+use crate::reserved::{ModeEventNames, is_reserved};
 use mpf_config::{KeyedValues, Section, VariableItem, as_variable_item, as_variable_player};
 use mpf_tables::tables::VARIABLE_PLAYER_NAME;
 use std::alloc::{AllocError, Global};
@@ -53,7 +53,7 @@ fn add_item(faults: &mut Faults<'_, '_>, item: VariableItem<'_>) -> Result<(), A
 }
 
 /// Whether no row may change the variable of this name.
-fn is_barred(alloc: Global, modes: &ModeEvents, variable: &[u8]) -> Result<bool, AllocError>
+fn is_barred(alloc: Global, modes: &ModeEventNames, variable: &[u8]) -> Result<bool, AllocError>
     ensures { IfOk result (λ is_barred_name. is_barred_name ≡ is_barred (events_view modes.now) variable.now) }
 {
     if variable == BALL || variable == NUMBER {

@@ -5,7 +5,7 @@ use Rattle.mpf_values.{specs.Reading.is_name, proofs.NameTexts.{IsName-from_is_n
 use Rattle.config_faults.specs.{declared.fault.BundleFaultKind.TheVariants.BadValue, Faults.{Spot, rows_fault_at}}
 use Rattle.setting_values.specs.{Values.{WrittenName, Plain, Value, written_at}, Kinds.at_least, Below.pairs_below}
 use Rattle.setting_values.specs.{ValueOf.{IsWritten, IsOneOf}, Reading.{is_one_of, written_in}}
-use Rattle.section_tables.specs.{Rows.{Entry, Player}, Keys.is_ignored, EntryOf.{ArePlayers, AreNamesListed}}
+use Rattle.section_tables.specs.{Rows.{Entry, PlayerEntry}, Keys.is_ignored, EntryOf.{ArePlayers, AreNamesListed}}
 use Rattle.section_tables.specs.{Shapes.{Setting, PlayerKinds}, Reading.{players_at, names_at}}
 use Rattle.section_tables.specs.Tables.{setting_key, setting_default, setting_lacks}
 use Rattle.section_tables.specs.EntryOf.{IsSetting, places_written, IsEntry, IsOtherEntry, AreEntries, IsPlayer}
@@ -102,20 +102,20 @@ entries_complete text barred table p longest es h =
 
 -- ---- players
 
-abbrev player_made : Plain → Value → Player
+abbrev player_made : Plain → Value → PlayerEntry
 player_made key value = record { event = key; value = value }
 
-player_sound : (text : List ℕ) (kinds : PlayerKinds) (p : Pair) (row : Player) → player_at text kinds p ≡ Ok row
+player_sound : (text : List ℕ) (kinds : PlayerKinds) (p : Pair) (row : PlayerEntry) → player_at text kinds p ≡ Ok row
     → IsPlayer 1024 kinds p row
 unfolding player_at
 player_sound text kinds p row e = search (rules, bind_ok, ok_is, scalar_sound, value_sound)
 
-player_complete : (text : List ℕ) (kinds : PlayerKinds) (p : Pair) (longest : ℕ) (row : Player)
+player_complete : (text : List ℕ) (kinds : PlayerKinds) (p : Pair) (longest : ℕ) (row : PlayerEntry)
     → IsPlayer longest kinds p row → IsReadOrLong longest (player_at text kinds p) row
 unfolding player_at
 player_complete text kinds p longest row h = search (rules, scalar_complete, then_or, value_complete)
 
-pub players_sound : (text : List ℕ) (kinds : PlayerKinds) (p : Pair) (rows : List Player)
+pub players_sound : (text : List ℕ) (kinds : PlayerKinds) (p : Pair) (rows : List PlayerEntry)
     → players_at text kinds p ≡ Ok rows → ArePlayers 1024 kinds p rows
 unfolding players_at
 players_sound text kinds p rows e =
@@ -126,7 +126,7 @@ players_sound text kinds p rows e =
       each_sound (player_at text kinds) (IsPlayer 1024 kinds) (player_sound text kinds) a.0 rows a.2,
     )
 
-pub players_complete : (text : List ℕ) (kinds : PlayerKinds) (p : Pair) (longest : ℕ) (rows : List Player)
+pub players_complete : (text : List ℕ) (kinds : PlayerKinds) (p : Pair) (longest : ℕ) (rows : List PlayerEntry)
     → ArePlayers longest kinds p rows → IsReadOrLong longest (players_at text kinds p) rows
 unfolding players_at
 players_complete text kinds p longest rows h =

@@ -4,7 +4,7 @@ use Rattle.std.specs.List.{All, AllByRecursion}
 use Rattle.yaml_subset.specs.Node.{Pair}
 use Rattle.setting_values.specs.{Values.{WrittenName, Plain}, Kinds.{Scalar, at_least}}
 use Rattle.setting_values.specs.{ValueOf.{IsScalar, IsWritten}, NamedValues.{AreNames, IsNamedValue, IsShortValue}}
-use Rattle.section_tables.specs.{Rows.{Entry, Player}, Shapes.{Setting, PlayerKinds}}
+use Rattle.section_tables.specs.{Rows.{Entry, PlayerEntry}, Shapes.{Setting, PlayerKinds}}
 use Rattle.section_tables.specs.{Keys.is_ignored, Tables.{setting_key, setting_default}, EntryOf.ArePlayers}
 use Rattle.section_tables.specs.EntryOf.{AreNamesListed, IsSetting, IsEntry, IsOtherEntry, AreEntries, IsPlayer}
 use Rattle.section_tables.specs.Named.{IsNamedEvent, IsNamedEntry, IsNamedPlayer, IsNamedTable, IsEventKind}
@@ -51,7 +51,7 @@ event_named : (kind : Scalar) (line : ℕ) (text : List ℕ) (v : Plain) → IsE
     → IsNamedEvent v
 event_named x1 line text v q h = search rules
 
-player_named : (longest : ℕ) (kinds : PlayerKinds) → IsNamedKinds kinds → (p : Pair) (row : Player)
+player_named : (longest : ℕ) (kinds : PlayerKinds) → IsNamedKinds kinds → (p : Pair) (row : PlayerEntry)
     → IsPlayer longest kinds p row → IsNamedPlayer row
 player_named longest kinds q p row h =
     record {
@@ -60,13 +60,13 @@ player_named longest kinds q p row h =
     }
 
 -- Each name in the entries of a player is one.
-pub players_named : (longest : ℕ) (kinds : PlayerKinds) (p : Pair) (rows : List Player) → IsNamedKinds kinds
+pub players_named : (longest : ℕ) (kinds : PlayerKinds) (p : Pair) (rows : List PlayerEntry) → IsNamedKinds kinds
     → ArePlayers longest kinds p rows → AllByRecursion IsNamedPlayer rows
 players_named longest kinds p rows q h = all_zip (IsPlayer longest kinds) IsNamedPlayer (player_named longest kinds q)
     h.0 rows h.2
 
 -- No list in them has more items than the limit.
-pub players_short : (longest : ℕ) (kinds : PlayerKinds) (p : Pair) (rows : List Player)
+pub players_short : (longest : ℕ) (kinds : PlayerKinds) (p : Pair) (rows : List PlayerEntry)
     → ArePlayers longest kinds p rows → All (IsShortPlayer longest) rows
 players_short longest kinds p rows h =
     All-from_recursion (IsShortPlayer longest) rows

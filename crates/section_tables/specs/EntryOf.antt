@@ -3,7 +3,7 @@ use Rattle.std.specs.{Prelude.{◌≡◌, ℕ, List, [], ◌∷◌, Option, Some
 use Rattle.yaml_subset.specs.Node.{Node, Pair}
 use Rattle.mpf_values.specs.Names.{IsName}
 use Rattle.setting_values.specs.Values.{WrittenName, Value, written_at}
-use Rattle.section_tables.specs.{Rows.{Entry, Player}, Shapes.{Setting, PlayerKinds}, Keys.is_ignored}
+use Rattle.section_tables.specs.{Rows.{Entry, PlayerEntry}, Shapes.{Setting, PlayerKinds}, Keys.is_ignored}
 use Rattle.setting_values.specs.{Kinds.at_least, Below.pairs_below, KeyRules.found_in}
 use Rattle.section_tables.specs.Tables.{setting_key, setting_default, setting_lacks}
 use Rattle.setting_values.specs.ValueOf.{IsOneOf, IsScalar, AreListed, IsWritten, IsRow, IsValue}
@@ -44,12 +44,12 @@ AreEntries longest barred_names table p es =
     (pairs : List Pair) × (pairs_below p.value ≡ Some pairs) × AllZip (IsOtherEntry longest barred_names table) pairs es
 
 -- An entry of a player: what its key says, and its value.
-pub record IsPlayer (longest : ℕ) (kinds : PlayerKinds) (p : Pair) (row : Player) : Type 0 where
+pub record IsPlayer (longest : ℕ) (kinds : PlayerKinds) (p : Pair) (row : PlayerEntry) : Type 0 where
   pub key : IsScalar kinds.key p.line p.key row.event
   pub value : IsValue longest kinds.value p.value row.value
 
 -- the entries of a player
-abbrev pub ArePlayers : ℕ → PlayerKinds → Pair → List Player → Type 0
+abbrev pub ArePlayers : ℕ → PlayerKinds → Pair → List PlayerEntry → Type 0
 ArePlayers longest kinds p rows = (pairs : List Pair) × (pairs_below p.value ≡ Some pairs)
     × AllZip (IsPlayer longest kinds) pairs rows
 

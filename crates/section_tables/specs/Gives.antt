@@ -2,9 +2,9 @@
 use Rattle.std.specs.{Prelude.{ℕ, List, Result}, Global.Vec}
 use Rattle.yaml_subset.specs.{declared.tree.{Key.Key, Tree.Tree}, View.pair_view}
 use Rattle.setting_values.specs.Values.{WrittenName}
-use Rattle.section_tables.specs.{Rows.{Entry, Player}, View.{entry_view, entries_view, players_view}}
+use Rattle.section_tables.specs.{Rows.{Entry, PlayerEntry}, View.{entry_view, entries_view, players_view}}
 use Rattle.section_tables.specs.declared.rows.Entry as entries
-use Rattle.section_tables.specs.declared.rows.Player as players
+use Rattle.section_tables.specs.declared.rows.PlayerEntry as players
 use Rattle.section_tables.specs.declared.table.{BarredNames.BarredNames, PlayerKinds.PlayerKinds, Setting.Setting}
 use Rattle.config_faults.specs.{declared.fault.ConfigFault.ConfigFault, Faults.{RowsFault, GivesRows}}
 use Rattle.section_tables.specs.EntryOf.{IsEntry, AreEntries, ArePlayers, AreNamesListed}
@@ -23,7 +23,7 @@ AreEntriesOf longest barred_names table pair es =
     AreEntries longest (barred_view barred_names) (table_view table) (pair_view pair) es
 
 -- a player with these entries
-abbrev pub ArePlayersOf : ℕ → PlayerKinds → Key × Tree → List Player → Type 0
+abbrev pub ArePlayersOf : ℕ → PlayerKinds → Key × Tree → List PlayerEntry → Type 0
 ArePlayersOf longest kinds pair rows = ArePlayers longest (player_kinds_view kinds) (pair_view pair) rows
 
 -- a section that lists these names
@@ -42,7 +42,7 @@ read_entries barred_names table text pair =
     entries_at text (barred_view barred_names) (table_view table) (pair_view pair)
 
 -- the entries of a player
-abbrev pub read_players : PlayerKinds → List ℕ → Key × Tree → Result (List Player) RowsFault
+abbrev pub read_players : PlayerKinds → List ℕ → Key × Tree → Result (List PlayerEntry) RowsFault
 read_players kinds text pair = players_at text (player_kinds_view kinds) (pair_view pair)
 
 -- the names that a section lists, of which there may be so many
@@ -60,5 +60,5 @@ abbrev pub GivesEntries : Result (Vec entries.Entry) ConfigFault → Result (Lis
 GivesEntries answer read = GivesRows entries_view answer read
 
 -- the answer is the entries of a player that are read
-abbrev pub GivesPlayers : Result (Vec players.Player) ConfigFault → Result (List Player) RowsFault → Type 0
+abbrev pub GivesPlayers : Result (Vec players.PlayerEntry) ConfigFault → Result (List PlayerEntry) RowsFault → Type 0
 GivesPlayers answer read = GivesRows players_view answer read

@@ -2,7 +2,7 @@
 use Rattle.std.specs.{Prelude.{ℕ, List}, List.{All, AllByRecursion}}
 use Rattle.mpf_values.specs.Names.{IsName}
 use Rattle.setting_values.specs.{Values.{Plain, name, event}, Kinds.{Scalar, a_name, an_event}}
-use Rattle.section_tables.specs.{Rows.{Entry, Player}, Tables.setting_default}
+use Rattle.section_tables.specs.{Rows.{Entry, PlayerEntry}, Tables.setting_default}
 use Rattle.section_tables.specs.Shapes.{Setting, PlayerKinds, Shape, by_entries, by_players, by_entry, by_names}
 use Rattle.setting_values.specs.NamedValues.{IsNamedHandled, IsNamedValue, IsNamedKind, IsShortValue}
 
@@ -20,7 +20,7 @@ IsNamedEvent (event h) = IsNamedHandled h
 IsNamedEvent _ = ⊥
 
 -- each name in an entry of a player is one
-pub record IsNamedPlayer (row : Player) : Type 0 where
+pub record IsNamedPlayer (row : PlayerEntry) : Type 0 where
   pub event : IsNamedEvent row.event
   pub value : IsNamedValue row.value
 
@@ -49,7 +49,7 @@ IsNamedShape by_names = Unit {0}
 abbrev pub IsShortEntry : ℕ → Entry → Type 0
 IsShortEntry longest e = All (IsShortValue longest) e.values
 
-abbrev pub IsShortPlayer : ℕ → Player → Type 0
+abbrev pub IsShortPlayer : ℕ → PlayerEntry → Type 0
 IsShortPlayer longest row = IsShortValue longest row.value
 
 -- nor in what holds by default in a table

@@ -6,8 +6,8 @@ use Rattle.mpf_values.specs.Reading.{is_name}
 use Rattle.config_faults.specs.{declared.fault.BundleFaultKind.TheVariants.BadValue, Faults.{RowsFault, Spot, refuse}}
 use Rattle.setting_values.specs.Values.{WrittenName, Value, written_at}
 use Rattle.setting_values.specs.{Kinds.at_least, Below.pairs_below, Reading.{row_at, value_at}}
-use Rattle.section_tables.specs.{Rows.{Entry, Player}, Keys.is_ignored}
-use Rattle.section_tables.specs.{Shapes.{Setting, PlayerKinds}, EntryOf.places_written}
+use Rattle.section_tables.specs.{Rows.{Entry, PlayerEntry}, Shapes.{Setting, PlayerKinds}}
+use Rattle.section_tables.specs.{Keys.is_ignored, EntryOf.places_written}
 use Rattle.section_tables.specs.Tables.{setting_key, setting_default, setting_lacks}
 use Rattle.setting_values.specs.Reading.{key_spot, expect, each_read, is_one_of, scalar_of, written_in, listed_at}
 
@@ -41,14 +41,14 @@ entries_at text barred_names table p = expect (key_spot text p) (pairs_below p.v
     (other_entry_at text barred_names table) pairs
 
 -- an entry of a player
-unfoldable pub player_at : List ℕ → PlayerKinds → Pair → Result Player RowsFault
+unfoldable pub player_at : List ℕ → PlayerKinds → Pair → Result PlayerEntry RowsFault
 player_at text kinds p =
     expect (key_spot text p) (scalar_of kinds.key p.line p.key) >>= λ event. value_at kinds.value (key_spot text p)
     p.value
     >>= λ value. Ok (record { event = event; value = value })
 
 -- the entries of a player
-unfoldable pub players_at : List ℕ → PlayerKinds → Pair → Result (List Player) RowsFault
+unfoldable pub players_at : List ℕ → PlayerKinds → Pair → Result (List PlayerEntry) RowsFault
 players_at text kinds p = expect (key_spot text p) (pairs_below p.value) >>= λ pairs. each_read (player_at text kinds)
     pairs
 

@@ -10,6 +10,6 @@ pub record Entry : Type 0 where
   pub order : List ℕ
 
 -- an entry of a player: the event that its key is, and its value
-pub record Player : Type 0 where
+pub record PlayerEntry : Type 0 where
   pub event : Plain
   pub value : Value

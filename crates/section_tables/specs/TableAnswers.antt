@@ -3,11 +3,11 @@ use Rattle.std.specs.{Prelude.{◌≡◌, ℕ, List, [], ◌++◌, map, slice_ge
 use Rattle.yaml_subset.specs.{declared.tree.{Key.Key, Tree.Tree}, View.{node_view, pair_view, option_slice}}
 use Rattle.section_tables.specs.{declared.rows.EntryRow.EntryRow, EntryOf.{place_found, places_written}}
 use Rattle.setting_values.specs.declared.values.Value as values
-use Rattle.section_tables.specs.declared.rows.Player as players
+use Rattle.section_tables.specs.declared.rows.PlayerEntry as players
 use Rattle.section_tables.specs.declared.table.{Setting.Setting, PlayerKinds.PlayerKinds, BarredNames.BarredNames}
 use Rattle.config_faults.specs.declared.{spot.Spot.Spot, fault.ConfigFault.ConfigFault}
 use Rattle.setting_values.specs.{Values.Value, KeyRules.found_in, Reading.{put_at, overwritten_at, lacking}}
-use Rattle.section_tables.specs.{Rows.{Entry, Player}, Keys.is_ignored}
+use Rattle.section_tables.specs.{Rows.{Entry, PlayerEntry}, Keys.is_ignored}
 use Rattle.config_faults.specs.Faults.{RowsFault, spot_view, GivesRows}
 use Rattle.section_tables.specs.Tables.{setting_key, setting_default, setting_lacks}
 use Rattle.section_tables.specs.Reading.{setting_at, values_at, other_entry_at, player_at}
@@ -22,7 +22,7 @@ abbrev pub GivesRow : {R : Type 0} → (R → EntryRow) → Result R ConfigFault
 GivesRow row_at answer read = GivesRows (λ row_of_section. values_view (row_values (row_at row_of_section))) answer read
 
 -- the answer is the entry of a player that is read
-abbrev pub GivesPlayer : Result players.Player ConfigFault → Result Player RowsFault → Type 0
+abbrev pub GivesPlayer : Result players.PlayerEntry ConfigFault → Result PlayerEntry RowsFault → Type 0
 GivesPlayer answer read = GivesRows player_view answer read
 
 -- a row is what reading makes of it, with what is written afterwards
@@ -91,5 +91,5 @@ read_other_entry barred_names table text pair =
     other_entry_at text (barred_view barred_names) (table_view table) (pair_view pair)
 
 -- an entry of a player
-abbrev pub read_player : PlayerKinds → List ℕ → Key × Tree → Result Player RowsFault
+abbrev pub read_player : PlayerKinds → List ℕ → Key × Tree → Result PlayerEntry RowsFault
 read_player kinds text pair = player_at text (player_kinds_view kinds) (pair_view pair)

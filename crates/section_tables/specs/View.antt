@@ -1,7 +1,7 @@
 -- What contracts see of the rows.
 use Rattle.std.specs.{Prelude.{ℕ, map, set, List, ◌∷◌, Option, Some, None}, Borrow.Bor, Global.Vec}
-use Rattle.section_tables.specs.{declared.rows.EntryRow.EntryRow, Rows.{Entry, Player}}
-use Rattle.section_tables.specs.declared.rows.Player as players
+use Rattle.section_tables.specs.{declared.rows.EntryRow.EntryRow, Rows.{Entry, PlayerEntry}}
+use Rattle.section_tables.specs.declared.rows.PlayerEntry as players
 use Rattle.setting_values.specs.declared.values.Value as values
 use Rattle.section_tables.specs.declared.rows.Entry as entries
 use Rattle.setting_values.specs.{Values.Value, View.{name_view, plain_view, value_view, values_view}}
@@ -30,8 +30,8 @@ entry_view e =
 abbrev pub entries_view : Vec entries.Entry → List Entry
 entries_view xs = map entry_view xs.items
 
-abbrev pub player_view : players.Player → Player
+abbrev pub player_view : players.PlayerEntry → PlayerEntry
 player_view p = record { event = plain_view p.event; value = value_view p.value }
 
-abbrev pub players_view : Vec players.Player → List Player
+abbrev pub players_view : Vec players.PlayerEntry → List PlayerEntry
 players_view xs = map player_view xs.items

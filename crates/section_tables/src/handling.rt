@@ -1,12 +1,12 @@
 //! The entries of players: events, each with a value.
 
 ghost use Rattle.std.specs.Prelude.{◌≡◌, ◌≢◌, ℕ, ◌<◌, List, IfOk, IfErr};
-ghost use Rattle.section_tables.specs.Rows.{Player as Row};
+ghost use Rattle.section_tables.specs.Rows.{PlayerEntry as Row};
 ghost use Rattle.section_tables.specs.View.{players_view};
 ghost use Rattle.section_tables.specs.Gives.{ArePlayersOf, read_players, GivesPlayers};
 ghost use Rattle.section_tables.specs.TableAnswers.{GivesPlayer, read_player};
 
-use crate::rows::Player;
+use crate::rows::PlayerEntry;
 use crate::table::PlayerKinds;
 use config_faults::{BundleFaultKind, ConfigFault, spot_of};
 use setting_values::{each, pairs, scalar, value};
@@ -21,7 +21,7 @@ fn player(
     kinds: PlayerKinds,
     text: &[u8],
     pair: &(Key, Tree),
-) -> Result<Player, ConfigFault>
+) -> Result<PlayerEntry, ConfigFault>
     ensures { GivesPlayer result (read_player kinds text.now pair.now) }
 {
     let key = &pair.0;
@@ -30,7 +30,7 @@ fn player(
         return Err(ConfigFault::Bundle(spot.fault(alloc, BundleFaultKind::BadValue)?));
     };
     let value = value(alloc, spot, kinds.value, &pair.1)?;
-    Ok(Player { event, value })
+    Ok(PlayerEntry { event, value })
 }
 
 // The entries of a player; or the first fault.
@@ -40,7 +40,7 @@ fn read_players(
     kinds: PlayerKinds,
     text: &[u8],
     pair: &(Key, Tree),
-) -> Result<Vec<Player>, ConfigFault>
+) -> Result<Vec<PlayerEntry>, ConfigFault>
     ensures { GivesPlayers result (read_players kinds text.now pair.now) }
 {
     let below = pairs(alloc, spot_of(text, &pair.0), &pair.1)?;
@@ -64,7 +64,7 @@ pub fn players(
     kinds: PlayerKinds,
     text: &[u8],
     pair: &(Key, Tree),
-) -> Result<Vec<Player>, ConfigFault>
+) -> Result<Vec<PlayerEntry>, ConfigFault>
     // What is answered are the entries of the player.
     ensures found { IfOk result (λ xs. ArePlayersOf 1024 kinds pair.now (players_view xs)) }
 

@@ -29,7 +29,7 @@ pub struct Entry {
 /// An entry of a player: the event that its key is, by its name or as a handled event, and its
 /// value.
 #[derive(Drop)]
-pub struct Player {
+pub struct PlayerEntry {
     pub event: Plain,
     pub value: Value,
 }

@@ -19,7 +19,7 @@ measure_answer-cost-requires-clause-lists g c =
 
 pub loop-answer-preserved : goal.loop-answer-preserved
 loop-answer-preserved g c =
-    let cost = cost_of_answer_by c.args.plan.now (g.T.Tells.cost c.args.plan.now) c.args.row in
+    let cost = cost_of_answer_by c.args.plan.now (g.T.TellCost.cost c.args.plan.now) c.args.row in
     let same = c.as_slice.ensures.value ∙ ap (λ (a : ArrayVec ℕ). a.items) c.answer-item.is in
     let one = subst (λ (ls : List ℕ). g.M.Measure.Measures c.loop-answer.measure (cost ls)
     c.measure_answer-cost.new.measure c.measure_answer-cost.result) same c.measure_answer-cost.ensures in
@@ -33,9 +33,9 @@ returns g c =
     ≡ outcomes (row_at c.args.plan.now c.args.row).settings c.args.call =
     (outcomes-read c.args.plan.now c.args.row c.args.call c.row.result _ c.row.ensures.row
     (ap (map (λ (a : ArrayVec ℕ). a.items)) c.as_slice-answer-items.ensures.value ∙ c.outcomes-answers.ensures)) in
-    let all = ap (dearest_of (λ (a : ArrayVec ℕ). cost_of_answer_by c.args.plan.now (g.T.Tells.cost c.args.plan.now)
+    let all = ap (dearest_of (λ (a : ArrayVec ℕ). cost_of_answer_by c.args.plan.now (g.T.TellCost.cost c.args.plan.now)
     c.args.row a.items)) (take_all c.loop-answer.answer-index c.as_slice-answer-items.result.now
     c.loop-answer-test.false) in
     subst (λ (k : Cost). g.M.Measure.Measures c.args.measure.now k c.loop-answer.measure c.loop-answer.dearest)
     (all ∙ answers-cost (λ (a : ArrayVec ℕ). a.items) c.args.plan.now c.args.row c.args.call
-    c.as_slice-answer-items.result.now are (g.T.Tells.cost c.args.plan.now)) c.loop-answer.invariant
+    c.as_slice-answer-items.result.now are (g.T.TellCost.cost c.args.plan.now)) c.loop-answer.invariant
