@@ -2,11 +2,14 @@
 
 A fault is `FILE:LINE: KIND NAME`, or `FILE: wide N lines`:
 
-  twice       a public type, function or constant of src/ that two crates declare, crates of tests apart
+  twice       a public function or constant of src/ that two crates declare, crates of tests apart
+  alike       a type that another crate has too, and a type whose name is that of a type of another crate but for a plural
+              or the case of letters, public or not, in src/ or specs/. Facts, such as `IsKept`, are left out
   inside      a file of definitions that is called Inside
   numbered    a struct or a record with two or more fields that are numbers, such as `first` and `second`
   participle  a participle that is the whole name of a type, a function, a field, a variable or a definition, in src/ or
               specs/. Such are the words below, and words in `-ed` but those below. A word in `-ing` is a noun
+  label       a participle that is the name of a clause, `ensures taken { .. }`
   by_place    a fact that is given by its place, `(tt, tt)`, or that is taken by three or more, `x.1.0.1`
   for_facts   a call or a read whose value has no use, `let _x = ..;`
   wide        lines above 120 characters, in .rt and .antt. The tests are left out, in which a row is one line, and so
@@ -27,7 +30,12 @@ from .promised import OF_TESTS
 EXCEPTIONS = Path(__file__).with_suffix(".txt")
 WIDTH = 120
 COMMENT = re.compile(r"^ *(?://|--).*", re.M)
-PUBLIC = re.compile(r"^pub (?:const )?(?:fn|struct|enum|type|const|static|trait) (\w+)", re.M)
+PUBLIC = re.compile(r"^pub (?:const )?(?:fn|const|static) (\w+)", re.M)
+# Types of code, and types of definitions that are no facts. A type of an `impl` is not at the front of its line.
+TYPE = re.compile(
+    r"^(?:pub(?:\(\w+\))? )?(?:(?:struct|enum|type|trait)|(?:record|data)(?! (?:Is|Are|Has|Have)[A-Z])) (\w+)", re.M
+)
+LABEL = re.compile(r"^ *(?:requires|ensures)\*? (\w+) \{", re.M)
 NUMBER = re.compile(r"^ +(?:pub )?(first|second|third|fourth|fifth|sixth|seventh|eighth) ?: ", re.M)
 # A struct, or a record, with its fields.
 FIELDS = re.compile(r"^(?:pub )?(?:abbrev )?(?:struct|record) (\w+).*\n((?: +.*\n)*)", re.M)
@@ -44,6 +52,7 @@ IN_SPECS = re.compile(
     r"|[({](?P<bound>[\w ]+) : |λ (?P<closure>[\w ]+)\.|^ *[\w-]+(?P<field>(?: [\w(){}, ]+)) = ",
     re.M,
 )
+PLURALS = (("s", ""), ("es", ""), ("ies", "y"))
 IRREGULAR = frozenset(
     "become been begun born borne bought bought broken brought built caught chosen come done drawn driven fallen felt "
     "forgotten found given gone got grown heard held hidden hung kept known laid led left lent lost made meant met paid "
@@ -89,6 +98,23 @@ def twice() -> Iterator[Fault]:
                 if len({crate for crate, _ in found}) > 1 for crate, place in found)
 
 
+def alike() -> Iterator[Fault]:
+    places: dict[str, dict[str, str]] = defaultdict(dict)
+    for crate in listed():
+        for file in files_of(crate, "src/**/*.rt", "specs/**/*.antt") if crate not in OF_TESTS else ():
+            text = COMMENT.sub("", file.read_text())
+            for it in TYPE.finditer(text):
+                places[it[1]].setdefault(crate, place_of(file, text, it.start()))
+    crates: dict[str, set[str]] = defaultdict(set)
+    for name, found in places.items():
+        crates[name.lower()] |= found.keys()
+    for name, found in sorted(places.items()):
+        word = name.lower()
+        singular = [word[: -len(end)] + one for end, one in PLURALS if word.endswith(end)]
+        yield from (Fault("alike", crate, name, place) for crate, place in found.items()
+                    if any(crates.get(it, set()) - {crate} for it in (word, *singular)))
+
+
 def inside() -> Iterator[Fault]:
     for crate in listed():
         yield from (Fault("inside", crate, "Inside", str(it.relative_to(TOP)))
@@ -122,6 +148,7 @@ def in_texts(crate: str, file: Path) -> Iterator[Fault]:
     yield from (fault("by_place", it[0], it.start()) for it in BY_PLACE.finditer(text))
     if room == "src":
         yield from (fault("for_facts", it[1], it.start()) for it in FOR_FACTS.finditer(text))
+        yield from (fault("label", it[1], it.start(1)) for it in LABEL.finditer(text) if is_participle(it[1]))
 
 
 def wide(crate: str, file: Path) -> Iterator[Fault]:
@@ -131,6 +158,7 @@ def wide(crate: str, file: Path) -> Iterator[Fault]:
 
 def all_faults() -> Iterator[Fault]:
     yield from twice()
+    yield from alike()
     yield from inside()
     for crate in listed():
         for file in files_of(crate, "src/**/*.rt", "specs/**/*.antt", "proofs/**/*.antt"):
