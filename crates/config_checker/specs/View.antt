@@ -19,7 +19,7 @@ abbrev pub certificate_fault_view : CertificateFault → CertificateFaultView
 certificate_fault_view (certificates.Line number) = bad_line number
 certificate_fault_view certificates.Events = other_events
 certificate_fault_view certificates.Switches = other_switches
-certificate_fault_view (certificates.Short event needed) = short event.items needed
+certificate_fault_view (certificates.Short event needed) = short event.items needed.value
 certificate_fault_view (certificates.Bound stated) = other_bound stated
 certificate_fault_view (certificates.Switch switch cost) = other_cost switch.items cost
 

@@ -127,7 +127,7 @@ fn refuse_own(alloc: Global, definitions: &Definitions<'_>) -> Result<(), Report
 }
 
 /// How many faults are moved from one list to another before the first one gives room back.
-const AT_ONCE: usize = 16_384;
+const AT_ONCE: usize = 4_096;
 
 /// Faults of rows as faults of a configuration. Both lists may be very long, so the first one gives
 /// its room back as the other one grows.

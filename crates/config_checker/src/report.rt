@@ -6,6 +6,7 @@ ghost use Rattle.config_checker.specs.declared.report.Report.TheVariants.{NoMemo
 use plan_tables::table::Table;
 use row_faults::RowFault;
 use std::alloc::{AllocError, AllocFailed};
+use std::mem::size_of;
 use thiserror::Error;
 
 /// What is wrong with a certificate.
@@ -20,9 +21,10 @@ pub enum CertificateFault {
     /// Its switches are not those of the plan, in the order of their numbers.
     #[error("Switches")]
     Switches,
-    /// The first event that weighs less than it needs, by its name, and the weight that it needs.
+    /// The first event that weighs less than it needs, by its name, and the weight that it needs. That is in a
+    /// box, since a number of 128 bits would make each fault larger.
     #[error("Short {1}")]
-    Short(Vec<u8>, u128),
+    Short(Vec<u8>, Box<u128>),
     /// It states another bound than this one, which its weights have.
     #[error("Bound {0}")]
     Bound(u32),
@@ -50,6 +52,8 @@ pub enum CheckFault {
     #[error("Certificate {0}")]
     Certificate(CertificateFault),
 }
+
+const _: () = prove!(size_of::<CheckFault>() <= 56);
 
 /// Why a configuration is refused.
 #[derive(Debug, Drop, Error)]

@@ -66,6 +66,7 @@ fn write_certificate_fault<W: Write>(fault: &CertificateFault, writer: &mut W) -
         CertificateFault::Events => writer.write_all(b"Events"),
         CertificateFault::Switches => writer.write_all(b"Switches"),
         CertificateFault::Short(event, needed) => {
+            let needed: u128 = **needed;
             writer.write_all(b"Short ")?;
             writer.write_all(event)?;
             write!(writer, " {needed}")

@@ -38,6 +38,7 @@ pub(crate) fn named_fault(
         RankFault::BoundTooLarge => Ok(CheckFault::Bound),
         RankFault::Short(event, needed) => {
             let name = plan.event_name(event).to_vec(alloc)?;
+            let needed = Box::new(alloc, needed)?;
             Ok(CheckFault::Certificate(CertificateFault::Short(name, needed)))
         }
         RankFault::WrongEvents => Ok(CheckFault::Certificate(CertificateFault::Events)),

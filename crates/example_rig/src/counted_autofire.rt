@@ -1,6 +1,6 @@
 //! An autofire coil that counts its shots.
 
-ghost use Rattle.std.specs.Prelude.{◌≡◌, ◌↔◌, [], IsSome, IfSome};
+ghost use Rattle.std.specs.Prelude.{◌≡◌, ◌≢◌, ◌↔◌, ◌+◌, ◌-◌, ◌^◌, [], min, IsSome, IfSome};
 ghost use Rattle.device_objects.specs.Autofire.{act_step};
 ghost use Rattle.plan_tables.specs.declared.devices.Settings.TheVariants as kinds;
 
@@ -81,9 +81,7 @@ impl Device for CountedAutofire {
 
     fn act(&mut self, act: Act, _now: u64, _world: World) -> Outcome {
         let lists = step(&mut self.state, act);
-        if !lists.is_empty() {
-            self.shots.set(self.shots.get().saturating_add(1));
-        }
+        self.shots.set(count_after(self.shots.get(), &lists));
         lists
     }
 }
@@ -100,4 +98,16 @@ fn step(state: &mut AutofireState, act: Act) -> Outcome
         _ => {}
     }
     Outcome::new()
+}
+
+/// How many shots there were after this outcome of an act: a coil fires exactly if lists are to be run.
+fn count_after(before: u64, outcome: &Outcome) -> u64
+    ensures none { outcome.now.items ≡ [] → result ≡ before }
+    ensures one { outcome.now.items ≢ [] → result ≡ min (before + 1) (2 ^ 64 - 1) }
+{
+    if outcome.is_empty() {
+        before
+    } else {
+        before.saturating_add(1)
+    }
 }

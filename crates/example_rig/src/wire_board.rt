@@ -24,8 +24,9 @@ pub struct WireBoard<W: Write + Drop> {
 }
 
 impl<W: Write + Drop> WireBoard<W> {
-    /// A board that has taken no command.
+    /// A board that has taken no command. The wire is as it was.
     pub fn new(wire: W) -> WireBoard<W>
+        ensures wire { result.wire ≡ wire }
         ensures faults { result.faults ≡ 0 }
         ensures commands { told_of result.commands ≡ Some [] }
     {

@@ -148,6 +148,10 @@ impl<'a> Definitions<'a> {
     pub fn profile(&self, name: &[u8]) -> &Profile<'a>
         ensures { profile_view result.now ≡ profile_of_name self.now name.now }
     {
+        // (often no entry defines a profile, and then no name is hashed)
+        if self.profiles.is_empty() {
+            return &self.standard;
+        }
         self.profiles.get(name).unwrap_or(&self.standard)
     }
 }

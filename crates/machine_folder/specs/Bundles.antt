@@ -1,6 +1,7 @@
 -- The bundle of a machine, of texts at their paths.
 use Rattle.std.specs.Prelude.{◌≡◌, ◌<◌, ◌⊎◌, ℕ, Option, None, Some, option_map, Result, Ok, Err, List, [], ◌∷◌, ◌++◌}
-use Rattle.std.specs.{Prelude.{codes, length, slice_index, string_bytes, IfSome}, Global.Vec, Str.Lossy.utf8_lossy}
+use Rattle.std.specs.Prelude.{codes, length, slice_index, slice_get, take, string_bytes, ◌^◌, IfSome, IsSomeAnd}
+use Rattle.std.specs.{Global.Vec, Str.Lossy.utf8_lossy}
 use Rattle.memchr.specs.Find.{OccursAt}
 use Rattle.mpf_config.specs.{Rows.RowsFault, BundleText.{machine_name, mode_text_name}, Reading.mode_names_at}
 use Rattle.pinball_shell.specs.{declared.fault.{ShellFault.ShellFault, Failure.Failure}, Joined.join_text}
@@ -92,3 +93,38 @@ abbrev pub NamesUnread : (List ℕ → Known) → (folder : List ℕ) → Failur
 NamesUnread text_at folder failure =
     failure.fault ≡ Read → (path : List ℕ) × (option_map string_bytes failure.file ≡ Some path)
     × MayBeUnread text_at folder path
+
+-- ---- a text that is too long
+
+-- The text that is there has more than 8 MiB; or it is not known what is there.
+abbrev pub MayExceed : Known → Type 0
+MayExceed known = IfSome known (λ text. IsSomeAnd text (λ bytes. 2 ^ 23 < length bytes))
+
+-- With what is there, if it is known, under this name, a bundle has more than 8 MiB.
+abbrev pub MakesTooLong : Known → (name bundle : List ℕ) → Type 0
+MakesTooLong known name bundle = IfSome known (λ text. 2 ^ 23 < length (with_text bundle name text))
+
+-- So it is with the text of this name, and this is its path.
+abbrev pub IsOverWith : (List ℕ → Known) → (folder name bundle path : List ℕ) → Type 0
+IsOverWith text_at folder name bundle path = (path ≡ path_of folder name) × MakesTooLong (text_at path) name bundle
+
+-- So it is with the text of one of these modes, behind the texts of those before it.
+pub record IsOverAt (text_at : List ℕ → Known) (folder : List ℕ) (modes : List (List ℕ)) (bundle path : List ℕ)
+    : Type 0 where
+  pub place : ℕ
+  pub mode : List ℕ
+  pub there : slice_get modes place ≡ Some mode
+  pub before : List ℕ
+  pub joined : AreJoined text_at folder (take place modes) bundle before
+  pub over : IsOverWith text_at folder (mode_text_name mode) before path
+
+-- The bundle up to the text at this path has more than 8 MiB. It is that of the machine, or of a mode that it lists.
+pub data IsTooLongAt (text_at : List ℕ → Known) (folder path : List ℕ) : Type 0 where
+  machine : IsOverWith text_at folder machine_name [] path → IsTooLongAt text_at folder path
+  mode : (bundle : List ℕ) (modes : List (List ℕ)) → IsMachineRead (text_at (path_of folder machine_name)) bundle modes
+      → IsOverAt text_at folder modes bundle path → IsTooLongAt text_at folder path
+
+-- If the fault is `TooLong`, a file is named, and this holds of its path.
+abbrev pub NamesTooLong : Failure → (List ℕ → Type 0) → Type 0
+NamesTooLong failure holds =
+    failure.fault ≡ TooLong → (path : List ℕ) × (option_map string_bytes failure.file ≡ Some path) × holds path

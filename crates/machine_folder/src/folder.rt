@@ -1,9 +1,11 @@
 //! Texts are read by their paths, and joined into a bundle.
 
-ghost use Rattle.std.specs.Prelude.{◌≡◌, ◌≤◌, ◌^◌, None, map, IfOk, IfErr, IfSome, OnOk, string_bytes, vec_len};
+ghost use Rattle.std.specs.Prelude.{◌≡◌, ◌≤◌, ◌^◌, None, [], map, IfOk, IfErr, IfSome, OnOk, string_bytes, vec_len};
+ghost use Rattle.mpf_config.specs.BundleText.{machine_name, mode_text_name};
 ghost use Rattle.mpf_config.specs.CodeViews.{names_only_view};
 ghost use Rattle.machine_folder.specs.Bundles.{path_of, with_text, IsMachineRead, IsModeJoined, AreJoined, IsBundleIn};
-ghost use Rattle.machine_folder.specs.Bundles.{MayLack, NamesUnread, IsOfReading};
+ghost use Rattle.machine_folder.specs.Bundles.{MayLack, NamesUnread, IsOfReading, MakesTooLong, IsOverWith, IsOverAt};
+ghost use Rattle.machine_folder.specs.Bundles.{IsTooLongAt, NamesTooLong};
 
 use crate::modes::readable_mode_names;
 use mpf_config::{MACHINE_NAME, mode_text_name};
@@ -13,7 +15,7 @@ use std::alloc::{AllocError, Global};
 /// Texts, each at a path.
 pub trait Texts {
     ghost use Rattle.std.specs.Prelude.{◌≡◌, ℕ, List, Option, None, IfOk, IfErr};
-    ghost use Rattle.machine_folder.specs.Bundles.{IsTextAt, IsOfReading};
+    ghost use Rattle.machine_folder.specs.Bundles.{IsTextAt, MayExceed, IsOfReading};
 
     /// What is at a path, if that is known: a text, or none.
     ghost text_at: { Self → List ℕ → Option (Option (List ℕ)) };
@@ -29,6 +31,7 @@ pub trait Texts {
     fn text(&self, alloc: Global, path: &str) -> Result<Option<Vec<u8>>, ShellFault>
         ensures found { IfOk result (λ found. IsTextAt (text_at self.now path.now) found) }
         ensures read { IfErr result (λ e. e ≡ ShellFault.Read → text_at self.now path.now ≡ None) }
+        ensures too_long { IfErr result (λ e. e ≡ ShellFault.TooLong → MayExceed (text_at self.now path.now)) }
         ensures fails { IfErr result (λ e. IsOfReading e) };
 }
 
@@ -47,6 +50,7 @@ pub fn folder_bundle<T: Texts>(alloc: Global, texts: &T, folder: &str) -> Result
     ensures bundle { IfOk result (λ all. IsBundleIn (T.text_at texts.now) folder.now all.items) }
     ensures within { IfOk result (λ all. vec_len all ≤ 2 ^ 23) }
     ensures read { IfErr result (λ failure. NamesUnread (T.text_at texts.now) folder.now failure) }
+    ensures too_long { IfErr result (λ failure. NamesTooLong failure (IsTooLongAt (T.text_at texts.now) folder.now)) }
     ensures fails { IfErr result (λ failure. IsOfReading failure.fault) }
 {
     let path = path_in(alloc, folder, MACHINE_NAME)?;
@@ -69,6 +73,8 @@ fn read_machine<T: Texts>(
         (names_only_view read.1)) }
     ensures within { IfOk result (λ read. vec_len read.0 ≤ 2 ^ 23) }
     ensures unread { IfErr result (λ e. e ≡ ShellFault.Read → MayLack (T.text_at texts.now path.now)) }
+    ensures too_long { IfErr result (λ e. e ≡ ShellFault.TooLong
+        → MakesTooLong (T.text_at texts.now path.now) machine_name []) }
     ensures fails { IfErr result (λ e. IsOfReading e) }
 {
     let Some(text) = texts.text(alloc, path)? else {
@@ -92,6 +98,8 @@ fn append_modes<T: Texts>(
         bundle.old.items bundle.new.items) }
     ensures within { OnOk result (vec_len bundle.new ≤ 2 ^ 23) }
     ensures read { IfErr result (λ failure. NamesUnread (T.text_at texts.now) folder.now failure) }
+    ensures too_long { IfErr result (λ failure. NamesTooLong failure (IsOverAt (T.text_at texts.now) folder.now
+        (map (λ mode. mode.items) modes.now) bundle.old.items)) }
     ensures fails { IfErr result (λ failure. IsOfReading failure.fault) }
 {
     for mode in modes {
@@ -113,6 +121,8 @@ fn append_mode<T: Texts>(
         bundle.new.items) }
     ensures within { OnOk result (vec_len bundle.new ≤ 2 ^ 23) }
     ensures read { IfErr result (λ failure. NamesUnread (T.text_at texts.now) folder.now failure) }
+    ensures too_long { IfErr result (λ failure. NamesTooLong failure (IsOverWith (T.text_at texts.now) folder.now
+        (mode_text_name mode.now) bundle.old.items)) }
     ensures fails { IfErr result (λ failure. IsOfReading failure.fault) }
 {
     let name = mode_text_name(alloc, mode)?;
@@ -136,6 +146,8 @@ fn append_text_at<T: Texts>(
         (λ text. bundle.new.items ≡ with_text bundle.old.items name.now text)) }
     ensures within { OnOk result (vec_len bundle.new ≤ 2 ^ 23) }
     ensures read { IfErr result (λ e. e ≡ ShellFault.Read → T.text_at texts.now path.now ≡ None) }
+    ensures too_long { IfErr result (λ e. e ≡ ShellFault.TooLong
+        → MakesTooLong (T.text_at texts.now path.now) name.now bundle.old.items) }
     ensures fails { IfErr result (λ e. IsOfReading e) }
 {
     match texts.text(alloc, path)? {

@@ -69,6 +69,7 @@ fn take_section(
 {
     let front = front_of(alloc, &section.name)?;
     let entries = section.content.entries();
+    known_keys.reserve(entries.len())?;
     for entry in entries {
         let name = &entry.name;
         let fresh = take_entry(alloc, &front, &name.text, known_keys)?;

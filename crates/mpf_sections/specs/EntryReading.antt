@@ -1,8 +1,8 @@
 -- What contracts of the functions inside this crate see.
 use Rattle.std.specs.Prelude.{◌≡◌, ℕ, ◌+◌, ◌==◌, Bool, List, length, map, Option, Some, option_map, slice_get}
-use Rattle.std.specs.{Prelude.unwrap_or, List.list_all, Str.bytes_eq, Borrow.Bor, Global.Vec}
-use Rattle.setting_values.specs.{declared.values.{Name.Name, Handler.Handler}, View.{value_view, plains_view}}
-use Rattle.setting_values.specs.Values.{Plain, Value, name as named, written_at}
+use Rattle.std.specs.{Prelude.unwrap_or, List.list_all, Str.bytes_eq, Borrow.Bor}
+use Rattle.setting_values.specs.declared.values.{Name.Name, Handler.Handler, Step.Step}
+use Rattle.setting_values.specs.{View.{value_view, plains_view}, Values.{Plain, Value, name as named, written_at}}
 use Rattle.section_tables.specs.Rows.{Entry}
 use Rattle.setting_values.specs.declared.values.Plain as plain_rows
 use Rattle.setting_values.specs.declared.values.Value as value_rows
@@ -18,7 +18,7 @@ use Rattle.mpf_sections.specs.{Rows.{Rule, BlockEvents}, Typed.{ball_ending, con
 use Rattle.mpf_sections.specs.{TypedCoils.needed_at, TypedShots.few, View.{plain_option_view, block_view, rule_view}}
 use Rattle.mpf_sections.specs.Typed.{text_of, flag_of, listed_names, listed_events, listed_posts, listed_steps}
 use Rattle.mpf_sections.specs.Typed.{listed_maps, listed_keyed, name_in, handled_in, event_in, pulse_in, power_in}
-use Rattle.mpf_sections.specs.View.{name_view, handler_view, handlers_view, plain_view, fields_view, keyed_view}
+use Rattle.mpf_sections.specs.View.{name_view, handler_view, step_view, plain_view, fields_view, keyed_view}
 use Rattle.mpf_sections.specs.View.{entry_view, content_view, section_view, name_at_view, handled_at_view}
 
 -- the settings that all logic blocks have, from this place on in a row
@@ -90,8 +90,8 @@ abbrev pub ArePostsAt : entry_rows.Entry → ℕ → List Name → Type 0
 ArePostsAt entry place posts = map name_view posts ≡ listed_posts (value_at entry place)
 
 -- the steps at a place of an entry
-abbrev pub AreStepsAt : entry_rows.Entry → ℕ → List (Vec Handler) → Type 0
-AreStepsAt entry place steps = map handlers_view steps ≡ listed_steps (value_at entry place)
+abbrev pub AreStepsAt : entry_rows.Entry → ℕ → List Step → Type 0
+AreStepsAt entry place steps = map step_view steps ≡ listed_steps (value_at entry place)
 
 -- the maps that are listed at a place of an entry
 abbrev pub AreMapsAt : entry_rows.Entry → ℕ → List field_rows.Fields → Type 0

@@ -33,7 +33,7 @@ use Rattle.mpf_sections.specs.Rows.{CounterEntry, StepBlock, ControlEvent, Timer
 use Rattle.mpf_sections.specs.{Typed.controls_of, TypedShots.state_of}
 use Rattle.mpf_sections.specs.{TypedCoils.coil_item_of, TypedGame.variable_item_of}
 pub use Rattle.mpf_sections.specs.SectionView.{content_view, section_view}
-pub use Rattle.setting_values.specs.View.{name_view, names_view, handler_view, handlers_view, plain_view, fields_view}
+pub use Rattle.setting_values.specs.View.{name_view, names_view, handler_view, step_view, plain_view, fields_view}
 pub use Rattle.setting_values.specs.View.{keyed_view}
 pub use Rattle.section_tables.specs.View.{entry_view, player_view}
 
@@ -100,7 +100,7 @@ counter_view c = record {
 abbrev pub step_block_view : typed_steps.StepBlock → StepBlock
 step_block_view b = record {
   name = name_view b.name.now;
-  steps = map handlers_view b.steps.now;
+  steps = map step_view b.steps.now;
   settings = b.settings;
   block = block_view b.block;
   order = b.order.now;

@@ -10,7 +10,7 @@ use crate::values::{
 };
 use machine_settings::{BlockSettings, CounterSettings};
 use section_tables::rows::Entry;
-use setting_values::values::{Handler, Name};
+use setting_values::values::{Handler, Name, Step};
 
 /// The events that all logic blocks have.
 #[derive(Clone, Copy)]
@@ -47,7 +47,7 @@ pub struct CounterEntry<'a> {
 pub struct StepBlock<'a> {
     pub name: &'a Name,
     /// The steps, each with the events that do it: at most 16.
-    pub steps: &'a [Vec<Handler>],
+    pub steps: &'a [Step],
     pub settings: BlockSettings,
     pub block: BlockEvents<'a>,
     /// The settings that are written, by their places in the table, in the order in which they are

@@ -13,7 +13,7 @@ ghost use Rattle.mpf_sections.specs.EntryReading.{pulse_of_text, power_of_text};
 use crate::typed::{HandledAt, NameAt, as_handled};
 use machine_settings::Direction;
 use section_tables::rows::Entry;
-use setting_values::values::{Fields, Handler, KeyedValues, Name, Plain, Value};
+use setting_values::values::{Fields, Handler, KeyedValues, Name, Plain, Step, Value};
 
 // ---- values of settings
 
@@ -146,7 +146,7 @@ pub fn milliseconds(entry: &Entry, at: usize) -> u32
 }
 
 /// The steps at a place of an entry, 16 at most; none if there are no steps.
-pub fn steps(entry: &Entry, at: usize) -> &[Vec<Handler>]
+pub fn steps(entry: &Entry, at: usize) -> &[Step]
     ensures { AreStepsAt entry.now at result.now }
 {
     match entry.value(at) {

@@ -2,9 +2,10 @@
 
 ghost use Rattle.std.specs.Prelude.{◌≡◌, ◌++◌, ◌∷◌, [], map, OnOk};
 ghost use Rattle.mpf_sections.specs.Typed.{control_of, controls_of, with_control};
-ghost use Rattle.mpf_sections.specs.View.{block_view, fields_view, handlers_view, name_view};
+ghost use Rattle.mpf_sections.specs.View.{block_view, fields_view, name_view, step_view};
 ghost use Rattle.plan_parts.specs.DeviceEntries.{block_acts, block_event, block_lists, control_act, act_of_control};
 ghost use Rattle.plan_parts.specs.DeviceEntries.{or_own, step_acts, timer_event, timer_lists};
+ghost use Rattle.plan_parts.specs.Devices.{acts};
 ghost use Rattle.plan_parts.specs.Effects.{posts};
 ghost use Rattle.plan_parts.specs.Gives.{AddsBlock, AddsDevice, Gives, counter_in, device_entry_gives};
 ghost use Rattle.plan_parts.specs.Gives.{settings_of_steps, step_block_in, timer_in};
@@ -14,17 +15,17 @@ ghost use Rattle.plan_parts.specs.View.{pieces_text};
 use crate::collect_handled::{collect_acts, collect_names};
 use crate::collect_saves::collect_save_device;
 use crate::effects::{EffectLists, post, post_each, post_in_next};
-use crate::names::{NamePieces, join_pieces};
+use crate::names::{NamePieces, join_pieces, whole};
 use crate::row_parts::{HandledName, RowHead, RowParts, add};
 use machine_settings::StepSettings;
 use mpf_config::config::ControlAction;
 use mpf_config::{
-    ACCRUALS_NAME, BlockEvents, COUNTERS_NAME, CounterEntry, Entry, Fields, Handler, Name,
-    SEQUENCES_NAME, StepBlock, TIMERS_NAME, TimerEntry, as_control, as_counter, as_step_block,
-    as_timer,
+    ACCRUALS_NAME, BlockEvents, COUNTERS_NAME, CounterEntry, Entry, Fields, Name, SEQUENCES_NAME,
+    StepBlock, TIMERS_NAME, TimerEntry, as_control, as_counter, as_step_block, as_timer,
 };
 use plan_rows::is_none;
 use plan_tables::devices::{Act, Settings};
+use setting_values::values::Step;
 use std::alloc::AllocError;
 
 /// What an entry gives if it is a device.
@@ -158,15 +159,30 @@ fn collect_step_block<'a>(
 /// The events of each step, which do it.
 fn collect_steps<'a>(
     event_acts: &mut Vec<(HandledName<'a>, Act)>,
-    steps: &'a [Vec<Handler>],
+    steps: &'a [Step],
 ) -> Result<(), AllocError>
     ensures { OnOk result (acts_view event_acts.new.items
-        ≡ acts_view event_acts.old.items ++ step_acts 0 (map handlers_view steps.now)) }
+        ≡ acts_view event_acts.old.items ++ step_acts 0 (map step_view steps.now)) }
 {
     for number in 0..steps.len() {
-        collect_acts(event_acts, Act::Step(number), &steps[number])?;
+        collect_step(event_acts, Act::Step(number), &steps[number])?;
     }
     Ok(())
+}
+
+/// The events of a step, each of which does this.
+fn collect_step<'a>(
+    event_acts: &mut Vec<(HandledName<'a>, Act)>,
+    act: Act,
+    step: &'a Step,
+) -> Result<(), AllocError>
+    ensures { OnOk result (acts_view event_acts.new.items
+        ≡ acts_view event_acts.old.items ++ acts act (step_view step.now)) }
+{
+    match step {
+        Step::Always(name) => add(event_acts, (HandledName::always(whole(&name.text)), act)),
+        Step::AnyOf(handlers) => collect_acts(event_acts, act, handlers),
+    }
 }
 
 // ---- `timers`

@@ -1,7 +1,7 @@
 //! How answers are written.
 
 use mpf_sections::{HandledAt, NameAt, as_handled};
-use setting_values::values::{Handler, Name};
+use setting_values::values::{Handler, Name, Step};
 use std::alloc::Global;
 use std::fmt::{Debug, Display};
 
@@ -159,10 +159,16 @@ impl Pen {
     }
 
     /// Adds steps, each in brackets.
-    pub(crate) fn steps(&mut self, steps: &[Vec<Handler>]) {
+    pub(crate) fn steps(&mut self, steps: &[Step]) {
         for step in steps {
             self.put("[");
-            self.handlers(step);
+            match step {
+                Step::Always(name) => {
+                    self.put(" ");
+                    self.name(name);
+                }
+                Step::AnyOf(handlers) => self.handlers(handlers),
+            }
             self.put("]");
         }
     }

@@ -1,11 +1,10 @@
 //! The faults that are found in a text, and what they depend on.
 
 ghost use Rattle.std.specs.Prelude.{◌≡◌, true, IfOk, OnOk};
-ghost use Rattle.std.specs.Rc.{rc_slice_items};
 ghost use Rattle.mpf_sections.specs.View.{name_view, name_at_view};
 ghost use Rattle.row_faults.specs.CoilFaults.{fault_at};
 ghost use Rattle.row_faults.specs.Collected.{Gains};
-ghost use Rattle.row_faults.specs.View.{row_fault_view, row_faults_view};
+ghost use Rattle.row_faults.specs.View.{letters_of, row_fault_view, row_faults_view};
 ghost use Rattle.row_faults.specs.FaultsOf.{fault_where};
 
 use crate::fault::{RowFault, RowFaultKind};
@@ -31,9 +30,8 @@ pub(crate) struct Faults<'k, 'd> {
 }
 
 impl<'k, 'd> Model for Faults<'k, 'd> {
-    ghost use Rattle.std.specs.Rc.{rc_slice_items};
     ghost use Rattle.row_faults.specs.Collected.{FaultsView};
-    ghost use Rattle.row_faults.specs.View.{events_view, row_faults_view};
+    ghost use Rattle.row_faults.specs.View.{events_view, letters_of, row_faults_view};
 
     ghost Value = { FaultsView };
 
@@ -41,7 +39,7 @@ impl<'k, 'd> Model for Faults<'k, 'd> {
         record {
           rows = f.definitions.now;
           modes = events_view f.modes.now;
-          text = rc_slice_items f.text.now.letters;
+          text = letters_of f.text.now;
           found_faults = row_faults_view f.found_faults.items;
         } };
 }
@@ -71,12 +69,12 @@ fn fault_at(
     name: NameAt<'_>,
 ) -> Result<RowFault, AllocError>
     ensures { IfOk result (λ fault. row_fault_view fault
-        ≡ fault_at kind (rc_slice_items text.now.letters) (name_at_view name.entry)) }
+        ≡ fault_at kind (letters_of text.now) (name_at_view name.entry)) }
 {
     Ok(RowFault {
         kind,
-        text: text.share()?,
         line: name.line,
+        text: text.share()?,
         name: NameText::from_slice(alloc, name.text)?,
     })
 }

@@ -5,6 +5,7 @@ ghost use Rattle.row_faults.specs.FaultText.{row_fault_number, row_fault_name};
 
 use crate::text_name::TextName;
 use setting_values::values::NameText;
+use std::mem::size_of;
 
 /// What can be wrong with the rows of a text.
 #[derive(Clone, Copy, Debug, PartialEq, Eq, Hash)]
@@ -59,16 +60,19 @@ impl RowFaultKind {
     }
 }
 
-/// What is wrong with the rows of a text.
+/// What is wrong with the rows of a text. There may be very many of these, so each is small: the fields
+/// lie in this order.
 #[derive(Drop)]
 #[derive_where(Debug, PartialEq, Eq, Hash)]
 pub struct RowFault {
     pub kind: RowFaultKind,
-    /// The name of the text.
-    pub text: TextName,
     /// The line of what is at fault, counted from 1.
     pub line: u32,
+    /// The name of the text.
+    pub text: TextName,
     /// The name that is at fault: that of the event, the variable, the coil, the switch, the
     /// profile, the shot, the timer or the ball device.
     pub name: NameText,
 }
+
+const _: () = prove!(size_of::<RowFault>() <= 48);

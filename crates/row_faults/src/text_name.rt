@@ -2,7 +2,6 @@
 
 ghost use Rattle.std.specs.Prelude.{◌≡◌, not, IfOk, OnOk};
 ghost use Rattle.std.specs.List.{list_any};
-ghost use Rattle.std.specs.Rc.{rc_slice_items};
 ghost use Rattle.std.specs.Io.KnownBytes.{Appends};
 ghost use Rattle.mpf_config.specs.Escaped.{escape_bytes};
 ghost use Rattle.row_faults.specs.Plain.{is_mark, is_plain};
@@ -10,65 +9,75 @@ ghost use Rattle.row_faults.specs.Plain.{is_mark, is_plain};
 use mpf_config::write_escaped;
 use std::alloc::{AllocError, Global};
 use std::io::{self, Write};
-use std::rc::RcSlice;
+use std::rc::Rc;
 
-/// The name of a text. All faults of the text share its letters.
+/// The letters of a name, and what is known of them.
+#[derive(Drop)]
+#[derive_where(Debug, PartialEq, Eq, Hash)]
+struct Letters {
+    bytes: Vec<u8>,
+    /// Whether they are printed as they are, and as one word.
+    #[derive_where(skip)]
+    plain: bool,
+    ghost same: { plain ≡ is_plain bytes.items },
+}
+
+/// The name of a text. All faults of the text share its letters, and each has one pointer to them.
 #[derive(Drop)]
 #[derive_where(Debug, PartialEq, Eq, Hash)]
 pub struct TextName {
-    letters: RcSlice<u8>,
-    /// Whether it is printed as it is, and as one word.
-    #[derive_where(skip)]
-    plain: bool,
-    ghost same: { plain ≡ is_plain (rc_slice_items letters) },
+    letters: Rc<Letters>,
 }
 
 impl TextName {
+    ghost use Rattle.row_faults.specs.View.{letters_of};
+
     /// The name with these letters.
     ///
     /// # Errors
     ///
     /// Memory ran out.
     pub fn new(alloc: Global, letters: &[u8]) -> Result<Self, AllocError>
-        ensures { IfOk result (λ name. rc_slice_items name.letters ≡ letters.now) }
+        ensures { IfOk result (λ name. letters_of name ≡ letters.now) }
     {
         let plain = is_plain(letters);
-        let letters = RcSlice::from_slice(alloc, letters)?;
-        Ok(TextName { letters, plain })
+        let bytes = Vec::from_slice(alloc, letters)?;
+        let letters = Rc::new(alloc, Letters { bytes, plain })?;
+        Ok(TextName { letters })
     }
 
     /// The same name, with the same letters.
     pub(crate) fn share(&self) -> Result<Self, AllocError>
-        ensures { IfOk result (λ name. rc_slice_items name.letters ≡ rc_slice_items self.now.letters) }
+        ensures { IfOk result (λ name. letters_of name ≡ letters_of self.now) }
     {
         let letters = self.letters.clone()?;
-        let plain = self.plain;
-        Ok(TextName { letters, plain })
+        Ok(TextName { letters })
     }
 
     /// Its letters.
     pub fn as_bytes(&self) -> &[u8]
-        ensures { result.now ≡ rc_slice_items self.now.letters }
+        ensures { result.now ≡ letters_of self.now }
     {
-        &self.letters
+        &self.letters.bytes
     }
 
     /// Whether it is printed as it is, and as one word.
     pub(crate) fn is_plain(&self) -> bool
-        ensures { result ≡ is_plain (rc_slice_items self.now.letters) }
+        ensures { result ≡ is_plain (letters_of self.now) }
     {
-        self.plain
+        self.letters.plain
     }
 
     /// Writes it as a report has it.
     pub(crate) fn write<W: Write>(&self, writer: &mut W) -> io::Result<()>
         ensures { OnOk result (Appends (W.contents writer.old) (W.contents writer.new)
-            (escape_bytes (rc_slice_items self.now.letters))) }
+            (escape_bytes (letters_of self.now))) }
     {
-        if self.plain {
-            return writer.write_all(&self.letters);
+        let letters = &self.letters;
+        if letters.plain {
+            return writer.write_all(&letters.bytes);
         }
-        write_escaped(&self.letters, writer)
+        write_escaped(&letters.bytes, writer)
     }
 }
 

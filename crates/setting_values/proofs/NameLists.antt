@@ -7,7 +7,8 @@ use Rattle.yaml_subset.specs.{Node.{Node, scalar}, View.{line_of, text_in}}
 use Rattle.mpf_values.specs.{Bytes.{is_name_byte, is_separator}, ListText.open_after, Lists.{Item, item_at}}
 use Rattle.mpf_values.specs.Reading.{is_name, items_from, items_of, list_at, event_at}
 use Rattle.mpf_values.proofs.{EventTexts.event_computes, NameTexts.IsName-from_is_name}
-use Rattle.setting_values.specs.{Kinds.Bounds, Values.{written_at, handled_at}}
+use Rattle.setting_values.specs.{Kinds.{Bounds, at_least}, Reading.most_items}
+use Rattle.setting_values.specs.Values.{WrittenName, HandledEvent, written_at, handled_at}
 use Rattle.config_faults.specs.Faults.{RowsFault, Spot}
 use Rattle.setting_values.specs.Reading.{◌>>=◌, each_read, count_at, written_in, handled_in, list_items_at, listed_at}
 
@@ -104,3 +105,15 @@ one_handled most bounds spot node text here named =
     one_name handled_in spot most bounds node text
     (handled_at (line_of node) (record { name = text; condition = None })) here named
     (rw (name_is_event text named) refl)
+
+-- a name is a step: the event of this name, handled always
+pub one_step : (spot : Spot) (node : Node) (text : List ℕ) (w : WrittenName) → text_in node ≡ Some text
+    → is_name text ≡ true → w ≡ written_at (line_of node) text
+    → listed_at handled_in most_items (at_least 1) spot node
+    ≡ Ok (handled_at w.line (record { name = w.text; condition = None }) ∷ [])
+unfolding count_at
+one_step spot node text w here named is =
+    sym (ap step_said is ∙ one_handled most_items (at_least 1) spot node text here named)
+  where
+    step_said : WrittenName → Result (List HandledEvent) RowsFault
+    step_said v = Ok (handled_at v.line (record { name = v.text; condition = None }) ∷ [])

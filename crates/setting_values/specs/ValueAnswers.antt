@@ -5,14 +5,15 @@ use Rattle.yaml_subset.specs.{declared.tree.{Key.Key, Tree.Tree}, Node.{Node, Pa
 use Rattle.yaml_subset.specs.View.{node_view, pair_view, text_in}
 use Rattle.mpf_values.specs.declared.items.Item as items
 use Rattle.mpf_values.specs.{Lists.Item, Reading.{is_name, event_at, scalar_at}, View.{item_view, items_view}}
-use Rattle.setting_values.specs.declared.{nodes.ListNodes.ListNodes, values.{Name.Name, Handler.Handler}}
+use Rattle.setting_values.specs.declared.{nodes.ListNodes.ListNodes, values.{Name.Name, Handler.Handler, Step.Step}}
 use Rattle.setting_values.specs.declared.values.Plain as plains
 use Rattle.setting_values.specs.declared.values.Fields as maps
 use Rattle.setting_values.specs.declared.values.KeyedValues as keyed_rows
 use Rattle.setting_values.specs.declared.kinds.{Scalar.Scalar, Others.Others, Field.Field, Bounds.Bounds}
 use Rattle.config_faults.specs.declared.{spot.Spot.Spot, fault.ConfigFault.ConfigFault}
 use Rattle.setting_values.specs.Values.{WrittenName, HandledEvent, Plain, name, event, Fields, KeyedValues, written_at}
-use Rattle.setting_values.specs.{Values.handled_at, Kinds.at_least, ValueOf.{pass, own_name}, View.found_view}
+use Rattle.setting_values.specs.{Values.handled_at, Kinds.at_least}
+use Rattle.setting_values.specs.{ValueOf.{pass, own_name}, View.{found_view, nodes_in_view}}
 use Rattle.config_faults.specs.Faults.{RowsFault, spot_view, GivesRows}
 use Rattle.setting_values.specs.Kinds as kinds
 use Rattle.setting_values.specs.KeyRules.{found_in, field_key, field_default, field_lacks}
@@ -22,8 +23,8 @@ use Rattle.setting_values.specs.Reading.{written_in, handled_in, list_items_at, 
 use Rattle.setting_values.specs.Reading.{put_at, overwritten_at, lacking, field_at, fields_row_at, fields_at}
 use Rattle.setting_values.specs.Reading.{named_maps_at, keyed_row_at, keyed_at, few_pairs_at, keyed_list_at}
 use Rattle.setting_values.specs.KindView.{scalar_view, bounds_view, others_view, field_view}
-use Rattle.setting_values.specs.View.{name_view, handler_view, handlers_view, steps_view, plain_view, plains_view}
-use Rattle.setting_values.specs.View.{fields_view, maps_view, keyed_view, keyed_list_view, pairs_view, nodes_in_view}
+use Rattle.setting_values.specs.View.{name_view, handler_view, handlers_view, step_view, steps_view, plain_view}
+use Rattle.setting_values.specs.View.{plains_view, fields_view, maps_view, keyed_view, keyed_list_view, pairs_view}
 
 -- ---- answers: what reading gives, which is a value or the first fault, unless memory ran out
 
@@ -55,8 +56,12 @@ GivesHandler answer read = GivesRows handler_view answer read
 abbrev pub GivesHandlers : Result (Vec Handler) ConfigFault → Result (List HandledEvent) RowsFault → Type 0
 GivesHandlers answer read = GivesRows handlers_view answer read
 
+-- the answer is the step that is read
+abbrev pub GivesStep : Result Step ConfigFault → Result (List HandledEvent) RowsFault → Type 0
+GivesStep answer read = GivesRows step_view answer read
+
 -- the answer is the steps that are read
-abbrev pub GivesSteps : Result (Vec (Vec Handler)) ConfigFault → Result (List (List HandledEvent)) RowsFault → Type 0
+abbrev pub GivesSteps : Result (Vec Step) ConfigFault → Result (List (List HandledEvent)) RowsFault → Type 0
 GivesSteps answer read = GivesRows steps_view answer read
 
 -- the answer is what a text is read to say

@@ -1,11 +1,14 @@
 -- What contracts see of the values, and of an answer.
-use Rattle.std.specs.{Prelude.{ℕ, map, List, Option, Some, None}, Borrow.Bor, Global.{Box, Vec}}
+use Rattle.std.specs.{Prelude.{ℕ, map, List, [], ◌∷◌, Option, Some, None}, Borrow.Bor, Global.{Box, Vec}}
 use Rattle.yaml_subset.specs.{declared.tree.{Key.Key, Tree.Tree}, Node.{Node, Pair}, View.{node_view, pair_view}}
-use Rattle.setting_values.specs.{declared.nodes.{MapPairs.MapPairs, ListNodes.ListNodes}, Values.{steps, maps, by_key}}
+use Rattle.setting_values.specs.declared.nodes.{MapPairs.MapPairs, ListNodes.ListNodes}
+use Rattle.setting_values.specs.Values.{steps, maps, by_key, handled_at}
 use Rattle.setting_values.specs.Values.{written_at, WrittenName, HandledEvent, Plain, nothing, flag, number, time}
 use Rattle.setting_values.specs.Values.{power, word, name, event, Fields, KeyedValues, Value, one, names, posts, events}
 use Rattle.mpf_values.specs.Events.{EventCondition}
 use Rattle.setting_values.specs.declared.values.{Name.Name, Guard.Guard, Handler.Handler}
+use Rattle.setting_values.specs.declared.values.Step as step_rows
+use Rattle.setting_values.specs.declared.values.Step.TheVariants as step
 use Rattle.setting_values.specs.declared.values.Plain as plains
 use Rattle.setting_values.specs.declared.values.Plain.TheVariants as plain
 use Rattle.setting_values.specs.declared.values.Fields as fields
@@ -49,8 +52,12 @@ names_view xs = map name_view xs.items
 abbrev pub handlers_view : Vec Handler → List HandledEvent
 handlers_view xs = map handler_view xs.items
 
-abbrev pub steps_view : Vec (Vec Handler) → List (List HandledEvent)
-steps_view xs = map handlers_view xs.items
+abbrev pub step_view : step_rows.Step → List HandledEvent
+step_view (step.Always n) = handled_at n.line (record { name = n.text.items; condition = None }) ∷ []
+step_view (step.AnyOf hs) = handlers_view hs
+
+abbrev pub steps_view : Vec step_rows.Step → List (List HandledEvent)
+steps_view xs = map step_view xs.items
 
 abbrev pub fields_view : fields.Fields → Fields
 fields_view m = record { line = m.line; values = plains_view m.values.items }

@@ -1,6 +1,8 @@
 //! The value of a setting, by its kind.
 
-ghost use Rattle.setting_values.specs.ValueAnswers.{GivesHandlers, GivesSteps, read_step, read_steps};
+ghost use Rattle.std.specs.Prelude.{◌≡◌, IfOk};
+ghost use Rattle.setting_values.specs.View.{handlers_view, step_view};
+ghost use Rattle.setting_values.specs.ValueAnswers.{GivesStep, GivesSteps, read_step, read_steps};
 ghost use Rattle.setting_values.specs.Gives.{GivesValue, read_value};
 
 use crate::fields::{keyed_list, maps, named_maps};
@@ -8,11 +10,41 @@ use crate::items::each;
 use crate::kinds::{Bounds, Kind};
 use crate::lists::{MAX_ITEMS, handlers, names};
 use crate::nodes::nodes;
-use crate::scalars::plain;
-use crate::values::{Handler, Value};
+use crate::scalars::{is_name, name_of, plain};
+use crate::values::{Handler, Name, NameText, Step, Value};
 use config_faults::{ConfigFault, Spot};
-use std::alloc::Global;
+use std::alloc::{AllocError, Global};
 use yaml_subset::tree::Tree;
+
+// The step that these events do. One event that is handled always takes no list.
+fn step_of(alloc: Global, handlers: Vec<Handler>) -> Result<Step, AllocError>
+    ensures { IfOk result (λ step. step_view step ≡ handlers_view handlers) }
+{
+    if let [handler] = handlers.as_slice()
+        && handler.condition.is_none()
+    {
+        let text = NameText::from_slice(alloc, &handler.name)?;
+        let line = handler.line;
+        return Ok(Step::Always(Name { line, text }));
+    }
+    Ok(Step::AnyOf(handlers))
+}
+
+// A step of a list of steps: a list of handled events that is not empty; or its first fault.
+fn step(alloc: Global, spot: Spot<'_>, node: &Tree) -> Result<Step, ConfigFault>
+    ensures { GivesStep result (read_step spot.entry node.now) }
+{
+    if let Some(text) = node.as_scalar()
+        && is_name(text)
+    {
+        // (a name is the event of this name, handled always)
+        let name = name_of(alloc, node.line(), text)?;
+        return Ok(Step::Always(name));
+    }
+    let handlers = handlers(alloc, spot, Bounds::AtLeast(1), node)?;
+    let step = step_of(alloc, handlers)?;
+    Ok(step)
+}
 
 // The steps in a list, each a list of handled events that is not empty; or the first fault.
 fn steps(
@@ -20,7 +52,7 @@ fn steps(
     spot: Spot<'_>,
     bounds: Bounds,
     tree: &Tree,
-) -> Result<Vec<Vec<Handler>>, ConfigFault>
+) -> Result<Vec<Step>, ConfigFault>
     ensures { GivesSteps result (read_steps spot.entry bounds tree.now) }
 {
     let list_nodes = nodes(alloc, spot, bounds, tree)?;
@@ -28,8 +60,8 @@ fn steps(
         alloc,
         list_nodes.nodes,
         |node|
-            ensures { GivesHandlers result (read_step spot.entry node.now) }
-        { handlers(alloc, spot, Bounds::AtLeast(1), node) },
+            ensures { GivesStep result (read_step spot.entry node.now) }
+        { step(alloc, spot, node) },
     )
 }
 

@@ -33,6 +33,16 @@ pub struct Handler {
     pub condition: Option<Box<Guard>>,
 }
 
+/// A step: the handled events that do it. Most steps have one event that is handled always. Then it is
+/// in the step itself, and takes no list.
+#[derive(Drop)]
+pub enum Step {
+    /// The event of this name, handled always.
+    Always(Name),
+    /// These events.
+    AnyOf(Vec<Handler>),
+}
+
 /// What one text says. Large values are in a box, so a value has 24 bytes.
 #[derive(Drop)]
 pub enum Plain {
@@ -76,7 +86,7 @@ pub enum Value {
     Posts(Vec<Name>),
     Events(Vec<Handler>),
     /// Steps, each the handled events that do it.
-    Steps(Vec<Vec<Handler>>),
+    Steps(Vec<Step>),
     Maps(Vec<Fields>),
     Keyed(Vec<KeyedValues>),
 }
@@ -86,3 +96,5 @@ const _: () = prove!(size_of::<Plain>() <= 24);
 const _: () = prove!(size_of::<Value>() <= 32);
 
 const _: () = prove!(size_of::<Handler>() <= 56);
+
+const _: () = prove!(size_of::<Step>() <= 48);

@@ -1,7 +1,8 @@
-use Rattle.std.{proofs.Common.{rules, ◌≡◌, [], true, ap, subst}, specs.Rc.rc_slice_items}
+use Rattle.std.proofs.Common.{rules, ◌≡◌, [], true, ap, subst}
 use Rattle.std.proofs.lemmas.{Bool.{and_parts, and_from, eqb-true, eq-eqb}, Slice.Eq.bytes_eq-Decides}
 use Rattle.row_faults.{specs.declared.fault.{RowFault.RowFault, RowFaultKind.RowFaultKind}, proofs.Plain.took-one}
-use Rattle.row_faults.specs.{FaultView.RowFaultView, RowFaults.listed_once, View.{row_fault_view, row_faults_view}}
+use Rattle.row_faults.specs.{FaultView.RowFaultView, RowFaults.listed_once}
+use Rattle.row_faults.specs.View.{letters_of, row_fault_view, row_faults_view}
 use Rattle.row_faults.specs.contracts.fault.RowFaultPartialEq.TheImpl as same_faults
 use Rattle.row_faults.specs.contracts.fault.RowFaultKindPartialEq.TheImpl as same_kinds
 use Rattle.row_faults.proofs.once.each_once.Goals as goal
@@ -18,8 +19,8 @@ fault-same f g same =
     let two = and_parts _ _ one.1 in
     let three = and_parts _ _ two.1 in
     let kinds : f.kind ≡ g.kind = kind-same f.kind g.kind one.0 in
-    let texts = (bytes_eq-Decides (rc_slice_items f.text.letters) (rc_slice_items g.text.letters)).0 two.0 in
-    let lines : f.line ≡ g.line = eqb-true f.line g.line three.0 in
+    let lines : f.line ≡ g.line = eqb-true f.line g.line two.0 in
+    let texts = (bytes_eq-Decides (letters_of f.text) (letters_of g.text)).0 three.0 in
     let names = (bytes_eq-Decides f.name.items g.name.items).0 three.1 in
     λ i. record { kind = kinds i; text = texts i; line = lines i; name = names i }
 
@@ -27,9 +28,9 @@ fault-equal : (f g : RowFault) → row_fault_view f ≡ row_fault_view g → sam
 fault-equal f g same =
     let kinds : f.kind ≡ g.kind = ap (λ (v : RowFaultView). v.kind) same in
     and_from _ _ (subst (λ k. same_kinds.ghosts.eq f.kind k ≡ true) kinds (kind-equal f.kind))
-    (and_from _ _ ((bytes_eq-Decides (rc_slice_items f.text.letters) (rc_slice_items g.text.letters)).1
-    (ap (λ (v : RowFaultView). v.text) same))
     (and_from _ _ (eq-eqb f.line g.line (ap (λ (v : RowFaultView). v.line) same))
+    (and_from _ _ ((bytes_eq-Decides (letters_of f.text) (letters_of g.text)).1
+    (ap (λ (v : RowFaultView). v.text) same))
     ((bytes_eq-Decides f.name.items g.name.items).1 (ap (λ (v : RowFaultView). v.name) same))))
 
 pub loop-fault-preserved : goal.loop-fault-preserved
