@@ -139,11 +139,11 @@ fn first_parts<'p>(alloc: Global, plan: &'p Plan) -> Result<FirstParts<'p>, Allo
     ensures players { IfOk result (λ p. p.players ≡ record { plan = plan.now; state = no_players }) }
 {
     Ok(FirstParts {
-        switches: Switches::new(alloc, plan)?,
         modes: Modes::new(alloc, plan)?,
         coils: Coils::new(alloc, plan)?,
         ledger: BallLedger::new(alloc, plan)?,
         players: Players::new(alloc, plan)?,
+        switches: Switches::new(alloc, plan)?,
     })
 }
 
@@ -169,10 +169,10 @@ fn waiting_parts<'p>(
     ensures lines { IfOk result (λ w. w.lines.items ≡ []) }
     ensures room { IfOk result (λ w. room ≤ vec_capacity w.lines) }
 {
-    let alarms = Alarms::new(alloc, plan.rows().len() as u16)?;
-    let queue = Queue::new(alloc, room)?;
-    let handlers = Handlers::new(alloc, plan)?;
     let lines = room_for_lines(alloc, room)?;
+    let queue = Queue::new(alloc, room)?;
+    let alarms = Alarms::new(alloc, plan.rows().len() as u16)?;
+    let handlers = Handlers::new(alloc, plan)?;
     Ok(WaitingParts {
         alarms,
         queue,

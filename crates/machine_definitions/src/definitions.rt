@@ -60,10 +60,10 @@ impl<'a> Definitions<'a> {
     pub fn new(alloc: Global, config: &'a Config) -> Result<Definitions<'a>, AllocError>
         ensures { IfOk result (λ d. d ≡ rows_view config.now) }
     {
-        let machine = machine_tables(alloc, config.hashing, &config.machine.sections)?;
+        let standard = standard_profile(alloc)?;
         let shots = shots_of(alloc, config)?;
         let profiles = profiles_of(alloc, config)?;
-        let standard = standard_profile(alloc)?;
+        let machine = machine_tables(alloc, config.hashing, &config.machine.sections)?;
         Ok(Definitions {
             config,
             coils: machine.coils,

@@ -1,7 +1,7 @@
 //! The texts of modes.
 
-ghost use Rattle.std.specs.Prelude.{◌≡◌, length, IfOk};
-ghost use Rattle.yaml_subset.specs.Keys.{is_among};
+ghost use Rattle.std.specs.Prelude.{◌≡◌, [], length, IfOk};
+ghost use Rattle.yaml_subset.specs.Keys.{copies_view, is_among};
 ghost use Rattle.mpf_config.specs.Gives.{GainsKeys, GivesMode, GivesModes, LeavesModes, mode_of_text, new_mode_of_text};
 ghost use Rattle.mpf_config.specs.Gives.{keys_of_mode, with_mode_of_text, keys_at_text, IsNoneFound};
 ghost use Rattle.mpf_config.specs.Gives.{with_modes_of_texts, AreEntriesDistinct, modes_of_texts, AreModesFound};
@@ -108,24 +108,25 @@ fn none_found(alloc: Global, modes: &[ListedMode<'_>]) -> Result<Vec<Option<Mode
 }
 
 /// Takes each text to the place of its mode, in the order of the bundle; or the first fault, which
-/// may also be Duplicate at a text with the name of an earlier one.
-fn place_all(
+/// may also be Duplicate at a text with the name of an earlier one. The set takes the names.
+fn place_all<'a>(
     alloc: Global,
     hashing: KeyHashing,
     machine: &[Section],
     modes: &[ListedMode<'_>],
-    texts: &[NamedText<'_>],
+    texts: &[NamedText<'a>],
+    names: &mut KeySet<'a>,
     known_keys: &mut KeySet,
     mode_reads: &mut [Option<ModeRead>],
 ) -> Result<(), ConfigFault>
     requires distinct { AreEntriesDistinct machine.now }
     requires none { IsNoneFound modes.now mode_reads.old }
+    requires no_names { copies_view names.old ≡ [] }
     ensures { LeavesModes mode_reads.new result
         (with_modes_of_texts machine.now known_keys.old modes.now mode_reads.old texts.now) }
 {
-    let mut names = no_keys(alloc, hashing);
     for text in texts {
-        let fresh = take_key(&mut names, CowSlice::Borrowed(text.name))?;
+        let fresh = take_key(names, CowSlice::Borrowed(text.name))?;
         if !fresh {
             let fault = line_of(text.name, 1).fault(alloc, BundleFaultKind::Duplicate)?;
             return Err(ConfigFault::Bundle(fault));
@@ -152,12 +153,14 @@ pub fn find_modes(
     ensures { GivesModes result (modes_of_texts machine.now known_keys.old modes.now texts.now) }
 {
     let mut mode_reads = none_found(alloc, modes)?;
+    let mut names = no_keys(alloc, hashing);
     place_all(
         alloc,
         hashing,
         machine,
         modes,
         texts,
+        &mut names,
         known_keys,
         &mut mode_reads,
     )?;

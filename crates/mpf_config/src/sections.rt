@@ -1,6 +1,7 @@
 //! The sections of a text.
 
-ghost use Rattle.std.specs.Prelude.{◌≡◌};
+ghost use Rattle.std.specs.Prelude.{◌≡◌, []};
+ghost use Rattle.yaml_subset.specs.Keys.{copies_view};
 ghost use Rattle.yaml_subset.specs.View.{pair_view};
 ghost use Rattle.setting_values.specs.View.{pairs_view};
 ghost use Rattle.config_faults.specs.Faults.{spot_view};
@@ -24,7 +25,7 @@ use setting_values::MapPairs;
 use setting_values::values::Name;
 use std::alloc::Global;
 use std::borrow::CowSlice;
-use yaml_subset::keys::{KeyHashing, no_keys, take_key};
+use yaml_subset::keys::{KeyHashing, KeySet, no_keys, take_key};
 use yaml_subset::tree::{Key, Tree};
 
 /// The most modes of a machine.
@@ -43,12 +44,25 @@ fn compare_modes(alloc: Global, spot: Spot<'_>, modes: &[Name]) -> Result<(), Co
 {
     // They are few, so it does not matter which hashes they have.
     let mut names = no_keys(alloc, KeyHashing::of(spot.text));
+    compare_names(alloc, &mut names, spot, modes)
+}
+
+// The same, with a set that takes the names.
+fn compare_names<'a>(
+    alloc: Global,
+    names: &mut KeySet<'a>,
+    spot: Spot<'_>,
+    modes: &'a [Name],
+) -> Result<(), ConfigFault>
+    requires { copies_view names.old ≡ [] }
+    ensures { Passes result (modes_all_new spot.entry modes.now) }
+{
     for mode in modes {
         let name = mode.text.as_slice();
         if name == MACHINE_OWNER {
             return Err(ConfigFault::Bundle(spot.fault(alloc, BundleFaultKind::BadValue)?));
         }
-        let fresh = take_key(&mut names, CowSlice::Borrowed(name))?;
+        let fresh = take_key(names, CowSlice::Borrowed(name))?;
         if !fresh {
             let at = Spot {
                 text: spot.text,

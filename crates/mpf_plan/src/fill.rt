@@ -49,12 +49,27 @@ pub(crate) fn fill(
     requires modes { AreFewModes definitions.now.modes }
     ensures { GivesDraft definitions.now rows.now result }
 {
-    let mut draft = blank(alloc, hashing)?;
     let mut parts = RowParts::new(alloc);
+    fill_by(alloc, hashing, definitions, rows, &mut parts)
+}
+
+/// The same. The parts of one row after the other come into `parts`.
+fn fill_by<'a>(
+    alloc: Global,
+    hashing: NameHashing,
+    definitions: &Definitions<'_>,
+    rows: &[Row<'_, 'a>],
+    parts: &mut RowParts<'a>,
+) -> Result<Draft, PlanFault>
+    requires rows { row_list_view rows.now ≡ rows_of definitions.now }
+    requires modes { AreFewModes definitions.now.modes }
+    ensures { GivesDraft definitions.now rows.now result }
+{
+    let mut draft = blank(alloc, hashing)?;
     let mut text = RowText::machine();
     for row in rows {
-        collect_row(&mut parts, definitions, text, *row)?;
-        add_row(alloc, &mut draft, &parts)?;
+        collect_row(parts, definitions, text, *row)?;
+        add_row(alloc, &mut draft, parts)?;
         if draft.names.is_above(Table::Events) {
             return Err(PlanFault::Limit(Table::Events));
         }

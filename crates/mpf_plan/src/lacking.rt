@@ -27,10 +27,23 @@ pub(crate) fn lacks_name(
     ensures { IfOk result (λ b. b ≡ lacks_name (parts_of_rows definitions.now rows.now)) }
 {
     let mut parts = RowParts::new(alloc);
+    lacks_name_by(definitions, rows, &mut parts)
+}
+
+/// The same. The parts of one row after the other come into `parts`.
+fn lacks_name_by<'a>(
+    definitions: &Definitions<'_>,
+    rows: &[Row<'_, 'a>],
+    parts: &mut RowParts<'a>,
+) -> Result<bool, AllocError>
+    requires rows { row_list_view rows.now ≡ rows_of definitions.now }
+    requires modes { AreFewModes definitions.now.modes }
+    ensures { IfOk result (λ b. b ≡ lacks_name (parts_of_rows definitions.now rows.now)) }
+{
     let mut text = RowText::machine();
     for row in rows {
-        collect_row(&mut parts, definitions, text, *row)?;
-        if lacks_part(definitions, &parts) {
+        collect_row(parts, definitions, text, *row)?;
+        if lacks_part(definitions, parts) {
             return Ok(true);
         }
         text = text.after(*row);

@@ -115,13 +115,25 @@ fn play<R: Files + AllocGlobal, W: Write>(
     writer: &mut W,
 ) -> Result<Verdict, Failure> {
     let path_text = String::from_str(rt.alloc(), path)?;
-    let Some(checked) = load_bundle(rt.alloc(), bundle, writer)? else {
-        return Ok(Verdict::Refused);
-    };
-    let Ok(mut log) = fs::open(rt, path) else {
-        return Err(Failure::at(ShellFault::Read, path_text));
-    };
-    play_log(rt.alloc(), &checked, &mut log, writer).map_err(|fault| Failure::at(fault, path_text))
+    match load_bundle(rt.alloc(), bundle, writer)? {
+        Some(checked) => {
+            play_file(rt, path, &checked, writer).map_err(|fault| Failure::at(fault, path_text))
+        }
+        None => Ok(Verdict::Refused),
+    }
+}
+
+/// Plays the log of a file.
+fn play_file<R: Files + AllocGlobal, W: Write>(
+    rt: &R,
+    path: &str,
+    checked: &Checked,
+    writer: &mut W,
+) -> Result<Verdict, ShellFault> {
+    match fs::open(rt, path) {
+        Ok(mut log) => play_log(rt.alloc(), checked, &mut log, writer),
+        Err(_) => Err(ShellFault::Read),
+    }
 }
 
 /// Plays the log on a machine whose devices are made here, one for each row of the plan. Its board is

@@ -43,7 +43,7 @@ fn answer<R: Files + Input + Print + AllocGlobal>(
 ) -> Result<Verdict, Failure> {
     let bundle = folder_bundle(rt.alloc(), &Disk(rt), ask.folder())?;
     match load_bundle(rt.alloc(), &bundle, &mut io::writer(rt))? {
-        Some(checked) => Ok(serve(rt, ask, &checked)?),
+        Some(checked) => serve(rt, ask, &checked).map_err(Failure::from),
         None => Ok(Verdict::Refused),
     }
 }

@@ -231,24 +231,25 @@ fn list(
     Ok((Tree::List(number, items), rest))
 }
 
-// A mapping, read from after its brace on.
+// A mapping, read from after its brace on. The set takes its keys.
 #[cycle(flow)]
 #[tactic(auto, unfolding(crate::specs::Flow::flow_mapping_at))]
-fn mapping(
+fn mapping<'a>(
     alloc: Global,
     hashing: KeyHashing,
     levels: u8,
     number: u32,
-    after: &[u8],
-) -> Result<(Tree<'_>, &[u8]), Halt>
+    keys: &mut KeySet<'a>,
+    after: &'a [u8],
+) -> Result<(Tree<'a>, &'a [u8]), Halt>
+    requires { copies_view keys.old ≡ [] }
     ensures { GivesOrHalts flow_view result
         (flow_mapping_at number (flow_value_at number (flow_at levels number)) after.now) }
 {
-    let mut keys = no_keys(alloc, hashing);
     let mut text = start(number, after)?;
     let mut pairs = Vec::with_capacity(alloc, least_pairs(text))?;
     while !begins_with(b'}', text) {
-        let (next, rest) = pair(alloc, hashing, levels, number, &pairs, &mut keys, text)?;
+        let (next, rest) = pair(alloc, hashing, levels, number, &pairs, keys, text)?;
         pairs.push(next)?;
         text = behind_part(number, b'}', rest)?;
     }
@@ -282,7 +283,10 @@ pub fn flow(
     }
     match text {
         [b'[', after @ ..] => list(alloc, hashing, levels - 1, number, after),
-        [b'{', after @ ..] => mapping(alloc, hashing, levels - 1, number, after),
+        [b'{', after @ ..] => {
+            let mut keys = no_keys(alloc, hashing);
+            mapping(alloc, hashing, levels - 1, number, &mut keys, after)
+        }
         _ => Err(Halt::at(TextFaultKind::Flow, number, text.len())),
     }
 }

@@ -2,7 +2,7 @@ use Rattle.std.{proofs.Common.{◌≡◌, ◌+◌, false, drop, map, sym, ◌∙
 use Rattle.config_faults.specs.Faults.{spot_view}
 use Rattle.mpf_config.specs.{BundleText.machine_owner, View.name_view, CodeViews.copies_view}
 use Rattle.mpf_config.proofs.{ListLoops.mapped_at, SameModes.takes_next}
-use Rattle.mpf_config.proofs.sections.compare_modes.Goals as goal
+use Rattle.mpf_config.proofs.sections.compare_names.Goals as goal
 
 pub loop-mode-preserved : goal.loop-mode-preserved
 loop-mode-preserved c =

@@ -4,7 +4,7 @@ use Rattle.plan_rows.specs.View.{row_list_view, row_view}
 use Rattle.plan_parts.specs.RowViews.{parts_at, parts_from, parts_in, text_after, text_view}
 use Rattle.mpf_plan.specs.Lacking.{lacks_part}
 use Rattle.mpf_plan.proofs.{Filled.{modes_kept_few, text_next}, Lacks.{lacks_here, lacks_next, lacks_rows}}
-use Rattle.mpf_plan.proofs.lacking.lacks_name.Goals as goal
+use Rattle.mpf_plan.proofs.lacking.lacks_name_by.Goals as goal
 
 pub loop-row-preserved : goal.loop-row-preserved
 loop-row-preserved c =

@@ -4,7 +4,7 @@ use Rattle.plan_rows.specs.View.{row_view}
 use Rattle.plan_parts.specs.RowViews.{machine_text, parts_at, parts_from, parts_in, text_after, text_view}
 use Rattle.mpf_plan.specs.Drafting.{IsDraftOf}
 use Rattle.mpf_plan.proofs.Filled.{draft_next, many_events, modes_kept_few, text_next, rows_all}
-use Rattle.mpf_plan.proofs.fill.fill.Goals as goal
+use Rattle.mpf_plan.proofs.fill.fill_by.Goals as goal
 
 pub loop-row-init : goal.loop-row-init
 loop-row-init c = record { made = c.in_ok-draft.ensures; text = c.machine-text.ensures }

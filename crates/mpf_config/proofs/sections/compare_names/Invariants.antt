@@ -1,7 +1,7 @@
 use Rattle.std.proofs.Common.{◌≡◌, [], drop, map}
 use Rattle.config_faults.specs.Faults.{spot_view}
 use Rattle.mpf_config.specs.{Reading.modes_new_at, View.name_view, CodeViews.copies_view}
-use Rattle.mpf_config.proofs.sections.compare_modes.Given as goal
+use Rattle.mpf_config.proofs.sections.compare_names.Given as goal
 
 abbrev pub invariant-loop-mode : goal.invariant-loop-mode
 invariant-loop-mode l =

@@ -2,7 +2,7 @@ use Rattle.std.proofs.Common.{◌≡◌, take}
 use Rattle.plan_rows.specs.View.{row_list_view}
 use Rattle.plan_parts.specs.RowViews.{machine_text, parts_from, text_view}
 use Rattle.mpf_plan.{specs.Drafting.IsDraftOf, proofs.Walk.text_from}
-use Rattle.mpf_plan.proofs.fill.fill.Given as goal
+use Rattle.mpf_plan.proofs.fill.fill_by.Given as goal
 
 abbrev pub invariant-loop-row : goal.invariant-loop-row
 invariant-loop-row l = record {
