@@ -7,11 +7,10 @@ use Rattle.plan_tables.specs.declared.devices.{Act.Act, Settings.TheVariants.Acc
 use Rattle.plan_tables.specs.Devices.{IsWithinLimits, list_count}
 use Rattle.plan_tables.specs.declared.devices.Act.TheVariants as acts
 use Rattle.machine_settings.specs.declared.settings.StepSettings.{StepSettings}
-use Rattle.device_objects.specs.{declared.state.AccrualSlot.AccrualSlot, Blocks.{completing, going_on}}
-use Rattle.device_objects.specs.{Outcomes.only_if, Kinds.moments_of, Laws.IsLawful}
+use Rattle.device_objects.specs.{declared.state.AccrualSlot.AccrualSlot, Outcomes.only_if, Accrual.step_once}
+use Rattle.device_objects.specs.{Blocks.{completing, going_on}, Kinds.moments_of, Laws.IsLawful}
 use Rattle.device_objects.specs.Accrual.{HasMarks, accrual_slots, accruals, are_all_done, after_completion, is_open}
 use Rattle.device_objects.specs.Accrual.{enable, is_step_open, none_done, of_accrual, reset, slot_step, slots}
-use Rattle.device_objects.specs.Accrual.{step_once}
 use Rattle.device_objects.proofs.Among.{In, here, there, at_last, if_holds, either, one, all_if, if_true, if_false}
 use Rattle.device_objects.proofs.BlockLaws.{block-in, nobody-in, by_slot, block-comes}
 use Rattle.device_objects.proofs.{SlotLaws.{Comes, slotted-lawful}, Replicas.slice_get-replicate}

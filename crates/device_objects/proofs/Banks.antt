@@ -12,8 +12,8 @@ use Rattle.std.proofs.lemmas.List.Elements.{All-cons, All-append, All-drop, All-
 use Rattle.plan_tables.specs.declared.devices.{Act.Act, BankSettings.BankSettings, Settings.TheVariants.Bank}
 use Rattle.plan_tables.specs.Devices.{IsWithinLimits, list_count, state_count}
 use Rattle.plan_tables.specs.declared.devices.Act.TheVariants as acts
-use Rattle.device_objects.specs.{declared.state.BankSlot.BankSlot, Laws.IsLawful, Bank.rotate_states}
-use Rattle.device_objects.specs.{Outcomes.only_if, Kinds.moments_of}
+use Rattle.device_objects.specs.{declared.state.BankSlot.BankSlot, Laws.IsLawful, Kinds.moments_of}
+use Rattle.device_objects.specs.{Bank.rotate_states, Outcomes.only_if}
 use Rattle.device_objects.specs.Bank.{HasBankShape, advance_where, are_all_in, bank_slots, banks, can_complete}
 use Rattle.device_objects.specs.Bank.{first_slot, gone_on, group_complete, hit, hit_completing, hit_lists, hit_where}
 use Rattle.device_objects.specs.Bank.{is_complete, next_state, of_bank, of_hit, of_hit_in, slot_step, slots}

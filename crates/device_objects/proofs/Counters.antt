@@ -6,9 +6,9 @@ use Rattle.plan_tables.specs.Devices.{IsWithinLimits, list_count}
 use Rattle.plan_tables.specs.declared.devices.Act.TheVariants as acts
 use Rattle.machine_settings.specs.declared.settings.CounterSettings.{CounterSettings}
 use Rattle.machine_settings.specs.{Limits.IsEndWithin, Ends.is_at_end}
-use Rattle.device_objects.specs.declared.state.CounterSlot.{CounterSlot}
-use Rattle.device_objects.specs.{Blocks.{completing, going_on}, Values.move_value, Outcomes.only_if}
-use Rattle.device_objects.specs.{Kinds.moments_of, Laws.IsLawful, Counter.{enable, reset, slot_step, slots}}
+use Rattle.device_objects.specs.{declared.state.CounterSlot.CounterSlot, Values.move_value, Outcomes.only_if}
+use Rattle.device_objects.specs.{Blocks.{completing, going_on}, Kinds.moments_of, Laws.IsLawful}
+use Rattle.device_objects.specs.Counter.{enable, reset, slot_step, slots}
 use Rattle.device_objects.specs.Counter.{counter_slots, counters, after_completion, count_hit, is_early, of_counter}
 use Rattle.device_objects.proofs.Among.{In, here, there, if_holds, either, one, all_if, if_true, if_false}
 use Rattle.device_objects.proofs.BlockLaws.{block-in, nobody-in, by_slot, block-comes}

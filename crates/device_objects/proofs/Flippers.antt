@@ -4,9 +4,9 @@ use Rattle.std.{specs.List.All, proofs.lemmas.List.Elements.{All-nil, All-cons, 
 use Rattle.plan_tables.specs.declared.devices.{Act.Act, Settings.TheVariants.Flipper}
 use Rattle.plan_tables.specs.Devices.{IsWithinLimits, list_count}
 use Rattle.plan_tables.specs.declared.devices.Act.TheVariants as acts
-use Rattle.device_objects.specs.{declared.state.FlipperState.FlipperState, Kinds.moments_of, Laws.IsLawful}
+use Rattle.device_objects.specs.declared.state.FlipperState.{FlipperState}
+use Rattle.device_objects.specs.{Kinds.moments_of, Laws.IsLawful, Flipper.{off_list, on_list}}
 use Rattle.device_objects.specs.Flipper.{act_step, first_state, flipper, flipper_state, flippers, of_flipper}
-use Rattle.device_objects.specs.Flipper.{off_list, on_list}
 use Rattle.device_objects.proofs.Among.{In, here, there, either, switch-in, switch_comes, one, two, if_true}
 use Rattle.device_objects.proofs.Calm.{IsActAnswer, calm-lawful, someone}
 use Rattle.device_objects.specs.declared.state.DeviceState.TheVariants as states

@@ -6,13 +6,12 @@ use Rattle.plan_tables.specs.declared.devices.{Act.Act, Settings.TheVariants.Seq
 use Rattle.plan_tables.specs.Devices.{IsWithinLimits, list_count}
 use Rattle.plan_tables.specs.declared.devices.Act.TheVariants as acts
 use Rattle.machine_settings.specs.declared.settings.StepSettings.{StepSettings}
-use Rattle.device_objects.specs.{declared.state.SequenceSlot.SequenceSlot, Blocks.{completing, going_on}}
-use Rattle.device_objects.specs.{Outcomes.only_if, Kinds.moments_of, Laws.IsLawful, Sequence.step_once}
+use Rattle.device_objects.{specs.declared.state.SequenceSlot.SequenceSlot, proofs.SlotLaws.{Comes, slotted-lawful}}
+use Rattle.device_objects.specs.{Blocks.{completing, going_on}, Outcomes.only_if}
+use Rattle.device_objects.specs.{Kinds.moments_of, Laws.IsLawful, Sequence.{step_once, slot_step, slots}}
 use Rattle.device_objects.specs.Sequence.{after_completion, enable, of_sequence, reset, sequence_slots, sequences}
-use Rattle.device_objects.specs.Sequence.{slot_step, slots}
 use Rattle.device_objects.proofs.Among.{In, here, there, if_holds, by, either, second, one, all_if, if_true}
 use Rattle.device_objects.proofs.BlockLaws.{block-in, nobody-in, by_slot, block-comes}
-use Rattle.device_objects.proofs.SlotLaws.{Comes, slotted-lawful}
 use Rattle.device_objects.specs.declared.state.DeviceState.TheVariants as states
 
 module _ (q : StepSettings) where
