@@ -2,11 +2,12 @@
 
 ghost use Rattle.std.specs.Prelude.{◌≡◌, ◌<◌, ◌^◌, map};
 ghost use Rattle.plan_tables.specs.declared.devices.Settings.TheVariants as kinds;
-ghost use Rattle.device_objects.specs.BallDevice.{act_step, count, empty, fire, first_state as first_balls, halt};
+ghost use Rattle.device_objects.specs.BallDevice.{act_step, count, fire, halt};
 ghost use Rattle.device_objects.specs.BallDevice.{is_timeout_first, not_due};
 
-use crate::ejects::{ENTRY_LIST, answer, begin, confirm, lose_sight, request, time_out};
+use crate::ejects::{answer, begin, confirm, lose_sight, request, time_out};
 use crate::switches::{Due, due_of, first_due, switch_to, timeout_of, turn_over};
+use device_objects::ball_device::{ENTRY_LIST, first_ball_device};
 use device_objects::{BallState, BallSwitch, Device, DeviceState, Eject, Outcome, World};
 use plan_tables::{Act, BallSettings, DeviceRow, Settings};
 
@@ -35,7 +36,7 @@ impl BallDevice {
             Settings::BallDevice(settings) => Some(BallDevice {
                 row: *row,
                 settings,
-                state: first_state(),
+                state: first_ball_device(),
             }),
             _ => None,
         }
@@ -77,21 +78,6 @@ impl Device for BallDevice {
 
     fn act(&mut self, act: Act, now: u64, _world: World) -> Outcome {
         step(&self.settings, &mut self.state, act, now)
-    }
-}
-
-/// The state at first: no ball is counted, nothing is due, and nothing is ejected.
-fn first_state() -> BallState
-    ensures { result ≡ first_balls }
-{
-    let empty = BallSwitch {
-        counted: false,
-        due: None,
-    };
-    BallState {
-        switches: [empty; 16],
-        eject: Eject::Idle,
-        wanted: 0,
     }
 }
 

@@ -1,11 +1,11 @@
 //! A ball save.
 
 ghost use Rattle.std.specs.Prelude.{◌≡◌, ◌<◌, ◌^◌};
-ghost use Rattle.device_objects.specs.BallSave.{act_step, disable, enable, end_of, first_state as first_save, save};
-ghost use Rattle.device_objects.specs.BallSave.{save_ball};
+ghost use Rattle.device_objects.specs.BallSave.{act_step, disable, enable, end_of, save, save_ball};
 ghost use Rattle.plan_tables.specs.declared.devices.Settings.TheVariants as kinds;
 
 use crate::ejects::answer;
+use device_objects::ball_save::first_save;
 use device_objects::{Device, DeviceState, Outcome, SaveState, World};
 use machine_settings::SaveSettings;
 use plan_tables::{Act, DeviceRow, SAVE_DISABLED, SAVE_ENABLED, SAVE_SAVING, Settings};
@@ -35,7 +35,7 @@ impl BallSave {
             Settings::BallSave(settings) => Some(BallSave {
                 row: *row,
                 settings,
-                state: first_state(),
+                state: first_save(),
             }),
             _ => None,
         }
@@ -62,12 +62,12 @@ impl Device for BallSave {
     }
 
     fn start(&mut self, _now: u64, _world: World) -> Outcome {
-        self.state = first_state();
+        self.state = first_save();
         Outcome::new()
     }
 
     fn stop(&mut self, _now: u64, _world: World) -> Outcome {
-        self.state = first_state();
+        self.state = first_save();
         Outcome::new()
     }
 
@@ -77,17 +77,6 @@ impl Device for BallSave {
 
     fn act(&mut self, act: Act, now: u64, _world: World) -> Outcome {
         step(&self.settings, &mut self.state, act, now)
-    }
-}
-
-/// The state at first, and when its mode has started or stopped: it is not active.
-fn first_state() -> SaveState
-    ensures { result ≡ first_save }
-{
-    SaveState {
-        active: false,
-        balls_left: 0,
-        due: None,
     }
 }
 

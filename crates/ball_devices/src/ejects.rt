@@ -6,23 +6,11 @@ ghost use Rattle.device_objects.specs.BallDevice.{attempt, begin, can_begin, con
 ghost use Rattle.device_objects.specs.BallDevice.{lose_sight, may_try_again, next_number, request, stuck, time_out};
 
 use crate::switches::has_ball;
+use device_objects::ball_device::{
+    ARRIVAL_LIST, ATTEMPT_LIST, EXIT_LIST, FAILURE_LIST, LOSS_LIST, SUCCESS_LIST,
+};
 use device_objects::{Attempt, BallState, Eject, GREATEST_ATTEMPT, Outcome};
 use plan_tables::{BallSettings, BallTarget};
-
-/// The list of a ball that has entered.
-pub(crate) const ENTRY_LIST: u16 = 0;
-/// The list of an attempt to eject a ball.
-const ATTEMPT_LIST: u16 = 1;
-/// The list of an ejected ball that has left.
-const EXIT_LIST: u16 = 2;
-/// The list of a ball that has left and was not ejected.
-const LOSS_LIST: u16 = 3;
-/// The list of an ejected ball that counts as being where it should be.
-const SUCCESS_LIST: u16 = 4;
-/// The list of a ball that was on its way and is on the playfield.
-const ARRIVAL_LIST: u16 = 5;
-/// The list of an attempt that has failed.
-const FAILURE_LIST: u16 = 6;
 
 /// An answer with these lists.
 pub(crate) fn answer(lists: &[u16]) -> Outcome

@@ -5,6 +5,7 @@ ghost use Rattle.device_objects.specs.Multiball.{act_step, end, start};
 ghost use Rattle.plan_tables.specs.declared.devices.Settings.TheVariants as kinds;
 
 use crate::ejects::answer;
+use device_objects::multiball::first_multiball;
 use device_objects::{Device, DeviceState, MultiballState, Outcome, World};
 use machine_settings::MultiballSettings;
 use plan_tables::{Act, DeviceRow, MULTIBALL_ENDED, MULTIBALL_STARTED, Settings};
@@ -33,7 +34,7 @@ impl Multiball {
             Settings::Multiball(settings) => Some(Multiball {
                 row: *row,
                 settings,
-                state: MultiballState { running: false },
+                state: first_multiball(),
             }),
             _ => None,
         }

@@ -4,12 +4,10 @@ ghost use Rattle.std.specs.Prelude.{◌≡◌};
 ghost use Rattle.device_objects.specs.Autofire.{act_step};
 ghost use Rattle.plan_tables.specs.declared.devices.Settings.TheVariants as kinds;
 
+use device_objects::autofire::{FIRE_LIST, first_autofire};
 use device_objects::outcome::one_list;
 use device_objects::{AutofireState, Device, DeviceState, Outcome, World};
 use plan_tables::{Act, DeviceRow, Settings};
-
-/// The list of an autofire coil that fires.
-const FIRES: u16 = 0;
 
 /// An autofire coil, as a slingshot or a pop bumper has it: while it is enabled its switch fires it.
 #[derive(Drop)]
@@ -33,7 +31,7 @@ impl Autofire {
         match row.settings {
             Settings::Autofire => Some(Autofire {
                 row: *row,
-                state: AutofireState { enabled: false },
+                state: first_autofire(),
             }),
             _ => None,
         }
@@ -95,7 +93,7 @@ fn step(state: &mut AutofireState, act: Act) -> Outcome
             state.enabled = false;
             Outcome::new()
         }
-        Act::SwitchOn(switch) if state.enabled && switch == 0 => one_list(FIRES),
+        Act::SwitchOn(switch) if state.enabled && switch == 0 => one_list(FIRE_LIST),
         _ => Outcome::new(),
     }
 }

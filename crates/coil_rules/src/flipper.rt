@@ -4,14 +4,10 @@ ghost use Rattle.std.specs.Prelude.{◌≡◌};
 ghost use Rattle.device_objects.specs.Flipper.{raise, lower, act_step};
 ghost use Rattle.plan_tables.specs.declared.devices.Settings.TheVariants as kinds;
 
+use device_objects::flipper::{OFF_LIST, ON_LIST, first_flipper};
 use device_objects::outcome::one_list;
 use device_objects::{Device, DeviceState, FlipperState, Outcome, World};
 use plan_tables::{Act, DeviceRow, Settings};
-
-/// The list of a flipper that goes on.
-const ON: u16 = 0;
-/// The list of a flipper that goes off.
-const OFF: u16 = 1;
 
 /// A flipper: while it is enabled, its switch turns it on. It goes off when its switch becomes inactive,
 /// and when it is disabled.
@@ -36,10 +32,7 @@ impl Flipper {
         match row.settings {
             Settings::Flipper => Some(Flipper {
                 row: *row,
-                state: FlipperState {
-                    enabled: false,
-                    on: false,
-                },
+                state: first_flipper(),
             }),
             _ => None,
         }
@@ -96,7 +89,7 @@ fn raise(state: &mut FlipperState, holds: bool) -> Outcome
         return Outcome::new();
     }
     state.on = true;
-    one_list(ON)
+    one_list(ON_LIST)
 }
 
 /// The flipper goes off, if this holds.
@@ -108,7 +101,7 @@ fn lower(state: &mut FlipperState, holds: bool) -> Outcome
         return Outcome::new();
     }
     state.on = false;
-    one_list(OFF)
+    one_list(OFF_LIST)
 }
 
 /// What an act does to a flipper.

@@ -1,5 +1,5 @@
 -- Accruals are lawful.
-use Rattle.std.proofs.Common.{rules, ◌≡◌, inl, ℕ, zero, suc, nat_lt, ◌<◌, ◌≤◌, Bool, true, false, ◌&&◌, Some, List, []}
+use Rattle.std.proofs.Common.{rules, ◌≡◌, ℕ, zero, suc, nat_lt, ◌<◌, ◌≤◌, Bool, true, false, ◌&&◌, Some, List, []}
 use Rattle.std.proofs.Common.{◌∷◌, ◌++◌, length, replicate, take, slice_get, slice_set, refl, sym, ap, ◌∙◌, arith}
 use Rattle.std.{specs.List.{All, list_all}, proofs.lemmas.Bool.{and_from, and_parts, false≢true, ltb-true, true≢false}}
 use Rattle.std.proofs.lemmas.List.{length-set, set-set, take-replicate, Elements.{All-nil, All-cons, All-append}}
@@ -7,12 +7,12 @@ use Rattle.plan_tables.specs.declared.devices.{Act.Act, Settings.TheVariants.Acc
 use Rattle.plan_tables.specs.Devices.{IsWithinLimits, list_count}
 use Rattle.plan_tables.specs.declared.devices.Act.TheVariants as acts
 use Rattle.machine_settings.specs.declared.settings.StepSettings.{StepSettings}
-use Rattle.device_objects.specs.{declared.state.AccrualSlot.AccrualSlot, Blocks.{update, completing, going_on}}
-use Rattle.device_objects.specs.{Outcomes.only_if, Kinds.moments_of, Laws.IsLawful}
+use Rattle.device_objects.specs.{declared.state.AccrualSlot.AccrualSlot, Outcomes.only_if, Accrual.step_once}
+use Rattle.device_objects.specs.{Blocks.{completing, going_on}, Kinds.moments_of, Laws.IsLawful}
 use Rattle.device_objects.specs.Accrual.{HasMarks, accrual_slots, accruals, are_all_done, after_completion, is_open}
-use Rattle.device_objects.specs.Accrual.{is_step_open, none_done, of_accrual, slot_step, slots, step_once}
+use Rattle.device_objects.specs.Accrual.{enable, is_step_open, none_done, of_accrual, reset, slot_step, slots}
 use Rattle.device_objects.proofs.Among.{In, here, there, at_last, if_holds, either, one, all_if, if_true, if_false}
-use Rattle.device_objects.proofs.BlockLaws.{reset-in, no_player-in, resets}
+use Rattle.device_objects.proofs.BlockLaws.{block-in, nobody-in, by_slot, block-comes}
 use Rattle.device_objects.proofs.{SlotLaws.{Comes, slotted-lawful}, Replicas.slice_get-replicate}
 use Rattle.device_objects.proofs.Replicas.{nat_lt-not_zero, not_below_one, one_below, set-replicate}
 use Rattle.device_objects.specs.declared.state.DeviceState.TheVariants as states
@@ -68,15 +68,11 @@ module _ (a : StepSettings) where
       let at = and_parts (nat_lt i a.steps) (is_open (slice_get slot.done i)) parts.1 in
       step-in i slot at.0 at.1)
       (λ not. here)
-  answer-in acts.Reset now slot = reset-in a.block
-  answer-in acts.Restart now slot = reset-in a.block
-  answer-in _ now slot = here
+  answer-in act now slot = block-in enable reset a.block act slot
 
   none-in : (act : Act) → a.block.persist ≡ true → In [] (of_accrual a act)
   none-in (acts.Step i) is = here
-  none-in acts.Reset is = no_player-in a.block is
-  none-in acts.Restart is = no_player-in a.block is
-  none-in _ is = here
+  none-in act is = nobody-in a.block act is
 
   -- ---- each comes about
 
@@ -85,8 +81,7 @@ module _ (a : StepSettings) where
 
   answered : (act : Act) (lists : List ℕ) (enabled : Bool) (done : List Bool) → length done ≡ 16
       → (slot_step a act (slot_with enabled done)).1 ≡ lists → Comes (slots a) act lists
-  answered act lists enabled done marks answers =
-      inl (record { now = 0; slot = slot_with enabled done; shape = marks; answer = answers })
+  answered act lists enabled done marks answers = by_slot (slots a) act lists (slot_with enabled done) marks answers
 
   opens_at : (i : ℕ) (done : List Bool) → nat_lt i a.steps ≡ true → slice_get done i ≡ Some false
       → is_step_open a i done ≡ true
@@ -126,11 +121,7 @@ module _ (a : StepSettings) where
       (all_if Answer (nat_lt 1 a.steps) (going_on ∷ [])
       (λ several. one Answer going_on (goes_on i within below several)))
       (one Answer completing (completes i within below))))
-  come within acts.Reset = resets (slots a) a.block refl acts.Reset
-      (answered acts.Reset (update ∷ []) true none_done refl refl)
-  come within acts.Restart = resets (slots a) a.block refl acts.Restart
-      (answered acts.Restart (update ∷ []) true none_done refl refl)
-  come within act = one (Comes (slots a) act) [] (answered act [] true none_done refl refl)
+  come within act = block-comes (slots a) a.block refl enable reset (slot_with true none_done) refl act refl
 
   -- ---- the law
 

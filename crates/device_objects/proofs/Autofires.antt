@@ -6,13 +6,13 @@ use Rattle.plan_tables.specs.Devices.{IsWithinLimits, list_count}
 use Rattle.plan_tables.specs.declared.devices.Act.TheVariants as acts
 use Rattle.device_objects.specs.declared.state.AutofireState.{AutofireState}
 use Rattle.device_objects.specs.{Kinds.moments_of, Laws.IsLawful, Autofire.of_autofire}
-use Rattle.device_objects.specs.Autofire.{act_step, autofire, autofire_state, autofires, fires, first_state}
+use Rattle.device_objects.specs.Autofire.{act_step, autofire, autofire_state, autofires, fire_list, first_state}
 use Rattle.device_objects.proofs.Among.{In, here, switch-in, switch_comes, one, if_true}
 use Rattle.device_objects.proofs.Calm.{IsActAnswer, calm-lawful, someone}
 use Rattle.device_objects.specs.declared.state.DeviceState.TheVariants as states
 
 act-in : (act : Act) (s : AutofireState) → In (act_step act s).1 (of_autofire act)
-act-in (acts.SwitchOn i) s = switch-in s.enabled i fires s s
+act-in (acts.SwitchOn i) s = switch-in s.enabled i fire_list s s
 act-in _ s = here
 
 answered : (act : Act) (ls : List ℕ) (s : AutofireState) → (act_step act s).1 ≡ ls → IsActAnswer autofire act ls
@@ -24,8 +24,9 @@ enabled = record { enabled = true }
 
 come : (act : Act) → All (IsActAnswer autofire act) (of_autofire act)
 come (acts.SwitchOn i) =
-    switch_comes (IsActAnswer autofire (acts.SwitchOn i)) i fires (answered (acts.SwitchOn i) [] first_state refl)
-    (λ is. answered (acts.SwitchOn i) (fires ∷ []) enabled (if_true (i == 0) (enabled, fires ∷ []) (enabled, []) is))
+    switch_comes (IsActAnswer autofire (acts.SwitchOn i)) i fire_list (answered (acts.SwitchOn i) [] first_state refl)
+    (λ is. answered (acts.SwitchOn i) (fire_list ∷ []) enabled
+    (if_true (i == 0) (enabled, fire_list ∷ []) (enabled, []) is))
 come act = one (IsActAnswer autofire act) [] (answered act [] first_state refl)
 
 pub autofires-lawful : IsLawful autofires moments_of (IsWithinLimits Autofire) (list_count Autofire)

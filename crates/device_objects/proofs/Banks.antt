@@ -12,8 +12,8 @@ use Rattle.std.proofs.lemmas.List.Elements.{All-cons, All-append, All-drop, All-
 use Rattle.plan_tables.specs.declared.devices.{Act.Act, BankSettings.BankSettings, Settings.TheVariants.Bank}
 use Rattle.plan_tables.specs.Devices.{IsWithinLimits, list_count, state_count}
 use Rattle.plan_tables.specs.declared.devices.Act.TheVariants as acts
-use Rattle.device_objects.specs.{declared.state.BankSlot.BankSlot, Laws.IsLawful, Bank.turn_states}
-use Rattle.device_objects.specs.{Outcomes.only_if, Kinds.moments_of}
+use Rattle.device_objects.specs.{declared.state.BankSlot.BankSlot, Laws.IsLawful, Kinds.moments_of}
+use Rattle.device_objects.specs.{Bank.rotate_states, Outcomes.only_if}
 use Rattle.device_objects.specs.Bank.{HasBankShape, advance_where, are_all_in, bank_slots, banks, can_complete}
 use Rattle.device_objects.specs.Bank.{first_slot, gone_on, group_complete, hit, hit_completing, hit_lists, hit_where}
 use Rattle.device_objects.specs.Bank.{is_complete, next_state, of_bank, of_hit, of_hit_in, slot_step, slots}
@@ -37,11 +37,11 @@ module _ (b : BankSettings) where
       → HasBankShape b (record slot { states = states })
   with_states slot states shape long within = (shape.0, long, within)
 
-  turned-length : (k : ℕ) (states : List ℕ) → length (turn_states b.shots k states) ≡ length states
+  turned-length : (k : ℕ) (states : List ℕ) → length (rotate_states b.shots k states) ≡ length states
   turned-length k states = search (rules, length-append, length-drop, length-take)
 
   turned-shape : (slot : BankSlot) (k : ℕ) → HasBankShape b slot
-      → HasBankShape b (record slot { states = turn_states b.shots k slot.states })
+      → HasBankShape b (record slot { states = rotate_states b.shots k slot.states })
   turned-shape slot k shape = search (rules, All-take, with_states, turned-length, All-append, All-drop)
 
   first_slot-shape : (game : ℕ) → HasBankShape b (first_slot b game)

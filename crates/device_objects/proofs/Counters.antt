@@ -1,17 +1,17 @@
 -- Counters are lawful.
-use Rattle.std.proofs.Common.{rules, ◌≡◌, inl, ℕ, Bool, true, false, not, ◌&&◌, None, Some, List, [], ◌∷◌, is_some, ℤ}
+use Rattle.std.proofs.Common.{rules, ◌≡◌, ℕ, Bool, true, false, not, ◌&&◌, None, Some, List, [], ◌∷◌, is_some, ℤ}
 use Rattle.std.{proofs.{Common.{pos, refl}, lemmas.List.Elements.{All-nil, All-cons, All-append}}, specs.List.All}
 use Rattle.plan_tables.specs.declared.devices.{Act.Act, Settings.TheVariants.Counter}
 use Rattle.plan_tables.specs.Devices.{IsWithinLimits, list_count}
 use Rattle.plan_tables.specs.declared.devices.Act.TheVariants as acts
 use Rattle.machine_settings.specs.declared.settings.CounterSettings.{CounterSettings}
 use Rattle.machine_settings.specs.{Limits.IsEndWithin, Ends.is_at_end}
-use Rattle.device_objects.specs.declared.state.CounterSlot.{CounterSlot}
-use Rattle.device_objects.specs.{Blocks.{update, completing, going_on}, Values.move_value, Outcomes.only_if}
-use Rattle.device_objects.specs.{Kinds.moments_of, Laws.IsLawful, Counter.{slot_step, slots}}
+use Rattle.device_objects.specs.{declared.state.CounterSlot.CounterSlot, Values.move_value, Outcomes.only_if}
+use Rattle.device_objects.specs.{Blocks.{completing, going_on}, Kinds.moments_of, Laws.IsLawful}
+use Rattle.device_objects.specs.Counter.{enable, reset, slot_step, slots}
 use Rattle.device_objects.specs.Counter.{counter_slots, counters, after_completion, count_hit, is_early, of_counter}
 use Rattle.device_objects.proofs.Among.{In, here, there, if_holds, either, one, all_if, if_true, if_false}
-use Rattle.device_objects.proofs.BlockLaws.{reset-in, no_player-in, resets}
+use Rattle.device_objects.proofs.BlockLaws.{block-in, nobody-in, by_slot, block-comes}
 use Rattle.device_objects.proofs.{Ends.{at_end-some, ends_at, goes_on_at}, SlotLaws.{Comes, slotted-lawful}}
 use Rattle.device_objects.specs.declared.state.DeviceState.TheVariants as states
 
@@ -28,23 +28,18 @@ module _ (c : CounterSettings) where
       { value = move_value c.direction c.interval slot.value; last_hit = Some now } in
       either (slot.enabled && not (is_early c.window slot.last_hit now)) (count_hit c moves) (slot, [])
       (λ counts. hit-in moves) (λ not. here)
-  answer-in acts.Reset now slot = reset-in c.block
-  answer-in acts.Restart now slot = reset-in c.block
-  answer-in _ now slot = here
+  answer-in act now slot = block-in enable (reset c) c.block act slot
 
   none-in : (act : Act) → c.block.persist ≡ true → In [] (of_counter c act)
   none-in acts.Count is = here
-  none-in acts.Reset is = no_player-in c.block is
-  none-in acts.Restart is = no_player-in c.block is
-  none-in _ is = here
+  none-in act is = nobody-in c.block act is
 
   abbrev slot_with : Bool → ℤ → CounterSlot
   slot_with enabled value = record { game = 0; enabled = enabled; value = value; last_hit = None }
 
   answered : (act : Act) (lists : List ℕ) (enabled : Bool) (value : ℤ)
       → (slot_step c act 0 (slot_with enabled value)).1 ≡ lists → Comes (slots c) act lists
-  answered act lists enabled value answers =
-      inl (record { now = 0; slot = slot_with enabled value; shape = tt; answer = answers })
+  answered act lists enabled value answers = by_slot (slots c) act lists (slot_with enabled value) tt answers
 
   hits : IsEndWithin c.complete → All (Comes (slots c) acts.Count) (of_counter c acts.Count)
   hits within =
@@ -68,11 +63,7 @@ module _ (c : CounterSettings) where
 
   come : IsEndWithin c.complete → (act : Act) → All (Comes (slots c) act) (of_counter c act)
   come within acts.Count = hits within
-  come within acts.Reset = resets (slots c) c.block refl acts.Reset
-      (answered acts.Reset (update ∷ []) true (pos 0) refl)
-  come within acts.Restart = resets (slots c) c.block refl acts.Restart
-      (answered acts.Restart (update ∷ []) true (pos 0) refl)
-  come within act = one (Comes (slots c) act) [] (answered act [] true (pos 0) refl)
+  come within act = block-comes (slots c) c.block refl enable (reset c) (slot_with true (pos 0)) tt act refl
 
   pub counters-lawful : IsLawful (counters c) moments_of (IsWithinLimits (Counter c)) (list_count (Counter c))
   counters-lawful =

@@ -4,18 +4,19 @@ use Rattle.std.{specs.List.All, proofs.lemmas.List.Elements.{All-nil, All-cons, 
 use Rattle.plan_tables.specs.declared.devices.{Act.Act, Settings.TheVariants.Flipper}
 use Rattle.plan_tables.specs.Devices.{IsWithinLimits, list_count}
 use Rattle.plan_tables.specs.declared.devices.Act.TheVariants as acts
-use Rattle.device_objects.specs.{declared.state.FlipperState.FlipperState, Kinds.moments_of, Laws.IsLawful}
-use Rattle.device_objects.specs.Flipper.{act_step, first_state, flipper, flipper_state, flippers, of_flipper, off, on}
+use Rattle.device_objects.specs.declared.state.FlipperState.{FlipperState}
+use Rattle.device_objects.specs.{Kinds.moments_of, Laws.IsLawful, Flipper.{off_list, on_list}}
+use Rattle.device_objects.specs.Flipper.{act_step, first_state, flipper, flipper_state, flippers, of_flipper}
 use Rattle.device_objects.proofs.Among.{In, here, there, either, switch-in, switch_comes, one, two, if_true}
 use Rattle.device_objects.proofs.Calm.{IsActAnswer, calm-lawful, someone}
 use Rattle.device_objects.specs.declared.state.DeviceState.TheVariants as states
 
 act-in : (act : Act) (s : FlipperState) → In (act_step act s).1 (of_flipper act)
 act-in acts.Disable s =
-    either s.on (record s { enabled = false; on = false }, off ∷ []) (record s { enabled = false }, [])
+    either s.on (record s { enabled = false; on = false }, off_list ∷ []) (record s { enabled = false }, [])
     (λ is. there here) (λ not. here)
-act-in (acts.SwitchOn i) s = switch-in s.enabled i on (record s { on = true }) s
-act-in (acts.SwitchOff i) s = switch-in s.on i off (record s { on = false }) s
+act-in (acts.SwitchOn i) s = switch-in s.enabled i on_list (record s { on = true }) s
+act-in (acts.SwitchOff i) s = switch-in s.on i off_list (record s { on = false }) s
 act-in _ s = here
 
 answered : (act : Act) (ls : List ℕ) (s : FlipperState) → (act_step act s).1 ≡ ls → IsActAnswer flipper act ls
@@ -27,15 +28,15 @@ up = record { enabled = true; on = true }
 
 come : (act : Act) → All (IsActAnswer flipper act) (of_flipper act)
 come acts.Disable =
-    two (IsActAnswer flipper acts.Disable) [] (off ∷ []) (answered acts.Disable [] first_state refl)
-    (answered acts.Disable (off ∷ []) up refl)
+    two (IsActAnswer flipper acts.Disable) [] (off_list ∷ []) (answered acts.Disable [] first_state refl)
+    (answered acts.Disable (off_list ∷ []) up refl)
 come (acts.SwitchOn i) =
-    switch_comes (IsActAnswer flipper (acts.SwitchOn i)) i on (answered (acts.SwitchOn i) [] first_state refl)
-    (λ is. answered (acts.SwitchOn i) (on ∷ []) up (if_true (i == 0) (up, on ∷ []) (up, []) is))
+    switch_comes (IsActAnswer flipper (acts.SwitchOn i)) i on_list (answered (acts.SwitchOn i) [] first_state refl)
+    (λ is. answered (acts.SwitchOn i) (on_list ∷ []) up (if_true (i == 0) (up, on_list ∷ []) (up, []) is))
 come (acts.SwitchOff i) =
-    switch_comes (IsActAnswer flipper (acts.SwitchOff i)) i off (answered (acts.SwitchOff i) [] first_state refl)
-    (λ is. answered (acts.SwitchOff i) (off ∷ []) up
-    (if_true (i == 0) (record up { on = false }, off ∷ []) (up, []) is))
+    switch_comes (IsActAnswer flipper (acts.SwitchOff i)) i off_list (answered (acts.SwitchOff i) [] first_state refl)
+    (λ is. answered (acts.SwitchOff i) (off_list ∷ []) up
+    (if_true (i == 0) (record up { on = false }, off_list ∷ []) (up, []) is))
 come act = one (IsActAnswer flipper act) [] (answered act [] first_state refl)
 
 pub flippers-lawful : IsLawful flippers moments_of (IsWithinLimits Flipper) (list_count Flipper)

@@ -1,16 +1,17 @@
 -- Sequences are lawful.
-use Rattle.std.proofs.Common.{rules, ◌≡◌, inl, ℕ, ◌==◌, suc, nat_lt, Bool, true, false, ◌&&◌, List, [], ◌∷◌}
+use Rattle.std.proofs.Common.{rules, ◌≡◌, ℕ, ◌==◌, suc, nat_lt, Bool, true, false, ◌&&◌, List, [], ◌∷◌}
 use Rattle.std.{proofs.Common.{if◌then◌else◌, refl, ◌∙◌}, specs.List.All}
 use Rattle.std.proofs.lemmas.{Bool.{and_from, and_parts, eq-eqb}, List.Elements.{All-nil, All-cons, All-append}}
 use Rattle.plan_tables.specs.declared.devices.{Act.Act, Settings.TheVariants.Sequence}
 use Rattle.plan_tables.specs.Devices.{IsWithinLimits, list_count}
 use Rattle.plan_tables.specs.declared.devices.Act.TheVariants as acts
 use Rattle.machine_settings.specs.declared.settings.StepSettings.{StepSettings}
-use Rattle.device_objects.specs.{declared.state.SequenceSlot.SequenceSlot, Blocks.{update, completing, going_on}}
-use Rattle.device_objects.specs.{Outcomes.only_if, Kinds.moments_of, Laws.IsLawful, Sequence.step_once}
-use Rattle.device_objects.specs.Sequence.{after_completion, of_sequence, sequence_slots, sequences, slot_step, slots}
+use Rattle.device_objects.{specs.declared.state.SequenceSlot.SequenceSlot, proofs.SlotLaws.{Comes, slotted-lawful}}
+use Rattle.device_objects.specs.{Blocks.{completing, going_on}, Outcomes.only_if}
+use Rattle.device_objects.specs.{Kinds.moments_of, Laws.IsLawful, Sequence.{step_once, slot_step, slots}}
+use Rattle.device_objects.specs.Sequence.{after_completion, enable, of_sequence, reset, sequence_slots, sequences}
 use Rattle.device_objects.proofs.Among.{In, here, there, if_holds, by, either, second, one, all_if, if_true}
-use Rattle.device_objects.proofs.{BlockLaws.{reset-in, no_player-in, resets}, SlotLaws.{Comes, slotted-lawful}}
+use Rattle.device_objects.proofs.BlockLaws.{block-in, nobody-in, by_slot, block-comes}
 use Rattle.device_objects.specs.declared.state.DeviceState.TheVariants as states
 
 module _ (q : StepSettings) where
@@ -22,15 +23,11 @@ module _ (q : StepSettings) where
       there (if_holds (nat_lt i q.steps) within.1
       (by (second (suc i == q.steps) (after_completion q next, completing) (next, going_on)) here)))
       (λ not. here)
-  answer-in acts.Reset now slot = reset-in q.block
-  answer-in acts.Restart now slot = reset-in q.block
-  answer-in _ now slot = here
+  answer-in act now slot = block-in enable reset q.block act slot
 
   none-in : (act : Act) → q.block.persist ≡ true → In [] (of_sequence q act)
   none-in (acts.Step i) is = here
-  none-in acts.Reset is = no_player-in q.block is
-  none-in acts.Restart is = no_player-in q.block is
-  none-in _ is = here
+  none-in act is = nobody-in q.block act is
 
   abbrev slot_at : Bool → ℕ → SequenceSlot
   slot_at enabled next = record { game = 0; enabled = enabled; next = next }
@@ -38,8 +35,7 @@ module _ (q : StepSettings) where
   answered : (act : Act) (lists : List ℕ) (enabled : Bool) (next : ℕ)
       → (slot_step q act (slot_at enabled next)).1 ≡ lists
       → Comes (slots q) act lists
-  answered act lists enabled next answers =
-      inl (record { now = 0; slot = slot_at enabled next; shape = tt; answer = answers })
+  answered act lists enabled next answers = by_slot (slots q) act lists (slot_at enabled next) tt answers
 
   takes : (i : ℕ) → nat_lt i q.steps ≡ true
       → Comes (slots q) (acts.Step i) (if suc i == q.steps then completing else going_on)
@@ -57,9 +53,7 @@ module _ (q : StepSettings) where
       (answered (acts.Step i) [] false 0 refl)
       (all_if Answer (nat_lt i q.steps) ((if suc i == q.steps then completing else going_on) ∷ [])
       (λ below. one Answer (if suc i == q.steps then completing else going_on) (takes i below)))
-  come acts.Reset = resets (slots q) q.block refl acts.Reset (answered acts.Reset (update ∷ []) true 0 refl)
-  come acts.Restart = resets (slots q) q.block refl acts.Restart (answered acts.Restart (update ∷ []) true 0 refl)
-  come act = one (Comes (slots q) act) [] (answered act [] true 0 refl)
+  come act = block-comes (slots q) q.block refl enable reset (slot_at true 0) tt act refl
 
   pub sequences-lawful : IsLawful (sequences q) moments_of (IsWithinLimits (Sequence q)) (list_count (Sequence q))
   sequences-lawful =

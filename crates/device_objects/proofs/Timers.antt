@@ -10,7 +10,7 @@ use Rattle.machine_settings.specs.declared.words.Direction.{Direction, TheVarian
 use Rattle.device_objects.specs.declared.{device.Call.Call, state.TimerState.TimerState}
 use Rattle.device_objects.specs.{Values.{clamp_value, move_value}, Timer.{timer_step, timers}}
 use Rattle.device_objects.specs.{Outcomes.only_if, Kinds.moments_of, Laws.{MayComeAt, IsAnswerOf, IsLawful}}
-use Rattle.device_objects.specs.Timer.{act_step, change_value, complete_list, complete_timer, first_state, halt}
+use Rattle.device_objects.specs.Timer.{act_step, after_change, complete_list, complete_timer, first_state, halt}
 use Rattle.device_objects.specs.Timer.{is_running, moments, of_change, of_timer, of_timer_act, pause_list, run}
 use Rattle.device_objects.specs.Timer.{start_list, stop_list, tick_list, timer, timer_completing, timer_state}
 use Rattle.device_objects.proofs.Among.{In, here, there, contains, if_holds, by, either, of_among, second, one, two}
@@ -26,14 +26,14 @@ module _ (t : TimerSettings) where
   completed-is now s = second t.restart (run t now (first_state t), complete_list ∷ start_list ∷ [])
       (halt s, complete_list ∷ [])
 
-  changed-in : (now : ℕ) (s : TimerState) → In (change_value t now s).1
+  changed-in : (now : ℕ) (s : TimerState) → In (after_change t now s).1
       ([] ∷ only_if (is_at_end t.direction t.end s.value) (timer_completing t ∷ []))
   changed-in now s = either (is_running s && is_at_end t.direction t.end s.value) (complete_timer t now s) (s, [])
       (λ is. there (if_holds (is_at_end t.direction t.end s.value) (and_parts (is_running s) _ is).1
       (by (completed-is now s) here)))
       (λ not. here)
 
-  moves-in : (now : ℕ) (s : TimerState) → In (change_value t now s).1 (of_change t)
+  moves-in : (now : ℕ) (s : TimerState) → In (after_change t now s).1 (of_change t)
   moves-in now s = either (is_running s && is_at_end t.direction t.end s.value) (complete_timer t now s) (s, [])
       (λ is. there (if_holds (is_some t.end) (at_end-some t.direction t.end s.value (and_parts (is_running s) _ is).1)
       (by (completed-is now s) here)))
@@ -94,7 +94,7 @@ module _ (t : TimerSettings) where
       (λ some. one (Answer calls.Fire) (tick_list ∷ timer_completing t) (done some)))
 
   -- a timer that runs completes if the value that the act gives it is at the end
-  completes : (act : Act) (value after : ℤ) → act_step t act 0 (under_way value) ≡ change_value t 0 (under_way after)
+  completes : (act : Act) (value after : ℤ) → act_step t act 0 (under_way value) ≡ after_change t 0 (under_way after)
       → is_at_end t.direction t.end after ≡ true
       → Answer (calls.Act act) (timer_completing t)
   completes act value after is ends = answered (calls.Act act) (timer_completing t) (under_way value) tt
@@ -102,7 +102,7 @@ module _ (t : TimerSettings) where
       (under_way after, []) ends ∙ completed-is 0 (under_way after))
 
   changes : (act : Act) (go : Direction) (n : ℤ) → IsEndWithin t.end
-      → ((value : ℤ) → act_step t act 0 (under_way value) ≡ change_value t 0 (under_way (move_value go n value)))
+      → ((value : ℤ) → act_step t act 0 (under_way value) ≡ after_change t 0 (under_way (move_value go n value)))
       → Answer (calls.Act act) [] → All (Answer (calls.Act act)) (of_change t)
   changes act go n within moves rests =
       All-cons (Answer (calls.Act act)) [] (only_if (is_some t.end) (timer_completing t ∷ [])) rests

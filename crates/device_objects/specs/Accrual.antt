@@ -7,7 +7,7 @@ use Rattle.machine_settings.specs.declared.settings.StepSettings.{StepSettings}
 use Rattle.device_objects.specs.declared.state.{AccrualSlot.AccrualSlot, DeviceState.DeviceState}
 use Rattle.device_objects.specs.declared.state.DeviceState.TheVariants as states
 use Rattle.device_objects.specs.{Slots.{SlotModel, of_slots}, KindModel.{Kind, in_states, never_due}, Outcomes.only_if}
-use Rattle.device_objects.specs.Blocks.{update, hit, complete, completing, going_on, of_block}
+use Rattle.device_objects.specs.Blocks.{update, hit, complete, completing, going_on, block_step, of_block}
 
 -- no step is done
 abbrev pub none_done : List Bool
@@ -37,6 +37,12 @@ after_completion a slot = record slot {
   done = if a.block.reset_on_complete then none_done else slot.done;
 }
 
+abbrev pub enable : Bool → AccrualSlot → AccrualSlot
+enable enabled slot = record slot { enabled = enabled }
+
+abbrev pub reset : AccrualSlot → AccrualSlot
+reset slot = record slot { done = none_done }
+
 -- a step was done
 abbrev pub step_once : StepSettings → AccrualSlot → AccrualSlot × List ℕ
 step_once a slot =
@@ -48,11 +54,7 @@ slot_step a (acts.Step i) slot =
     if slot.enabled && is_step_open a i slot.done
     then step_once a (record slot { done = slice_set slot.done i true })
     else (slot, [])
-slot_step a acts.Enable slot = (record slot { enabled = true }, [])
-slot_step a acts.Disable slot = (record slot { enabled = false }, [])
-slot_step a acts.Reset slot = (record slot { done = none_done }, update ∷ [])
-slot_step a acts.Restart slot = (record slot { done = none_done; enabled = true }, update ∷ [])
-slot_step a _ slot = (slot, [])
+slot_step a act slot = block_step enable reset act slot
 
 -- An accrual of one step is completed by it. Of several steps, each may be the last to be done.
 abbrev pub of_accrual : StepSettings → Act → List (List ℕ)

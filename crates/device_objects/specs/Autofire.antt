@@ -4,11 +4,12 @@ use Rattle.plan_tables.specs.declared.devices.Act.{Act}
 use Rattle.plan_tables.specs.declared.devices.Act.TheVariants as acts
 use Rattle.device_objects.specs.declared.state.{AutofireState.AutofireState, DeviceState.DeviceState}
 use Rattle.device_objects.specs.declared.state.DeviceState.TheVariants as states
-use Rattle.device_objects.specs.{KindModel.{Kind, CalmModel, in_states, never_due}, Outcomes.{of_switch, silent}}
+use Rattle.device_objects.specs.KindModel.{Kind, CalmModel, in_states, never_due, of_machine}
+use Rattle.device_objects.specs.Outcomes.{of_switch, silent}
 
 -- the list of an autofire coil that fires
-abbrev pub fires : ℕ
-fires = 0
+abbrev pub fire_list : ℕ
+fire_list = 0
 
 -- at first an autofire coil is not enabled
 abbrev pub first_state : AutofireState
@@ -17,24 +18,16 @@ first_state = record { enabled = false }
 abbrev pub act_step : Act → AutofireState → AutofireState × List ℕ
 act_step acts.Enable s = (record s { enabled = true }, [])
 act_step acts.Disable s = (record s { enabled = false }, [])
-act_step (acts.SwitchOn i) s = if s.enabled && (i == 0) then (s, fires ∷ []) else (s, [])
+act_step (acts.SwitchOn i) s = if s.enabled && (i == 0) then (s, fire_list ∷ []) else (s, [])
 act_step _ s = (s, [])
 
 abbrev pub of_autofire : Act → List (List ℕ)
-of_autofire (acts.SwitchOn i) = of_switch i fires
+of_autofire (acts.SwitchOn i) = of_switch i fire_list
 of_autofire _ = silent
 
--- It is the machine's: no mode starts or stops it, and if it is taken out of the machine its state stays. It is never
--- due.
+-- it is the machine's, and never due
 abbrev pub autofire : CalmModel AutofireState
-autofire = record {
-  first = first_state;
-  IsShaped = λ s. Unit {0};
-  start = λ s. s;
-  stop = λ s. s;
-  act = λ act now world. act_step act;
-  answers = of_autofire;
-}
+autofire = of_machine first_state act_step of_autofire
 
 -- what a state holds, if it is one of an autofire coil
 abbrev pub autofire_state : DeviceState → Option AutofireState

@@ -13,7 +13,28 @@ use Rattle.device_objects.specs.declared.state.{BallSwitch.BallSwitch, DeviceSta
 use Rattle.device_objects.specs.declared.state.DeviceState.TheVariants as states
 use Rattle.device_objects.specs.{KindModel.{Kind, Moments, in_states}, Outcomes.{only_if, silent}}
 
--- ---- the lists of a ball device
+-- ---- the state
+
+-- a ball switch at which no ball counts, and nothing is due
+abbrev pub empty : BallSwitch
+empty = record { counted = false; due = None }
+
+-- at first no ball counts, nothing is due, nothing is ejected, and no ball is wanted
+abbrev pub first_state : BallState
+first_state = record { switches = replicate 16 empty; eject = Idle; wanted = 0 }
+
+-- the ball switch of a number
+abbrev pub switch_at : BallState → ℕ → BallSwitch
+switch_at s i = slice_index_or s.switches i empty
+
+abbrev pub set_switch : ℕ → BallSwitch → BallState → BallState
+set_switch i b s = record s { switches = slice_set s.switches i b }
+
+-- whether a ball lies in it
+abbrev pub has_ball : BallState → Bool
+has_ball s = list_any (λ b. b.counted) s.switches
+
+-- ---- its lists
 
 -- a ball has entered it
 abbrev pub entry_list : ℕ
@@ -43,26 +64,43 @@ arrival_list = 5
 abbrev pub failure_list : ℕ
 failure_list = 6
 
--- ---- the state
+-- ---- it begins to eject a ball
 
--- a ball switch at which no ball counts, and nothing is due
-abbrev pub empty : BallSwitch
-empty = record { counted = false; due = None }
+-- it attempts to eject a ball, for the time that its settings give
+abbrev pub attempt : BallSettings → ℕ → ℕ → BallState → BallState × List ℕ
+attempt d number now s =
+    (record s { eject = Pulsing (record { number = number; timeout = now + d.ejects.timeout }) }, attempt_list ∷ [])
 
--- at first no ball counts, nothing is due, nothing is ejected, and no ball is wanted
-abbrev pub first_state : BallState
-first_state = record { switches = replicate 16 empty; eject = Idle; wanted = 0 }
+abbrev pub is_idle : Eject → Bool
+is_idle Idle = true
+is_idle (Pulsing a) = false
+is_idle (Away a) = false
 
--- the ball switch of a number
-abbrev pub switch_at : BallState → ℕ → BallSwitch
-switch_at s i = slice_index_or s.switches i empty
+-- whether it can begin to eject a ball: it ejects none, has one, and has a coil; a trough has also been asked for one
+abbrev pub can_begin : BallSettings → BallState → Bool
+can_begin d s = is_idle s.eject && (has_ball s && (d.has_coil && (not d.trough || nat_lt 0 s.wanted)))
 
-abbrev pub set_switch : ℕ → BallSwitch → BallState → BallState
-set_switch i b s = record s { switches = slice_set s.switches i b }
+-- it begins to eject a ball, if it can
+abbrev pub begin : BallSettings → ℕ → BallState → BallState × List ℕ
+begin d now s = if can_begin d s then attempt d 1 now s else (s, [])
 
--- whether a ball lies in it
-abbrev pub has_ball : BallState → Bool
-has_ball s = list_any (λ b. b.counted) s.switches
+-- ---- the level of a ball switch
+
+-- for how long a ball switch has to be active, or inactive, before that counts
+abbrev pub delay : BallSettings → Bool → ℕ
+delay d active = if active then d.ejects.entrance_delay else d.ejects.exit_delay
+
+-- whether the level of a ball switch differs from what is counted
+abbrev pub counts_otherwise : Bool → BallSwitch → Bool
+counts_otherwise active b = if active then not b.counted else b.counted
+
+-- a ball switch has become active, or inactive
+abbrev pub note_level : BallSettings → Bool → ℕ → BallSwitch → BallSwitch
+note_level d active now b = record b { due = if counts_otherwise active b then Some (now + delay d active) else None }
+
+abbrev pub switch_level : BallSettings → ℕ → Bool → ℕ → BallState → BallState
+switch_level d i active now s = if nat_lt i d.switches then set_switch i (note_level d active now (switch_at s i)) s
+    else s
 
 -- ---- what is due
 
@@ -97,39 +135,32 @@ parts switches timeout = map (λ b. b.due) switches ++ timeout ∷ []
 abbrev pub part_due : BallState → ℕ → Option ℕ
 part_due s k = slice_index_or (parts s.switches (timeout_of s.eject)) k None
 
--- ---- ejecting
-
--- it attempts to eject a ball, for the time that its settings give
-abbrev pub attempt : BallSettings → ℕ → ℕ → BallState → BallState × List ℕ
-attempt d number now s =
-    (record s { eject = Pulsing (record { number = number; timeout = now + d.ejects.timeout }) }, attempt_list ∷ [])
-
-abbrev pub is_idle : Eject → Bool
-is_idle Idle = true
-is_idle (Pulsing a) = false
-is_idle (Away a) = false
-
--- whether the ball that it ejects has left, and has not arrived yet
-abbrev pub is_away : Eject → Bool
-is_away Idle = false
-is_away (Pulsing a) = false
-is_away (Away a) = true
-
--- whether it can begin to eject a ball: it ejects none, has one, and has a coil; a trough has also been asked for one
-abbrev pub can_begin : BallSettings → BallState → Bool
-can_begin d s = is_idle s.eject && (has_ball s && (d.has_coil && (not d.trough || nat_lt 0 s.wanted)))
-
--- it begins to eject a ball, if it can
-abbrev pub begin : BallSettings → ℕ → BallState → BallState × List ℕ
-begin d now s = if can_begin d s then attempt d 1 now s else (s, [])
+-- ---- a ball switch counts
 
 -- an answer after these lists
 abbrev pub after : List ℕ → BallState × List ℕ → BallState × List ℕ
 after lists answer = (answer.0, lists ++ answer.1)
 
--- the eject is over: a trough is to eject one ball fewer
-abbrev pub end_eject : BallState → BallState
-end_eject s = record s { eject = Idle; wanted = s.wanted - 1 }
+-- the opposite counts from now on
+abbrev pub turn_over : BallSwitch → BallSwitch
+turn_over b = record { counted = not b.counted; due = None }
+
+-- a ball counts no more: the one that is ejected has left, or one is lost
+abbrev pub lose_sight : BallSettings → ℕ → Eject → BallState → BallState × List ℕ
+lose_sight d now Idle s =
+    if d.ejects.mechanical
+    then (record s { eject = Away (record { number = 1; timeout = now + d.ejects.timeout }) }, exit_list ∷ [])
+    else (s, loss_list ∷ [])
+lose_sight d now (Pulsing a) s = (record s { eject = Away a }, exit_list ∷ [])
+lose_sight d now (Away a) s = (s, loss_list ∷ [])
+
+-- the level of a ball switch is counted from now on: a ball has entered, or is gone
+abbrev pub count : BallSettings → ℕ → ℕ → BallState → BallState × List ℕ
+count d now i s =
+    let t = set_switch i (turn_over (switch_at s i)) s in
+    if (switch_at s i).counted then lose_sight d now s.eject t else after (entry_list ∷ []) (begin d now t)
+
+-- ---- an attempt is over
 
 -- whether a device may attempt once more after an attempt of this number
 abbrev pub may_try_again : Option ℕ → ℕ → Bool
@@ -152,64 +183,21 @@ stuck d now a s =
     then after (failure_list ∷ []) (attempt d (next_number d.ejects.max_attempts a.number) now s)
     else (record s { eject = Idle; wanted = 0 }, failure_list ∷ [])
 
+-- the eject is over: a trough is to eject one ball fewer
+abbrev pub end_eject : BallState → BallState
+end_eject s = record s { eject = Idle; wanted = s.wanted - 1 }
+
 -- The ball on its way did not arrive in time: it counts as being on the playfield.
 abbrev pub overdue : BallTarget → List ℕ
 overdue targets.Playfield = arrival_list ∷ success_list ∷ []
 overdue (targets.Device r) = arrival_list ∷ failure_list ∷ []
-
--- the ball on its way is where it should be: in the target device, or on the playfield
-abbrev pub confirmation : BallTarget → List ℕ
-confirmation targets.Playfield = arrival_list ∷ success_list ∷ []
-confirmation (targets.Device r) = success_list ∷ []
 
 abbrev pub time_out : BallSettings → ℕ → Eject → BallState → BallState × List ℕ
 time_out d now Idle s = (s, [])
 time_out d now (Pulsing a) s = stuck d now a s
 time_out d now (Away a) s = after (overdue d.target) (begin d now (end_eject s))
 
-abbrev pub confirm : BallSettings → ℕ → Eject → BallState → BallState × List ℕ
-confirm d now Idle s = (s, [])
-confirm d now (Pulsing a) s = (s, [])
-confirm d now (Away a) s = after (confirmation d.target) (begin d now (end_eject s))
-
--- ---- ball switches
-
--- for how long a ball switch has to be active, or inactive, before that counts
-abbrev pub delay : BallSettings → Bool → ℕ
-delay d active = if active then d.ejects.entrance_delay else d.ejects.exit_delay
-
--- whether the level of a ball switch differs from what is counted
-abbrev pub counts_otherwise : Bool → BallSwitch → Bool
-counts_otherwise active b = if active then not b.counted else b.counted
-
--- a ball switch has become active, or inactive
-abbrev pub note_level : BallSettings → Bool → ℕ → BallSwitch → BallSwitch
-note_level d active now b = record b { due = if counts_otherwise active b then Some (now + delay d active) else None }
-
-abbrev pub switch_level : BallSettings → ℕ → Bool → ℕ → BallState → BallState
-switch_level d i active now s = if nat_lt i d.switches then set_switch i (note_level d active now (switch_at s i)) s
-    else s
-
--- the opposite counts from now on
-abbrev pub turn_over : BallSwitch → BallSwitch
-turn_over b = record { counted = not b.counted; due = None }
-
--- a ball counts no more: the one that is ejected has left, or one is lost
-abbrev pub lose_sight : BallSettings → ℕ → Eject → BallState → BallState × List ℕ
-lose_sight d now Idle s =
-    if d.ejects.mechanical
-    then (record s { eject = Away (record { number = 1; timeout = now + d.ejects.timeout }) }, exit_list ∷ [])
-    else (s, loss_list ∷ [])
-lose_sight d now (Pulsing a) s = (record s { eject = Away a }, exit_list ∷ [])
-lose_sight d now (Away a) s = (s, loss_list ∷ [])
-
--- the level of a ball switch is counted from now on: a ball has entered, or is gone
-abbrev pub count : BallSettings → ℕ → ℕ → BallState → BallState × List ℕ
-count d now i s =
-    let t = set_switch i (turn_over (switch_at s i)) s in
-    if (switch_at s i).counted then lose_sight d now s.eject t else after (entry_list ∷ []) (begin d now t)
-
--- ---- steps
+-- ---- what is due first is done
 
 -- whether the time of the attempt is over before any ball switch is due
 abbrev pub is_timeout_first : Option (ℕ × ℕ) → Option ℕ → Bool
@@ -232,6 +220,26 @@ fire d now s =
 -- what a part does when its moment has come: a ball switch counts, or the attempt is over
 abbrev pub fire_part : BallSettings → ℕ → ℕ → BallState → BallState × List ℕ
 fire_part d k now s = if nat_lt k (length s.switches) then count d now k s else time_out d now s.eject s
+
+-- ---- the ball on its way is where it should be
+
+-- whether the ball that it ejects has left, and has not arrived yet
+abbrev pub is_away : Eject → Bool
+is_away Idle = false
+is_away (Pulsing a) = false
+is_away (Away a) = true
+
+-- the ball on its way is where it should be: in the target device, or on the playfield
+abbrev pub confirmation : BallTarget → List ℕ
+confirmation targets.Playfield = arrival_list ∷ success_list ∷ []
+confirmation (targets.Device r) = success_list ∷ []
+
+abbrev pub confirm : BallSettings → ℕ → Eject → BallState → BallState × List ℕ
+confirm d now Idle s = (s, [])
+confirm d now (Pulsing a) s = (s, [])
+confirm d now (Away a) s = after (confirmation d.target) (begin d now (end_eject s))
+
+-- ---- steps
 
 -- A trough is to eject this many more balls, as far as 255 allows.
 abbrev pub request : BallSettings → ℕ → ℕ → BallState → BallState × List ℕ

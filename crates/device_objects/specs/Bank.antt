@@ -69,9 +69,9 @@ abbrev pub advance_where : BankSettings → ℕ → Option ℕ → BankSlot → 
 advance_where b i None slot = slot
 advance_where b i (Some state) slot = record slot { states = gone_on b i state slot.states }
 
--- the states of so many shots, turned by k places towards the first; the others stay
-abbrev pub turn_states : ℕ → ℕ → List ℕ → List ℕ
-turn_states shots k states = drop k (take shots states) ++ take k (take shots states) ++ drop shots states
+-- the states of so many shots, rotated by k places towards the first; the others stay
+abbrev pub rotate_states : ℕ → ℕ → List ℕ → List ℕ
+rotate_states shots k states = drop k (take shots states) ++ take k (take shots states) ++ drop shots states
 
 -- the changed slot if the bank has a shot of this number, else the slot as it was
 abbrev pub of_shot : BankSettings → ℕ → BankSlot → BankSlot → BankSlot
@@ -86,8 +86,8 @@ slot_step b (acts.EnableShot i) slot = (of_shot b i (record slot { enabled = sli
 slot_step b (acts.DisableShot i) slot =
     (of_shot b i (record slot { enabled = slice_set slot.enabled i false }) slot, [])
 slot_step b acts.Reset slot = (record slot { states = replicate 16 0 }, [])
-slot_step b acts.RotateRight slot = (record slot { states = turn_states b.shots (b.shots - 1) slot.states }, [])
-slot_step b acts.RotateLeft slot = (record slot { states = turn_states b.shots 1 slot.states }, [])
+slot_step b acts.RotateRight slot = (record slot { states = rotate_states b.shots (b.shots - 1) slot.states }, [])
+slot_step b acts.RotateLeft slot = (record slot { states = rotate_states b.shots 1 slot.states }, [])
 slot_step b _ slot = (slot, [])
 
 -- whether a hit of a shot in this state moves it, and so can complete its group

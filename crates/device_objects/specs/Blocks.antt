@@ -1,5 +1,5 @@
--- What counters, accruals and sequences have in common: their lists, and what all of them answer.
-use Rattle.std.specs.Prelude.{ℕ, List, [], ◌∷◌, ◌++◌}
+-- What counters, accruals and sequences have in common: their lists, and the acts that all of them have.
+use Rattle.std.specs.Prelude.{ℕ, Bool, true, false, List, [], ◌∷◌, ◌++◌}
 use Rattle.plan_tables.specs.declared.devices.Act.{Act}
 use Rattle.plan_tables.specs.declared.devices.Act.TheVariants as acts
 use Rattle.machine_settings.specs.declared.settings.BlockSettings.{BlockSettings}
@@ -21,6 +21,15 @@ completing = update ∷ hit ∷ complete ∷ []
 
 abbrev pub going_on : List ℕ
 going_on = update ∷ hit ∷ []
+
+-- What the acts that all blocks have do to a slot, by how a slot is enabled or disabled, and how it is reset. A restart
+-- resets and enables it. Only these two run a list, the first.
+abbrev pub block_step : {S : Type 0} → (Bool → S → S) → (S → S) → Act → S → S × List ℕ
+block_step enable reset acts.Enable slot = (enable true slot, [])
+block_step enable reset acts.Disable slot = (enable false slot, [])
+block_step enable reset acts.Reset slot = (reset slot, update ∷ [])
+block_step enable reset acts.Restart slot = (enable true (reset slot), update ∷ [])
+block_step enable reset _ slot = (slot, [])
 
 -- a reset or a restart runs the first list; a persistent block does nothing without a current player
 abbrev pub resetting : BlockSettings → List (List ℕ)

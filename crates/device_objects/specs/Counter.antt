@@ -1,6 +1,6 @@
 -- A counter.
-use Rattle.std.specs.Prelude.{ℕ, ◌+◌, nat_lt, Bool, true, false, not, ◌&&◌, is_some, if◌then◌else◌, Option, None, Some}
-use Rattle.std.specs.Prelude.{List, [], ◌∷◌}
+use Rattle.std.specs.Prelude.{ℕ, ◌+◌, nat_lt, Bool, false, not, ◌&&◌, is_some, if◌then◌else◌, Option, None, Some, List}
+use Rattle.std.specs.Prelude.{[], ◌∷◌}
 use Rattle.plan_tables.specs.declared.devices.Act.{Act}
 use Rattle.plan_tables.specs.declared.devices.Act.TheVariants as acts
 use Rattle.machine_settings.specs.{declared.settings.CounterSettings.CounterSettings, Ends.is_at_end}
@@ -8,7 +8,7 @@ use Rattle.device_objects.specs.declared.state.{CounterSlot.CounterSlot, DeviceS
 use Rattle.device_objects.specs.{Values.move_value, Slots.{SlotModel, of_slots}, Outcomes.only_if}
 use Rattle.device_objects.specs.declared.state.DeviceState.TheVariants as states
 use Rattle.device_objects.specs.KindModel.{Kind, in_states, never_due}
-use Rattle.device_objects.specs.Blocks.{update, hit, complete, completing, going_on, of_block}
+use Rattle.device_objects.specs.Blocks.{update, hit, complete, completing, going_on, block_step, of_block}
 
 -- a new slot, for this game
 abbrev pub first_slot : CounterSettings → ℕ → CounterSlot
@@ -26,6 +26,13 @@ after_completion c slot = record slot {
   value = if c.block.reset_on_complete then c.start else slot.value;
 }
 
+abbrev pub enable : Bool → CounterSlot → CounterSlot
+enable enabled slot = record slot { enabled = enabled }
+
+-- it keeps the last hit
+abbrev pub reset : CounterSettings → CounterSlot → CounterSlot
+reset c slot = record slot { value = c.start }
+
 -- a hit was counted
 abbrev pub count_hit : CounterSettings → CounterSlot → CounterSlot × List ℕ
 count_hit c slot =
@@ -37,11 +44,7 @@ slot_step c acts.Count now slot =
     if slot.enabled && not (is_early c.window slot.last_hit now)
     then count_hit c (record slot { value = move_value c.direction c.interval slot.value; last_hit = Some now })
     else (slot, [])
-slot_step c acts.Enable now slot = (record slot { enabled = true }, [])
-slot_step c acts.Disable now slot = (record slot { enabled = false }, [])
-slot_step c acts.Reset now slot = (record slot { value = c.start }, update ∷ [])
-slot_step c acts.Restart now slot = (record slot { value = c.start; enabled = true }, update ∷ [])
-slot_step c _ now slot = (slot, [])
+slot_step c act now slot = block_step enable (reset c) act slot
 
 -- what a counter answers
 abbrev pub of_counter : CounterSettings → Act → List (List ℕ)

@@ -4,14 +4,15 @@ use Rattle.plan_tables.specs.declared.devices.Act.{Act}
 use Rattle.plan_tables.specs.declared.devices.Act.TheVariants as acts
 use Rattle.device_objects.specs.declared.state.{FlipperState.FlipperState, DeviceState.DeviceState}
 use Rattle.device_objects.specs.declared.state.DeviceState.TheVariants as states
-use Rattle.device_objects.specs.{KindModel.{Kind, CalmModel, in_states, never_due}, Outcomes.{of_switch, silent}}
+use Rattle.device_objects.specs.KindModel.{Kind, CalmModel, in_states, never_due, of_machine}
+use Rattle.device_objects.specs.Outcomes.{of_switch, silent}
 
 -- the lists of a flipper: of one that goes on, and of one that goes off
-abbrev pub on : ℕ
-on = 0
+abbrev pub on_list : ℕ
+on_list = 0
 
-abbrev pub off : ℕ
-off = 1
+abbrev pub off_list : ℕ
+off_list = 1
 
 -- at first a flipper is not enabled, and not on
 abbrev pub first_state : FlipperState
@@ -19,11 +20,11 @@ first_state = record { enabled = false; on = false }
 
 -- it goes on, if this holds
 abbrev pub raise : Bool → FlipperState → FlipperState × List ℕ
-raise holds s = if holds then (record s { on = true }, on ∷ []) else (s, [])
+raise holds s = if holds then (record s { on = true }, on_list ∷ []) else (s, [])
 
 -- it goes off, if this holds
 abbrev pub lower : Bool → FlipperState → FlipperState × List ℕ
-lower holds s = if holds then (record s { on = false }, off ∷ []) else (s, [])
+lower holds s = if holds then (record s { on = false }, off_list ∷ []) else (s, [])
 
 -- a flipper that is disabled while it is on goes off
 abbrev pub act_step : Act → FlipperState → FlipperState × List ℕ
@@ -34,22 +35,14 @@ act_step (acts.SwitchOff i) s = lower (s.on && (i == 0)) s
 act_step _ s = (s, [])
 
 abbrev pub of_flipper : Act → List (List ℕ)
-of_flipper acts.Disable = [] ∷ (off ∷ []) ∷ []
-of_flipper (acts.SwitchOn i) = of_switch i on
-of_flipper (acts.SwitchOff i) = of_switch i off
+of_flipper acts.Disable = [] ∷ (off_list ∷ []) ∷ []
+of_flipper (acts.SwitchOn i) = of_switch i on_list
+of_flipper (acts.SwitchOff i) = of_switch i off_list
 of_flipper _ = silent
 
--- It is the machine's: no mode starts or stops it, and if it is taken out of the machine its state stays. It is never
--- due.
+-- it is the machine's, and never due
 abbrev pub flipper : CalmModel FlipperState
-flipper = record {
-  first = first_state;
-  IsShaped = λ s. Unit {0};
-  start = λ s. s;
-  stop = λ s. s;
-  act = λ act now world. act_step act;
-  answers = of_flipper;
-}
+flipper = of_machine first_state act_step of_flipper
 
 -- what a state holds, if it is one of a flipper
 abbrev pub flipper_state : DeviceState → Option FlipperState

@@ -75,6 +75,18 @@ never_due m = record {
   fire_part = λ k now s. (s, []);
 }
 
+-- A device of the machine: no mode starts or stops it, and its state stays if it is taken out of the machine. Any state
+-- will do. An act does the same at each moment, and in each world.
+abbrev pub of_machine : {S : Type 0} → S → (Act → S → S × List ℕ) → (Act → List (List ℕ)) → CalmModel S
+of_machine first act_step answers = record {
+  first = first;
+  IsShaped = λ s. Unit {0};
+  start = λ s. s;
+  stop = λ s. s;
+  act = λ act now world. act_step act;
+  answers = answers;
+}
+
 -- ---- a kind by the states of its devices
 
 -- the state, with what was held in it

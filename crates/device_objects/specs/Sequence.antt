@@ -1,13 +1,12 @@
 -- A sequence: its steps are done in order.
-use Rattle.std.specs.Prelude.{ℕ, suc, ◌==◌, nat_lt, true, false, not, ◌&&◌, if◌then◌else◌, Option, None, Some, List, []}
-use Rattle.std.specs.Prelude.{◌∷◌}
+use Rattle.std.specs.Prelude.{ℕ, suc, ◌==◌, nat_lt, Bool, not, ◌&&◌, if◌then◌else◌, Option, None, Some, List, [], ◌∷◌}
 use Rattle.plan_tables.specs.declared.devices.Act.{Act}
 use Rattle.plan_tables.specs.declared.devices.Act.TheVariants as acts
 use Rattle.machine_settings.specs.declared.settings.StepSettings.{StepSettings}
 use Rattle.device_objects.specs.declared.state.{SequenceSlot.SequenceSlot, DeviceState.DeviceState}
 use Rattle.device_objects.specs.declared.state.DeviceState.TheVariants as states
 use Rattle.device_objects.specs.{Slots.{SlotModel, of_slots}, KindModel.{Kind, in_states, never_due}, Outcomes.only_if}
-use Rattle.device_objects.specs.Blocks.{update, hit, complete, completing, going_on, of_block}
+use Rattle.device_objects.specs.Blocks.{update, hit, complete, completing, going_on, block_step, of_block}
 
 -- a new slot, for this game
 abbrev pub first_slot : StepSettings → ℕ → SequenceSlot
@@ -20,6 +19,12 @@ after_completion q slot = record slot {
   next = if q.block.reset_on_complete then 0 else slot.next;
 }
 
+abbrev pub enable : Bool → SequenceSlot → SequenceSlot
+enable enabled slot = record slot { enabled = enabled }
+
+abbrev pub reset : SequenceSlot → SequenceSlot
+reset slot = record slot { next = 0 }
+
 -- a step was done
 abbrev pub step_once : StepSettings → SequenceSlot → SequenceSlot × List ℕ
 step_once q slot =
@@ -31,11 +36,7 @@ slot_step q (acts.Step i) slot =
     if slot.enabled && (i == slot.next) && nat_lt i q.steps
     then step_once q (record slot { next = suc i })
     else (slot, [])
-slot_step q acts.Enable slot = (record slot { enabled = true }, [])
-slot_step q acts.Disable slot = (record slot { enabled = false }, [])
-slot_step q acts.Reset slot = (record slot { next = 0 }, update ∷ [])
-slot_step q acts.Restart slot = (record slot { next = 0; enabled = true }, update ∷ [])
-slot_step q _ slot = (slot, [])
+slot_step q act slot = block_step enable reset act slot
 
 -- only the last step completes a sequence
 abbrev pub of_sequence : StepSettings → Act → List (List ℕ)

@@ -49,8 +49,8 @@ complete_timer t now s =
 
 -- The value was changed: a timer that runs completes if it is at its end now. Only a timer that goes up can have no
 -- end; one that goes down ends at 0 if its settings say nothing else.
-abbrev pub change_value : TimerSettings → ℕ → TimerState → TimerState × List ℕ
-change_value t now s = if is_running s && is_at_end t.direction t.end s.value then complete_timer t now s else (s, [])
+abbrev pub after_change : TimerSettings → ℕ → TimerState → TimerState × List ℕ
+after_change t now s = if is_running s && is_at_end t.direction t.end s.value then complete_timer t now s else (s, [])
 
 -- a list more, before the others
 abbrev pub before : ℕ → TimerState × List ℕ → TimerState × List ℕ
@@ -67,9 +67,9 @@ act_step t acts.Stop now s = if is_running s then (halt s, stop_list ∷ []) els
 act_step t acts.Pause now s = if is_running s then (halt s, pause_list ∷ []) else (s, [])
 act_step t acts.Reset now s = (record s { value = t.start }, [])
 act_step t acts.Restart now s = (run t now (first_state t), start_list ∷ [])
-act_step t (acts.Add n) now s = change_value t now (record s { value = clamp_value (s.value +ℤ n) })
-act_step t (acts.Subtract n) now s = change_value t now (record s { value = clamp_value (s.value -ℤ n) })
-act_step t (acts.Jump n) now s = change_value t now (record s { value = clamp_value n })
+act_step t (acts.Add n) now s = after_change t now (record s { value = clamp_value (s.value +ℤ n) })
+act_step t (acts.Subtract n) now s = after_change t now (record s { value = clamp_value (s.value -ℤ n) })
+act_step t (acts.Jump n) now s = after_change t now (record s { value = clamp_value n })
 act_step t _ now s = (s, [])
 
 abbrev pub timer_step : TimerSettings → Call → ℕ → TimerState → TimerState × List ℕ

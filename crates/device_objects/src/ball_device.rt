@@ -1,4 +1,4 @@
-//! What a ball device is at first, what it can answer, its shape, and when two are the same.
+//! The lists of a ball device, what it is at first, what it can answer, its shape, and when two are the same.
 
 ghost use Rattle.std.specs.Prelude.{◌≡◌, ◌+◌, ◌≤◌, ◌↔◌, ◌++◌, IsTrue, length, map};
 ghost use Rattle.std.specs.List.{All};
@@ -13,9 +13,24 @@ use crate::state::{Attempt, BallState, BallSwitch, Eject, GREATEST_ATTEMPT};
 use machine_settings::EjectSettings;
 use plan_tables::{Act, BallSettings, BallTarget};
 
-/// The state at first.
+/// The list of a ball that has entered.
+pub const ENTRY_LIST: u16 = 0;
+/// The list of an attempt to eject a ball.
+pub const ATTEMPT_LIST: u16 = 1;
+/// The list of an ejected ball that has left.
+pub const EXIT_LIST: u16 = 2;
+/// The list of a ball that has left and was not ejected.
+pub const LOSS_LIST: u16 = 3;
+/// The list of an ejected ball that counts as being where it should be.
+pub const SUCCESS_LIST: u16 = 4;
+/// The list of a ball that was on its way and is on the playfield.
+pub const ARRIVAL_LIST: u16 = 5;
+/// The list of an attempt that has failed.
+pub const FAILURE_LIST: u16 = 6;
+
+/// The state of a ball device at first: no ball is counted, nothing is due, and nothing is ejected.
 #[inline]
-pub(crate) fn first_ball_device() -> BallState
+pub fn first_ball_device() -> BallState
     ensures { result ≡ first_state }
 {
     BallState {
@@ -55,7 +70,7 @@ fn with_ending(all: Outcomes, device: &BallSettings, lists: &[u16]) -> Outcomes
     }
     let mut begins = Outcome::new();
     let _ = begins.try_extend_from_slice(lists);
-    begins.push(1);
+    begins.push(ATTEMPT_LIST);
     with(all, &begins)
 }
 
@@ -64,9 +79,9 @@ fn of_count(device: &BallSettings) -> Outcomes
     ensures answers { map (λ o. o.items) result.items ≡ of_count device.now }
     ensures count { array_vec_len result ≤ 4 }
 {
-    let entry = with_ending(none(), device, &[0]);
-    let exit = with_if(entry, may_eject(device), &[2]);
-    with(exit, &[3])
+    let entry = with_ending(none(), device, &[ENTRY_LIST]);
+    let exit = with_if(entry, may_eject(device), &[EXIT_LIST]);
+    with(exit, &[LOSS_LIST])
 }
 
 /// An attempt is over, and another one begins, or it was the last.
@@ -79,8 +94,8 @@ fn with_attempt(all: Outcomes, device: &BallSettings) -> Outcomes
         None => true,
         Some(most) => 1 < most,
     };
-    let all = with_if(all, goes_on, &[6, 1]);
-    with_if(all, device.ejects.max_attempts.is_some(), &[6])
+    let all = with_if(all, goes_on, &[FAILURE_LIST, ATTEMPT_LIST]);
+    with_if(all, device.ejects.max_attempts.is_some(), &[FAILURE_LIST])
 }
 
 /// The time is over in which a ball on its way was to arrive.
@@ -89,8 +104,8 @@ fn overdue(device: &BallSettings) -> &'static [u16]
     ensures short { length result.now ≤ 2 }
 {
     match device.target {
-        BallTarget::Playfield => &[5, 4],
-        BallTarget::Device(_) => &[5, 6],
+        BallTarget::Playfield => &[ARRIVAL_LIST, SUCCESS_LIST],
+        BallTarget::Device(_) => &[ARRIVAL_LIST, FAILURE_LIST],
     }
 }
 
@@ -100,8 +115,8 @@ fn confirmation(device: &BallSettings) -> &'static [u16]
     ensures short { length result.now ≤ 2 }
 {
     match device.target {
-        BallTarget::Playfield => &[5, 4],
-        BallTarget::Device(_) => &[4],
+        BallTarget::Playfield => &[ARRIVAL_LIST, SUCCESS_LIST],
+        BallTarget::Device(_) => &[SUCCESS_LIST],
     }
 }
 
@@ -126,7 +141,11 @@ fn of_ball_act(device: &BallSettings, act: Act) -> Outcomes
 {
     match act {
         Act::Confirm if may_eject(device) => with_ending(silent(), device, confirmation(device)),
-        Act::Request(_) => with_if(silent(), device.trough && may_begin(device), &[1]),
+        Act::Request(_) => with_if(
+            silent(),
+            device.trough && may_begin(device),
+            &[ATTEMPT_LIST],
+        ),
         _ => silent(),
     }
 }

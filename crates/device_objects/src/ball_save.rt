@@ -9,9 +9,9 @@ use crate::state::SaveState;
 use machine_settings::SaveSettings;
 use plan_tables::{Act, SAVE_DISABLED, SAVE_ENABLED, SAVE_SAVING};
 
-/// The state at first.
+/// The state of a ball save at first.
 #[inline]
-pub(crate) fn first_save() -> SaveState
+pub fn first_save() -> SaveState
     ensures { result ≡ first_state }
 {
     SaveState {

@@ -1,4 +1,4 @@
-//! What a flipper is at first, what it can answer, and when two are the same.
+//! The lists of a flipper, what it is at first, what it can answer, and when two are the same.
 
 ghost use Rattle.std.specs.Prelude.{◌≡◌, ◌↔◌, IsTrue, map};
 ghost use Rattle.device_objects.specs.Flipper.{first_state, of_flipper};
@@ -7,9 +7,14 @@ use crate::answers::{Outcomes, of_switch, silent, with};
 use crate::state::FlipperState;
 use plan_tables::Act;
 
-/// The state at first.
+/// The list of a flipper that goes on.
+pub const ON_LIST: u16 = 0;
+/// The list of a flipper that goes off.
+pub const OFF_LIST: u16 = 1;
+
+/// The state of a flipper at first.
 #[inline]
-pub(crate) fn first_flipper() -> FlipperState
+pub fn first_flipper() -> FlipperState
     ensures { result ≡ first_state }
 {
     FlipperState {
@@ -22,9 +27,9 @@ pub(crate) fn of_flipper(act: Act) -> Outcomes
     ensures { map (λ o. o.items) result.items ≡ of_flipper act }
 {
     match act {
-        Act::Disable => with(silent(), &[1]),
-        Act::SwitchOn(switch) => of_switch(switch, 0),
-        Act::SwitchOff(switch) => of_switch(switch, 1),
+        Act::Disable => with(silent(), &[OFF_LIST]),
+        Act::SwitchOn(switch) => of_switch(switch, ON_LIST),
+        Act::SwitchOff(switch) => of_switch(switch, OFF_LIST),
         _ => silent(),
     }
 }

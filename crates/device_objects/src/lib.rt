@@ -3,23 +3,23 @@
 
 mod accrual;
 pub mod answers;
-mod autofire;
-mod ball_device;
-mod ball_save;
+pub mod autofire;
+pub mod ball_device;
+pub mod ball_save;
 pub mod bank;
 pub mod boxed;
 mod counter;
 pub mod device;
 pub mod flags;
-mod flipper;
+pub mod flipper;
 pub mod kinds;
 pub mod law;
-mod multiball;
+pub mod multiball;
 pub mod outcome;
 pub mod same;
 mod sequence;
 pub mod state;
-mod timer;
+pub mod timer;
 pub mod values;
 
 pub use answers::Outcomes;

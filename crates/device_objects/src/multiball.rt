@@ -8,9 +8,9 @@ use crate::state::MultiballState;
 use machine_settings::MultiballSettings;
 use plan_tables::{Act, MULTIBALL_ENDED, MULTIBALL_STARTED};
 
-/// The state at first.
+/// The state of a multiball at first.
 #[inline]
-pub(crate) fn first_multiball() -> MultiballState
+pub fn first_multiball() -> MultiballState
     ensures { result ≡ first_state }
 {
     MultiballState { running: false }

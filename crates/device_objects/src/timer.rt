@@ -1,4 +1,4 @@
-//! What a timer is at first, what it can answer, and when two are the same.
+//! The lists of a timer, what it is at first, what it can answer, and when two are the same.
 
 ghost use Rattle.std.specs.Prelude.{◌≡◌, ◌≤◌, ◌↔◌, IsTrue, length, map};
 ghost use Rattle.device_objects.specs.declared.device.Call.TheVariants as calls;
@@ -12,9 +12,20 @@ use crate::values::clamp_value;
 use machine_settings::TimerSettings;
 use plan_tables::Act;
 
-/// The state at first.
+/// The list of a timer that starts to run.
+pub const START_LIST: u16 = 0;
+/// The list of a timer that is stopped.
+pub const STOP_LIST: u16 = 1;
+/// The list of a timer that is paused.
+pub const PAUSE_LIST: u16 = 2;
+/// The list of a tick.
+pub const TICK_LIST: u16 = 3;
+/// The list of a timer that completes.
+pub const COMPLETE_LIST: u16 = 4;
+
+/// The state of a timer at first.
 #[inline]
-pub(crate) fn first_timer(timer: &TimerSettings) -> TimerState
+pub fn first_timer(timer: &TimerSettings) -> TimerState
     ensures { result ≡ first_state timer.now }
 {
     TimerState {
@@ -28,7 +39,11 @@ fn timer_completing(timer: &TimerSettings) -> &'static [u16]
     ensures lists { result.now ≡ timer_completing timer.now }
     ensures short { length result.now ≤ 2 }
 {
-    if timer.restart { &[4, 0] } else { &[4] }
+    if timer.restart {
+        &[COMPLETE_LIST, START_LIST]
+    } else {
+        &[COMPLETE_LIST]
+    }
 }
 
 /// A timer whose value moves by any number.
@@ -42,10 +57,10 @@ fn of_timer_act(timer: &TimerSettings, act: Act) -> Outcomes
     ensures { map (λ o. o.items) result.items ≡ of_timer_act timer.now act }
 {
     match act {
-        Act::Start => with(silent(), &[0]),
-        Act::Stop => with(silent(), &[1]),
-        Act::Pause => with(silent(), &[2]),
-        Act::Restart => with(none(), &[0]),
+        Act::Start => with(silent(), &[START_LIST]),
+        Act::Stop => with(silent(), &[STOP_LIST]),
+        Act::Pause => with(silent(), &[PAUSE_LIST]),
+        Act::Restart => with(none(), &[START_LIST]),
         Act::Add(_) | Act::Subtract(_) => of_change(timer),
         Act::Jump(n) => {
             let ends = timer
@@ -61,8 +76,12 @@ fn of_timer_act(timer: &TimerSettings, act: Act) -> Outcomes
 fn of_tick(timer: &TimerSettings) -> Outcomes
     ensures { map (λ o. o.items) result.items ≡ of_timer timer.now calls.Fire }
 {
-    let goes_on = with(none(), &[3]);
-    let completes: &'static [u16] = if timer.restart { &[3, 4, 0] } else { &[3, 4] };
+    let goes_on = with(none(), &[TICK_LIST]);
+    let completes: &'static [u16] = if timer.restart {
+        &[TICK_LIST, COMPLETE_LIST, START_LIST]
+    } else {
+        &[TICK_LIST, COMPLETE_LIST]
+    };
     with_if(goes_on, timer.end.is_some(), completes)
 }
 
@@ -70,7 +89,7 @@ pub(crate) fn of_timer(timer: &TimerSettings, call: Call) -> Outcomes
     ensures { map (λ o. o.items) result.items ≡ of_timer timer.now call }
 {
     match call {
-        Call::ModeStart if timer.start_running => with(none(), &[0]),
+        Call::ModeStart if timer.start_running => with(none(), &[START_LIST]),
         Call::ModeStart | Call::ModeStop => silent(),
         Call::Fire => of_tick(timer),
         Call::Act(act) => of_timer_act(timer, act),

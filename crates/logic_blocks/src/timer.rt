@@ -2,27 +2,19 @@
 
 ghost use Rattle.std.specs.Prelude.{◌≡◌, ◌<◌, ◌^◌, if◌then◌else◌, [], ◌∷◌};
 ghost use Rattle.device_objects.specs.Values.{clamp_value};
-ghost use Rattle.device_objects.specs.Timer.{is_running, run, halt, complete_timer, change_value, act_step, timer_step};
+ghost use Rattle.device_objects.specs.Timer.{is_running, run, halt, complete_timer, after_change, act_step, timer_step};
 ghost use Rattle.plan_tables.specs.declared.devices.Act.TheVariants as acts;
 ghost use Rattle.device_objects.specs.declared.device.Call.TheVariants as calls;
 ghost use Rattle.plan_tables.specs.declared.devices.Settings.TheVariants as kinds;
 
 use device_objects::outcome::one_list;
+use device_objects::timer::{
+    COMPLETE_LIST, PAUSE_LIST, START_LIST, STOP_LIST, TICK_LIST, first_timer,
+};
 use device_objects::values::{clamp_value, move_value};
 use device_objects::{Device, DeviceState, Outcome, TimerState, World};
 use machine_settings::TimerSettings;
 use plan_tables::{Act, DeviceRow, Settings};
-
-/// The list of a timer that starts to run.
-const START_LIST: u16 = 0;
-/// The list of a timer that is stopped.
-const STOP_LIST: u16 = 1;
-/// The list of a timer that is paused.
-const PAUSE_LIST: u16 = 2;
-/// The list of a tick.
-const TICK_LIST: u16 = 3;
-/// The list of a timer that completes.
-const COMPLETE_LIST: u16 = 4;
 
 /// A timer: while it runs its value goes on by one at each tick, and it completes at its end.
 #[derive(Drop)]
@@ -48,10 +40,7 @@ impl Timer {
             Settings::Timer(settings) => Some(Timer {
                 row: *row,
                 settings,
-                state: TimerState {
-                    value: settings.start,
-                    due: None,
-                },
+                state: first_timer(&settings),
             }),
             _ => None,
         }
@@ -128,8 +117,8 @@ fn complete(settings: &TimerSettings, state: &mut TimerState, now: u64) -> Outco
 /// The value was changed: a timer that runs completes if it is at its end now.
 fn change(settings: &TimerSettings, state: &mut TimerState, value: i128, now: u64) -> Outcome
     requires { now < 2 ^ 40 }
-    ensures state { state.new ≡ (change_value settings.now now (record state.old { value = clamp_value value })).0 }
-    ensures outcome { result.items ≡ (change_value settings.now now
+    ensures state { state.new ≡ (after_change settings.now now (record state.old { value = clamp_value value })).0 }
+    ensures outcome { result.items ≡ (after_change settings.now now
         (record state.old { value = clamp_value value })).1 }
 {
     state.value = clamp_value(value);

@@ -4,7 +4,7 @@ ghost use Rattle.std.specs.Prelude.{◌≡◌, ◌<◌, ◌-◌, ◌==◌};
 ghost use Rattle.std.specs.List.{list_all};
 ghost use Rattle.plan_tables.specs.Devices.{IsWithinLimits};
 ghost use Rattle.plan_tables.specs.declared.devices.Settings.TheVariants as kinds;
-ghost use Rattle.device_objects.specs.Bank.{are_all_in, gone_on, is_complete, turn_states};
+ghost use Rattle.device_objects.specs.Bank.{are_all_in, gone_on, is_complete, rotate_states};
 ghost use Rattle.shot_groups.specs.Hit.{states_after_hit, lists_of_hit};
 
 use device_objects::Outcome;
@@ -63,7 +63,7 @@ pub(crate) fn hit(settings: &BankSettings, states: &mut [u8; 16], shot: usize, s
 /// Each shot's state goes to the next shot, and the last one's to the first.
 pub(crate) fn rotate_right(settings: &BankSettings, states: &mut [u8; 16])
     requires { IsWithinLimits (kinds.Bank settings.now) }
-    ensures { states.new ≡ turn_states settings.now.shots (settings.now.shots - 1) states.old }
+    ensures { states.new ≡ rotate_states settings.now.shots (settings.now.shots - 1) states.old }
 {
     if settings.shots > 0 {
         states[..usize::from(settings.shots)].rotate_right(1);
@@ -73,7 +73,7 @@ pub(crate) fn rotate_right(settings: &BankSettings, states: &mut [u8; 16])
 /// Each shot's state goes to the shot before, and the first one's to the last.
 pub(crate) fn rotate_left(settings: &BankSettings, states: &mut [u8; 16])
     requires { IsWithinLimits (kinds.Bank settings.now) }
-    ensures { states.new ≡ turn_states settings.now.shots 1 states.old }
+    ensures { states.new ≡ rotate_states settings.now.shots 1 states.old }
 {
     if settings.shots > 0 {
         states[..usize::from(settings.shots)].rotate_left(1);
