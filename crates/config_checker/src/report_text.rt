@@ -65,11 +65,11 @@ fn write_certificate_fault<W: Write>(fault: &CertificateFault, writer: &mut W) -
         CertificateFault::Line(number) => write!(writer, "Line {number}"),
         CertificateFault::Events => writer.write_all(b"Events"),
         CertificateFault::Switches => writer.write_all(b"Switches"),
-        CertificateFault::Short(event, needed) => {
-            let needed: u128 = **needed;
+        CertificateFault::Short(event, need) => {
+            let need: u128 = **need;
             writer.write_all(b"Short ")?;
             writer.write_all(event)?;
-            write!(writer, " {needed}")
+            write!(writer, " {need}")
         }
         CertificateFault::Bound(bound) => write!(writer, "Bound {bound}"),
         CertificateFault::Switch(switch, cost) => {

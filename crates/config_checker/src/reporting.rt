@@ -36,10 +36,10 @@ pub(crate) fn named_fault(
         RankFault::NoMemory => Err(AllocError),
         RankFault::Cycle(events) => Ok(CheckFault::Cycle(names_of(alloc, plan, &events)?)),
         RankFault::BoundTooLarge => Ok(CheckFault::Bound),
-        RankFault::Short(event, needed) => {
+        RankFault::Short(event, need) => {
             let name = plan.event_name(event).to_vec(alloc)?;
-            let needed = Box::new(alloc, needed)?;
-            Ok(CheckFault::Certificate(CertificateFault::Short(name, needed)))
+            let need = Box::new(alloc, needed)?;
+            Ok(CheckFault::Certificate(CertificateFault::Short(name, need)))
         }
         RankFault::WrongEvents => Ok(CheckFault::Certificate(CertificateFault::Events)),
     }

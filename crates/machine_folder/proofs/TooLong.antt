@@ -21,7 +21,7 @@ mode-over text_at folder modes n this name bundle before path within is same joi
       there = slice_get-map name_of modes n
           ∙ ap (option_map name_of) (slice_get-get_or modes n this within ∙ ap Some (sym is)) ∙ ap Some (sym same);
       before = before;
-      joined = subst (λ (ms : List (List ℕ)). AreJoined text_at folder ms bundle before)
+      joins = subst (λ (ms : List (List ℕ)). AreJoined text_at folder ms bundle before)
           (sym (take-map name_of n modes)) joined;
       over = over;
     }

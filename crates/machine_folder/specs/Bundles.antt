@@ -115,7 +115,7 @@ pub record IsOverAt (text_at : List ℕ → Known) (folder : List ℕ) (modes : 
   pub mode : List ℕ
   pub there : slice_get modes place ≡ Some mode
   pub before : List ℕ
-  pub joined : AreJoined text_at folder (take place modes) bundle before
+  pub joins : AreJoined text_at folder (take place modes) bundle before
   pub over : IsOverWith text_at folder (mode_text_name mode) before path
 
 -- The bundle up to the text at this path has more than 8 MiB. It is that of the machine, or of a mode that it lists.
