@@ -38,7 +38,7 @@ pub(crate) fn named_fault(
         RankFault::BoundTooLarge => Ok(CheckFault::Bound),
         RankFault::Short(event, need) => {
             let name = plan.event_name(event).to_vec(alloc)?;
-            let need = Box::new(alloc, needed)?;
+            let need = Box::new(alloc, need)?;
             Ok(CheckFault::Certificate(CertificateFault::Short(name, need)))
         }
         RankFault::WrongEvents => Ok(CheckFault::Certificate(CertificateFault::Events)),

@@ -1,8 +1,6 @@
-use Rattle.std.proofs.Common.{List, ℕ, map, rules, subst, ◌∙◌}
-use Rattle.std.specs.Global.{Vec}
+use Rattle.std.{proofs.Common.{List, ℕ, map, rules, subst, ◌∙◌}, specs.Global.Vec}
 use Rattle.mpf_config.specs.{BundleText.machine_name, CodeViews.names_only_view}
-use Rattle.machine_folder.specs.Bundles.{path_of, IsMachineRead, IsOverAt, NamesTooLong}
-use Rattle.machine_folder.proofs.TooLong.{machine-over}
+use Rattle.machine_folder.{specs.Bundles.{path_of, IsMachineRead, IsOverAt, NamesTooLong}, proofs.TooLong.machine-over}
 use Rattle.machine_folder.proofs.folder.folder_bundle.Goals as goal
 
 pub returns-in_err-append_modes-in-Ok-clause-too_long : goal.returns-in_err-append_modes-in-Ok-clause-too_long

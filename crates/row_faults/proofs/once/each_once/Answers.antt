@@ -1,7 +1,7 @@
 use Rattle.std.proofs.Common.{rules, ◌≡◌, [], true, ap, subst}
 use Rattle.std.proofs.lemmas.{Bool.{and_parts, and_from, eqb-true, eq-eqb}, Slice.Eq.bytes_eq-Decides}
-use Rattle.row_faults.{specs.declared.fault.{RowFault.RowFault, RowFaultKind.RowFaultKind}, proofs.Plain.took-one}
-use Rattle.row_faults.specs.{FaultView.RowFaultView, RowFaults.listed_once}
+use Rattle.row_faults.specs.declared.fault.{RowFault.RowFault, RowFaultKind.RowFaultKind}
+use Rattle.row_faults.{proofs.Plain.took-one, specs.{FaultView.RowFaultView, RowFaults.listed_once}}
 use Rattle.row_faults.specs.View.{letters_of, row_fault_view, row_faults_view}
 use Rattle.row_faults.specs.contracts.fault.RowFaultPartialEq.TheImpl as same_faults
 use Rattle.row_faults.specs.contracts.fault.RowFaultKindPartialEq.TheImpl as same_kinds
