@@ -4,10 +4,10 @@ ghost use Rattle.std.specs.Prelude.{OnOk};
 ghost use Rattle.std.specs.Io.KnownBytes.{Appends};
 ghost use Rattle.config_checker.specs.CertificateText.{certificate_text, cost_lines, weight_lines, numbered_line};
 
-use crate::checked::Checked;
 use cascade_rank::switch_cost;
 use plan_tables::entries::{EventId, SwitchId};
 use std::io::{self, Write};
+use written_machine::Checked;
 
 /// Writes the certificate, in version 2: the bound, each switch with its cost (a change of it causes
 /// at most so many lines), and each event with its weight.

@@ -13,7 +13,6 @@ ghost use Rattle.config_checker.specs.OfConfig.{ChecksConfig, ChecksConfigWith, 
 ghost use Rattle.config_checker.specs.OfConfig.{ReportsFaultsWith, ReportsWithoutPlan};
 
 use crate::certified::certify;
-use crate::checked::Checked;
 use crate::report::{CheckFault, Report};
 use crate::reporting::{named_fault, report_of};
 use cascade_rank::find_bounded;
@@ -23,6 +22,7 @@ use mpf_plan::{PlanFault, plan_complete};
 use plan_tables::Plan;
 use row_faults::{RowFault, faults_of_rows};
 use std::alloc::{AllocError, Global};
+use written_machine::Checked;
 
 /// Checks a configuration. What it accepts has a plan, the least weights that fit it, and their
 /// bound; and every run of the plan is good.

@@ -4,7 +4,6 @@
 pub mod certificate;
 mod certificate_reader;
 mod certified;
-pub mod checked;
 pub mod checker;
 pub mod law;
 pub mod report;
@@ -12,8 +11,8 @@ pub mod report_text;
 mod reporting;
 
 pub use certificate::write_certificate;
-pub use checked::Checked;
 pub use checker::{check, check_with};
 pub use law::certificate_is_read_again;
 pub use report::{CertificateFault, CheckFault, Report};
 pub use report_text::write_report;
+pub use written_machine::Checked;

@@ -7,13 +7,12 @@ use crate::exchange::Refusal;
 use crate::input::{Input, RigFault, StepFault, check_moment};
 use coil_driver::{Driver, ShutReport};
 use coil_guard::{Board, Coils};
-use config_checker::Checked;
 use device_objects::{Device, DeviceState, is_same_row, is_same_state};
 use machine_core::{Core, Stimulus, begin};
 use plan_tables::RowId;
 use std::alloc::Global;
 use std::marker::Model;
-use written_machine::Line;
+use written_machine::{Checked, Line};
 
 /// The machine of an accepted configuration with its board, between two stimuli: no event waits, and
 /// a run of the plan leads to its state. Moments are milliseconds, below 2^40.

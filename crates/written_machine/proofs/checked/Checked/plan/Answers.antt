@@ -1,6 +1,6 @@
 use Rattle.std.proofs.Common.{subst}
 use Rattle.written_machine.{specs.GoodRun.IsGood, proofs.Good.every_run_is_good}
-use Rattle.config_checker.proofs.checked.Checked.plan.Goals as goal
+use Rattle.written_machine.proofs.checked.Checked.plan.Goals as goal
 
 pub returns-clause-good : goal.returns-clause-good
 returns-clause-good c = subst IsGood c.self.view_is (every_run_is_good _ c.self.invariant)

@@ -1,4 +1,4 @@
-//! A configuration that was accepted.
+//! What was accepted.
 
 use cascade_rank::Weights;
 use plan_tables::Plan;
@@ -30,7 +30,8 @@ impl Checked {
     ghost use Rattle.written_machine.specs.Accepted.{IsAccepted};
     ghost use Rattle.written_machine.specs.GoodRun.{IsGood};
 
-    pub(crate) fn new(plan: Plan, weights: Weights, bound: u32) -> Checked
+    /// What was accepted, which the caller has to have proved. `config_checker::check` makes one from a configuration.
+    pub fn new(plan: Plan, weights: Weights, bound: u32) -> Checked
         requires { IsAccepted (record { plan = plan; weights = weights; bound = bound }) }
         ensures { result ≡ record { plan = plan; weights = weights; bound = bound } }
     {
