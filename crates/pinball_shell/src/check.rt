@@ -4,7 +4,7 @@ ghost use Rattle.std.specs.Prelude.{◌≡◌, ◌≢◌, ◌^◌, IfOk, OnOk, I
 ghost use Rattle.std.specs.Io.KnownBytes.{Appends, IsAtEnd, Keeps};
 ghost use Rattle.pinball_shell.specs.Reply.{reply_to, reply_with, verdict_of, accepted_of};
 ghost use Rattle.pinball_shell.specs.ReplyView.{IsReplyBy, IsReplyWith, IsAnswerBy, text_of_checked, text_of_verified};
-ghost use Rattle.pinball_shell.specs.ReplyView.{text_of_notes, text_of_refusal, lines_of_refusal};
+ghost use Rattle.pinball_shell.specs.ReplyView.{text_of_notes, text_of_refusal, lines_of_refusal, verdict_of_reply};
 ghost use Rattle.pinball_shell.specs.CheckOutput.{acceptance_text, verification_text, check_output, verify_output};
 ghost use Rattle.pinball_shell.specs.CheckOutput.{load_output};
 ghost use Rattle.pinball_shell.specs.TextRead.{HasAtMost, HasMoreThan, IfBoth, AppendsFor, AppendsForBoth};
@@ -68,10 +68,7 @@ pub fn check_bundle<W: Write>(
     ensures fails { IfErr result (λ e. (e ≡ ShellFault.NoMemory) ⊎ (e ≡ ShellFault.Write)) }
 {
     let reply = reply_to_text(alloc, bundle, None)?;
-    match write_checked(&reply, writer) {
-        Ok(()) => Ok(reply.verdict()),
-        Err(_) => Err(ShellFault::Write),
-    }
+    answer_check(&reply, writer)
 }
 
 /// Reads a bundle and a certificate, and writes what `verify` prints for them: the notes on the
@@ -124,10 +121,7 @@ pub fn verify_bundle<Q: Read, W: Write>(
     ensures no_devices { IfErr result (λ e. e ≢ ShellFault.WrongDevice) }
 {
     let reply = reply_with_certificate(alloc, bundle, certificate)?;
-    match write_verified(&reply, writer) {
-        Ok(()) => Ok(reply.verdict()),
-        Err(_) => Err(ShellFault::Write),
-    }
+    answer_verify(&reply, writer)
 }
 
 /// Reads a bundle and checks it. For a bundle that is accepted it writes nothing, not even notes,
@@ -234,6 +228,30 @@ fn check_rows(
         Ok(checked) => Ok(Ok(checked)),
         Err(Report::NoMemory) => Err(ShellFault::NoMemory),
         Err(Report::Faults(faults)) => Ok(Err(BundleRefusal::Unfit(faults))),
+    }
+}
+
+/// Writes what `check` prints for a bundle, and gives the verdict. Fails only by the writer.
+fn answer_check<W: Write>(reply: &Reply, writer: &mut W) -> Result<Verdict, ShellFault>
+    ensures verdict { IfOk result (λ v. v ≡ verdict_of_reply reply.now) }
+    ensures writes { OnOk result (Appends (W.contents writer.old) (W.contents writer.new) (text_of_checked reply.now)) }
+    ensures fails { IfErr result (λ e. e ≡ ShellFault.Write) }
+{
+    match write_checked(reply, writer) {
+        Ok(()) => Ok(reply.verdict()),
+        Err(_) => Err(ShellFault::Write),
+    }
+}
+
+/// Writes what `verify` prints for a bundle and a certificate, and gives the verdict. Fails only by the writer.
+fn answer_verify<W: Write>(reply: &Reply, writer: &mut W) -> Result<Verdict, ShellFault>
+    ensures verdict { IfOk result (λ v. v ≡ verdict_of_reply reply.now) }
+    ensures writes { OnOk result (Appends (W.contents writer.old) (W.contents writer.new) (text_of_verified reply.now)) }
+    ensures fails { IfErr result (λ e. e ≡ ShellFault.Write) }
+{
+    match write_verified(reply, writer) {
+        Ok(()) => Ok(reply.verdict()),
+        Err(_) => Err(ShellFault::Write),
     }
 }
 
