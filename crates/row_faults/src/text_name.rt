@@ -73,11 +73,10 @@ impl TextName {
         ensures { OnOk result (Appends (W.contents writer.old) (W.contents writer.new)
             (escape_bytes (letters_of self.now))) }
     {
-        let letters = &self.letters;
-        if letters.plain {
-            return writer.write_all(&letters.bytes);
+        if self.is_plain() {
+            return writer.write_all(self.as_bytes());
         }
-        write_escaped(&letters.bytes, writer)
+        write_escaped(self.as_bytes(), writer)
     }
 }
 
