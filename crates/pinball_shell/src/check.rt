@@ -246,7 +246,8 @@ fn answer_check<W: Write>(reply: &Reply, writer: &mut W) -> Result<Verdict, Shel
 /// Writes what `verify` prints for a bundle and a certificate, and gives the verdict. Fails only by the writer.
 fn answer_verify<W: Write>(reply: &Reply, writer: &mut W) -> Result<Verdict, ShellFault>
     ensures verdict { IfOk result (λ v. v ≡ verdict_of_reply reply.now) }
-    ensures writes { OnOk result (Appends (W.contents writer.old) (W.contents writer.new) (text_of_verified reply.now)) }
+    ensures writes { OnOk result (Appends (W.contents writer.old) (W.contents writer.new)
+        (text_of_verified reply.now)) }
     ensures fails { IfErr result (λ e. e ≡ ShellFault.Write) }
 {
     match write_verified(reply, writer) {
