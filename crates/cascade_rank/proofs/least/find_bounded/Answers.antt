@@ -33,7 +33,7 @@ returns-in-Some-clause-exact c =
 pub returns-in-Some-clause-refused : goal.returns-in-Some-clause-refused
 returns-in-Some-clause-refused c =
     let walked = c.in_ok-walk.ensures in
-    (walked.is_one, walked.reported, cycle-no_fit c.args.plan.now _ walked.is_one)
+    (walked.is_one, walked.reports, cycle-no_fit c.args.plan.now _ walked.is_one)
 
 pub weigh-requires : goal.weigh-requires
 weigh-requires c = search (rules, nat_lt, whole_order)
