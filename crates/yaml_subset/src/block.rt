@@ -199,7 +199,7 @@ fn pair<'a>(
     ))
 }
 
-// The mapping that lines are. The set takes its keys.
+// The mapping that lines are.
 #[cycle(block)]
 #[tactic(auto, unfolding(crate::specs::Reading::mapping_at))]
 fn mapping<'a>(
@@ -208,21 +208,20 @@ fn mapping<'a>(
     around: Option<usize>,
     first: &TextLine<'a>,
     others: &[TextLine<'a>],
-    keys: &mut KeySet<'a>,
     levels: u8,
 ) -> Result<Tree<'a>, Halt>
-    requires { copies_view keys.old ≡ [] }
     ensures { GivesOrHalts node_view result
         (mapping_at 8 (tree_at levels 8) around (line_view first.now) (lines_view others.now)) }
 {
     let indent = first.indent;
+    let mut keys = no_keys(alloc, hashing);
     let mut pairs = Vec::with_capacity(alloc, 1 + apart_count(true, indent, others))?;
     let mut at = 0;
     while at <= others.len() {
         let line = line_at(first, others, at);
         let (below, _) = split_below(true, indent, &others[at..]);
         let next = pair(
-            alloc, hashing, around, indent, &line, below, &pairs, keys, levels,
+            alloc, hashing, around, indent, &line, below, &pairs, &mut keys, levels,
         )?;
         pairs.push(next)?;
         at += 1 + below.len();
@@ -337,10 +336,7 @@ fn block<'a>(
         LineHead::Alone(value) => close_block(around, value, others),
         _ if levels == 0 => Err(first.fault(TextFaultKind::TooDeep)),
         LineHead::Item(_) => sequence(alloc, hashing, around, first, others, levels - 1),
-        LineHead::Entry(_, _) => {
-            let mut keys = no_keys(alloc, hashing);
-            mapping(alloc, hashing, around, first, others, &mut keys, levels - 1)
-        }
+        LineHead::Entry(_, _) => mapping(alloc, hashing, around, first, others, levels - 1),
     }
 }
 

@@ -231,25 +231,24 @@ fn list(
     Ok((Tree::List(number, items), rest))
 }
 
-// A mapping, read from after its brace on. The set takes its keys.
+// A mapping, read from after its brace on.
 #[cycle(flow)]
 #[tactic(auto, unfolding(crate::specs::Flow::flow_mapping_at))]
-fn mapping<'a>(
+fn mapping(
     alloc: Global,
     hashing: KeyHashing,
     levels: u8,
     number: u32,
-    keys: &mut KeySet<'a>,
-    after: &'a [u8],
-) -> Result<(Tree<'a>, &'a [u8]), Halt>
-    requires { copies_view keys.old ≡ [] }
+    after: &[u8],
+) -> Result<(Tree<'_>, &[u8]), Halt>
     ensures { GivesOrHalts flow_view result
         (flow_mapping_at number (flow_value_at number (flow_at levels number)) after.now) }
 {
+    let mut keys = no_keys(alloc, hashing);
     let mut text = start(number, after)?;
     let mut pairs = Vec::with_capacity(alloc, least_pairs(text))?;
     while !begins_with(b'}', text) {
-        let (next, rest) = pair(alloc, hashing, levels, number, &pairs, keys, text)?;
+        let (next, rest) = pair(alloc, hashing, levels, number, &pairs, &mut keys, text)?;
         pairs.push(next)?;
         text = behind_part(number, b'}', rest)?;
     }
@@ -283,10 +282,7 @@ pub fn flow(
     }
     match text {
         [b'[', after @ ..] => list(alloc, hashing, levels - 1, number, after),
-        [b'{', after @ ..] => {
-            let mut keys = no_keys(alloc, hashing);
-            mapping(alloc, hashing, levels - 1, number, &mut keys, after)
-        }
+        [b'{', after @ ..] => mapping(alloc, hashing, levels - 1, number, after),
         _ => Err(Halt::at(TextFaultKind::Flow, number, text.len())),
     }
 }

@@ -20,7 +20,7 @@ mapping-loop-at-init t c =
     let total = pairs_at 8 (tree_at c.args.levels 8) c.args.around c.args.first.now.indent []
     (groups_from true c.args.first.now.indent 0 (c.args.first.now ∷ c.args.others.now)) in
     record {
-      known = inl c.requires;
+      known = inl c.no_keys-keys.ensures;
       so_far = rw c.in_ok-pairs.ensures.items (at_start total);
     }
 

@@ -128,7 +128,7 @@ mapping-returns-in_err-text t c =
 
 pub mapping-loop-alloc-init : goal.mapping-loop-alloc-init
 mapping-loop-alloc-init t c = record {
-  known = inl c.requires;
+  known = inl c.no_keys-keys.ensures;
   so_far = rw c.in_ok-pairs.ensures.items (begun c.args.number 125 (pair_in c.args.levels c.args.number)
       c.args.after.now c.in_ok-text.text.now c.in_ok-text.ensures);
 }
