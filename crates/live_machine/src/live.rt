@@ -17,12 +17,12 @@ ghost use Rattle.live_machine.specs.Going.{RunsRig};
 use crate::link::{LONGEST_LINE, Link};
 use crate::wire::Wire;
 use coil_guard::Board;
-use config_checker::Checked;
 use device_objects::Device;
 use pinball_shell::{LogPlayer, ShellFault, Stop, Verdict, worse};
 use std::alloc::Global;
 use std::io::{self, Write};
 use trace_lines::WriteFailed;
+use written_machine::Checked;
 
 /// Runs a machine live, with this board and these devices, one for each row of the plan, in the order
 /// of the rows. First it tells when an alarm is due: `due MOMENT`, or `due -`. Then it hears lines of a

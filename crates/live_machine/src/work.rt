@@ -6,10 +6,10 @@ ghost use Rattle.cascade_rank.specs.Working.{IsBoundOf, work_bound_of};
 ghost use Rattle.live_machine.specs.Work.{TellsWork, AdmitsWork, work_text, refusal_text, is_admitted};
 
 use cascade_rank::{WorkBound, work_bound};
-use config_checker::Checked;
 use pinball_shell::{ShellFault, Verdict};
 use std::alloc::Global;
 use std::io::{self, Write};
+use written_machine::Checked;
 
 /// A machine runs live if its work bound is at most this.
 pub const MOST_STEPS: u64 = 1_000_000;
