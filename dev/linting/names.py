@@ -3,8 +3,8 @@
 A fault is `FILE:LINE: KIND NAME`, or `FILE: wide N lines`:
 
   twice       a public function or constant of src/ that two crates declare, crates of tests apart
-  alike       a type that another crate has too, and a type whose name is that of a type of another crate but for a plural
-              or the case of letters, public or not, in src/ or specs/. Facts, such as `IsKept`, are left out
+  alike       a type that another crate has too, and a type whose name is that of a type of another crate but for a
+              plural or the case of letters, public or not, in src/ or specs/. Facts, such as `IsKept`, are left out
   inside      a file of definitions that is called Inside
   numbered    a struct or a record with two or more fields that are numbers, such as `first` and `second`
   participle  a participle that is the whole name of a type, a function, a field, a variable or a definition, in src/ or
@@ -55,9 +55,9 @@ IN_SPECS = re.compile(
 PLURALS = (("s", ""), ("es", ""), ("ies", "y"))
 IRREGULAR = frozenset(
     "become been begun born borne bought bought broken brought built caught chosen come done drawn driven fallen felt "
-    "forgotten found given gone got grown heard held hidden hung kept known laid led left lent lost made meant met paid "
-    "risen said seen sent shown shut slept sold sought spent spoken stolen stood struck sung sunk swept taken taught "
-    "thought thrown told torn understood unseen woken won worn wound woven written".split()
+    "forgotten found given gone got grown heard held hidden hung kept known laid led left lent lost made meant met "
+    "paid risen said seen sent shown shut slept sold sought spent spoken stolen stood struck sung sunk swept taken "
+    "taught thought thrown told torn understood unseen woken won worn wound woven written".split()
 )
 # Adjectives that are terms, and words in -ed that are no participles.
 TERMS = frozenset("deed embed enabled exceed feed indeed need proceed red seed signed speed unsigned".split())
