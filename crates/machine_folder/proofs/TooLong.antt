@@ -1,11 +1,13 @@
 -- With which text a bundle is too long.
 use Rattle.std.proofs.Common.{◌≡◌, ℕ, ◌<◌, Option, Some, option_map, List, length, map, take, get_or, ap, sym, ◌∙◌}
-use Rattle.std.proofs.{Common.subst, lemmas.{List.take-map, Option.{slice_get-map, slice_get-get_or}}}
-use Rattle.std.specs.Global.{Vec}
+use Rattle.std.proofs.{Common.{subst, []}, lemmas.List.take-map}
+use Rattle.std.specs.{Global.Vec, Prelude.string_bytes}
+use Rattle.std.proofs.lemmas.Option.{slice_get-map, slice_get-get_or}
 use Rattle.mpf_config.specs.BundleText.{machine_name, mode_text_name}
-use Rattle.pinball_shell.specs.declared.fault.Failure.{Failure}
+use Rattle.pinball_shell.specs.declared.fault.{Failure.Failure, ShellFault.{ShellFault, TheVariants.TooLong}}
+use Rattle.pinball_shell.specs.Status.{file_at_fault}
 use Rattle.machine_folder.specs.Bundles.{Known, path_of, IsMachineRead, AreJoined, IsOverWith, IsOverAt, NamesTooLong}
-use Rattle.machine_folder.specs.Bundles.{IsTooLongAt, mode}
+use Rattle.machine_folder.specs.Bundles.{IsTooLongAt, MakesTooLong, machine, mode}
 
 -- the bundle is with the text of the next mode
 pub mode-over : (text_at : List ℕ → Known) (folder : List ℕ) (modes : List (Vec ℕ)) (n : ℕ) (this : Vec ℕ)
@@ -42,3 +44,12 @@ pub machine-over : (text_at : List ℕ → Known) (folder bundle : List ℕ) (mo
     → NamesTooLong failure (IsOverAt text_at folder modes bundle) → NamesTooLong failure (IsTooLongAt text_at folder)
 machine-over text_at folder bundle modes failure read named too_long =
     let at = named too_long in (at.0, at.1, mode bundle modes read at.2)
+
+-- what failed for the machine text
+pub first-over : (text_at : List ℕ → Known) (folder path : List ℕ) (fault : ShellFault) (failure : Failure)
+    → failure.fault ≡ fault → option_map string_bytes failure.file ≡ file_at_fault fault path
+    → path ≡ path_of folder machine_name → (fault ≡ TooLong → MakesTooLong (text_at path) machine_name [])
+    → NamesTooLong failure (IsTooLongAt text_at folder)
+first-over text_at folder path fault failure same file is over too_long =
+    let at : fault ≡ TooLong = sym same ∙ too_long in
+    (path, file ∙ ap (λ f. file_at_fault f path) at, machine (is, over at))
