@@ -1,8 +1,7 @@
 -- With which text a bundle is too long.
 use Rattle.std.proofs.Common.{◌≡◌, ℕ, ◌<◌, Option, Some, option_map, List, length, map, take, get_or, ap, sym, ◌∙◌}
-use Rattle.std.proofs.{Common.{subst, []}, lemmas.List.take-map}
+use Rattle.std.proofs.{Common.{subst, []}, lemmas.{List.take-map, Option.{slice_get-map, slice_get-get_or}}}
 use Rattle.std.specs.{Global.Vec, Prelude.string_bytes}
-use Rattle.std.proofs.lemmas.Option.{slice_get-map, slice_get-get_or}
 use Rattle.mpf_config.specs.BundleText.{machine_name, mode_text_name}
 use Rattle.pinball_shell.specs.declared.fault.{Failure.Failure, ShellFault.{ShellFault, TheVariants.TooLong}}
 use Rattle.pinball_shell.specs.Status.{file_at_fault}
