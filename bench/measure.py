@@ -216,15 +216,16 @@ def same_output(first: list[str], second: list[str], bundle: pathlib.Path) -> tu
 
 def all_plays(complete: pathlib.Path) -> Iterator[Play]:
     log = cascades.log()
-    yield Play("cascades", texts.bundle("".join(cascades.machine())), log)
-    yield Play(f"{stacked.STACKED} stacked modes", stacked.machine(), log)
-    yield Play(f"{devices.BLOCKS} blocks, {devices.TIMERS} timers", devices.machine(), devices.log())
-    yield Play(f"flippers, {coils.SLINGSHOTS} slingshots", coils.machine(), coils.log())
-    yield Play(f"a game, {game.ACTIONS} actions each", game.machine(), game.log())
+    yield Play("cascades", texts.bundle("".join(cascades.machine())), log, 18.8)
+    yield Play(f"{stacked.STACKED} stacked modes", stacked.machine(), log, 18.4)
+    yield Play(f"{devices.BLOCKS} blocks, {devices.TIMERS} timers", devices.machine(), devices.log(), 16.6)
+    yield Play(f"flippers, {coils.SLINGSHOTS} slingshots", coils.machine(), coils.log(), 16.7)
+    yield Play(f"a game, {game.ACTIONS} actions each", game.machine(), game.log(), 4.3)
     log = games.log(games.COMPLETE, 1, 16 * MIB)
-    yield Play("examples/complete, with balls", folders.read(complete, games.WITHOUT), log)
+    yield Play("examples/complete, with balls", folders.read(complete, games.WITHOUT), log, 18.3)
     log = games.log(limits.switches(), limits.BALLS, 16 * MIB)
-    yield Play("a machine at the limits of the plan", limits.machine(), log)
+    bars = 26.4, AT_THE_LIMITS_OF_PLAIN, TIME_AT_THE_LIMITS_OF_PLAIN
+    yield Play("a machine at the limits of the plan", limits.machine(), log, *bars)
 
 
 def plays_both(bench: Bench, play: Play) -> None:
