@@ -4,9 +4,9 @@ texts, and against their bars. bench/run starts it.
 PROGRAM is pinball, proved: of an unproved build valgrind reports no count. PLAIN and COLLIDE are what plain/ and
 collide.rs are built to, and COMPLETE is the folder of examples/complete. A READER reads the YAML file that its word
 names. Each is a path. Each line of output has millions of instructions, their ratio to those of another line, the wall
-time in ms (the median of RUNS runs, of a third as many of `play`), its ratio, peak memory in MiB, and bytes of memory
-for each byte of text. An exit status is in brackets. This ends with status 1 if a bar is not met. Wants Debian's
-/usr/bin/python3. What it lacks of python3-yaml and fy-tool it names, and leaves out."""
+time in ms (the median of RUNS runs) or of `play` the processor time (the least of RUNS runs), its ratio, peak memory in
+MiB, and bytes of memory for each byte of text. An exit status is in brackets. This ends with status 1 if a bar is not
+met. Wants Debian's /usr/bin/python3. What it lacks of python3-yaml and fy-tool it names, and leaves out."""
 import dataclasses
 import os
 import pathlib
@@ -29,7 +29,7 @@ import texts
 import waits
 from bars import Bars
 from counting import NOTHING, counted, counted_of_log
-from measuring import MIB, Cost, measured, measured_in_turn
+from measuring import MIB, Cost, least_in_turn, measured, measured_in_turn
 
 PYTHON = "/usr/bin/python3"
 C_LOADER = "python3-yaml, CSafeLoader"
@@ -45,8 +45,10 @@ MEMORY_OF_ORDINARY = 9  # bytes for each byte
 NAMES = 5  # times the instructions of the ordinary text
 DOUBLED = 2.05  # instructions
 MODES_OF_EVENTS = 1.5  # instructions for each byte
-OF_PLAIN = 1.0
-MEMORY_OF_PLAIN = 1.5
+OF_PLAIN = 1.15  # of its instructions
+TIME_OF_PLAIN = 1.3
+AT_THE_LIMITS_OF_PLAIN = 1.4
+TIME_AT_THE_LIMITS_OF_PLAIN = 1.6
 WAITS = 1.5  # times the instructions with one switch
 
 
@@ -71,9 +73,14 @@ class Both:
 
 @dataclasses.dataclass(frozen=True)
 class Play:
+    """A log, the configuration on which it is played, and the most MiB of memory that this may take."""
+
     what: str
     bundle: bytes
     log: str
+    memory: float
+    instructions: float = OF_PLAIN
+    time: float = TIME_OF_PLAIN
 
 
 @dataclasses.dataclass(frozen=True)
@@ -209,15 +216,16 @@ def same_output(first: list[str], second: list[str], bundle: pathlib.Path) -> tu
 
 def all_plays(complete: pathlib.Path) -> Iterator[Play]:
     log = cascades.log()
-    yield Play("cascades", texts.bundle("".join(cascades.machine())), log)
-    yield Play(f"{stacked.STACKED} stacked modes", stacked.machine(), log)
-    yield Play(f"{devices.BLOCKS} blocks, {devices.TIMERS} timers", devices.machine(), devices.log())
-    yield Play(f"flippers, {coils.SLINGSHOTS} slingshots", coils.machine(), coils.log())
-    yield Play(f"a game, {game.ACTIONS} actions each", game.machine(), game.log())
+    yield Play("cascades", texts.bundle("".join(cascades.machine())), log, 18.8)
+    yield Play(f"{stacked.STACKED} stacked modes", stacked.machine(), log, 18.4)
+    yield Play(f"{devices.BLOCKS} blocks, {devices.TIMERS} timers", devices.machine(), devices.log(), 16.6)
+    yield Play(f"flippers, {coils.SLINGSHOTS} slingshots", coils.machine(), coils.log(), 16.7)
+    yield Play(f"a game, {game.ACTIONS} actions each", game.machine(), game.log(), 4.3)
     log = games.log(games.COMPLETE, 1, 16 * MIB)
-    yield Play("examples/complete, with balls", folders.read(complete, games.WITHOUT), log)
+    yield Play("examples/complete, with balls", folders.read(complete, games.WITHOUT), log, 18.3)
     log = games.log(limits.switches(), limits.BALLS, 16 * MIB)
-    yield Play("a machine at the limits of the plan", limits.machine(), log)
+    bars = 26.4, AT_THE_LIMITS_OF_PLAIN, TIME_AT_THE_LIMITS_OF_PLAIN
+    yield Play("a machine at the limits of the plan", limits.machine(), log, *bars)
 
 
 def plays_both(bench: Bench, play: Play) -> None:
@@ -233,14 +241,14 @@ def plays_both(bench: Bench, play: Play) -> None:
     print(f"\nplay of a log of {read} bytes, {play.what}: {size} bytes of output in {lines} lines, {both} from both")
     if not same:
         sys.exit("the outputs of play differ, so that their times say nothing")
-    costs = measured_in_turn([ours, theirs], [bundle, bundle], max(bench.runs // 3, 1))
+    costs = least_in_turn([ours, theirs], [bundle, bundle], bench.runs)
     counts = [counted_of_log(program, bundle, log, MIB) * read for program in programs]
     ours, theirs = (Both(count, cost) for count, cost in zip(counts, costs))
     theirs.show("plain Rust", read, theirs)
     ours.show("pinball play", read, theirs)
-    bench.bars.judge("instructions, of those of plain Rust", ours.instructions / theirs.instructions, OF_PLAIN)
-    bench.bars.judge("time, of that of plain Rust", ours.cost.seconds / theirs.cost.seconds, OF_PLAIN)
-    bench.bars.judge("memory, of that of plain Rust", ours.cost.memory / theirs.cost.memory, MEMORY_OF_PLAIN)
+    bench.bars.judge("instructions, of those of plain Rust", ours.instructions / theirs.instructions, play.instructions)
+    bench.bars.judge("processor time, of that of plain Rust", ours.cost.seconds / theirs.cost.seconds, play.time)
+    bench.bars.judge("MiB of memory", ours.cost.memory / MIB, play.memory)
 
 
 def plays_waits(bench: Bench) -> None:
@@ -253,7 +261,8 @@ def plays_waits(bench: Bench) -> None:
         bundle = bench.room / "waits.bundle"
         bundle.write_bytes(texts.bundle("".join(waits.switches(count))))
         instructions = counted_of_log(command, bundle, log, MIB) * size
-        ours = Both(instructions, measured([*command, str(log)], bundle, max(bench.runs // 3, 1)))
+        [cost] = least_in_turn([[*command, str(log)]], [bundle], bench.runs)
+        ours = Both(instructions, cost)
         base = base or ours
         ours.show(f"{count} switches ({ours.cost.status})", size, base)
     bench.bars.judge("instructions, of those with one switch", ours.instructions / base.instructions, WAITS)

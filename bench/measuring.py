@@ -76,6 +76,18 @@ def measured_in_turn(commands: list[list[str]], paths: list[pathlib.Path], runs:
     return [cost_of(command, path, list(of_pair)) for (command, path), of_pair in zip(pairs, zip(*results))]
 
 
+def least_in_turn(commands: list[list[str]], paths: list[pathlib.Path], runs: int) -> list[Cost]:
+    """The least processor time, and the greatest memory, of so many runs of each of these commands and its file. They
+    run in turn, as above. Other work of the machine can only make a run slower, so the least says the most."""
+    results = [[used(command, path) for command, path in zip(commands, paths)] for _ in range(runs)]
+    return [least_of(list(of_command)) for of_command in zip(*results)]
+
+
+def least_of(costs: list[Cost]) -> Cost:
+    """The least time and the greatest memory of these runs."""
+    return Cost(min(cost.seconds for cost in costs), max(cost.memory for cost in costs), costs[0].status)
+
+
 def cost_of(command: list[str], path: pathlib.Path, results: list[tuple[float, int]]) -> Cost:
     """The median wall time of these runs, and the greatest memory of some more."""
     more = [used(command, path) for _ in range(WEIGHED)]

@@ -1,12 +1,14 @@
 //! The machine while it runs.
 use std::collections::VecDeque;
 use std::io::Write;
+use std::slice;
 
 use crate::alarms::{Alarms, Source};
 use crate::coils::{Coil, Command};
 use crate::devices::{Act, Answer, Device, World};
+use crate::finder::Finder;
 use crate::game::{self, Game, Phase};
-use crate::output::Output;
+use crate::output::{Output, Text};
 use crate::plan::{Action, Change, Effect, Event, Handler, Owner, Plan, Step, MACHINE, STARTED, STOPPING};
 
 /// How long a switch that is not quick must keep its raw level before that is accepted, in milliseconds.
@@ -35,8 +37,30 @@ struct Ledger {
     playfield: i64,
 }
 
+/// What lines say after their owner, made before the play begins.
+struct Texts {
+    events: Vec<Text>,
+    /// By switch: that it becomes inactive, and active.
+    switches: Vec<[Text; 2]>,
+    /// The names of variables.
+    variables: Vec<Text>,
+}
+
+impl Texts {
+    fn new(plan: &Plan) -> Texts {
+        let event = |name: &String| Text::new(&format!(" event {name}\n"));
+        let changes = |name: &String| ["inactive", "active"].map(|level| format!(" switch {name} {level}\n"));
+        Texts {
+            events: plan.event_names.names.iter().map(event).collect(),
+            switches: plan.switch_names.names.iter().map(|name| changes(name).map(|text| Text::new(&text))).collect(),
+            variables: plan.variables.names.iter().map(|name| Text::new(name)).collect(),
+        }
+    }
+}
+
 pub struct Run<'p, W: Write> {
-    pub plan: &'p Plan,
+    plan: &'p Plan,
+    pub finder: Finder<'p>,
     pub output: Output<W>,
     pub now: u64,
     pub alarms: Alarms,
@@ -49,8 +73,11 @@ pub struct Run<'p, W: Write> {
     kept_stops: Vec<bool>,
     game: Game,
     ledger: Ledger,
-    /// Each with who posted it.
-    waiting: VecDeque<(Owner, Event)>,
+    texts: Texts,
+    /// By event: whether nothing handles it, and nothing follows it.
+    is_idle: Vec<bool>,
+    /// Lists of events, each with who posted it.
+    waiting: VecDeque<(Owner, &'p [Event])>,
 }
 
 impl<'p, W: Write> Run<'p, W> {
@@ -58,8 +85,10 @@ impl<'p, W: Write> Run<'p, W> {
         let mut lives = vec![Life::Idle; plan.owners.len()];
         lives[MACHINE as usize] = Life::Active;
         let level = |closed_at_rest| Level { raw: closed_at_rest, active: false };
+        let is_idle = |(groups, step): (&Vec<_>, &Step)| groups.is_empty() && matches!(step, Step::None);
         Run {
             plan,
+            finder: Finder::new(&plan.switch_names.names),
             output: Output::new(to, &plan.owners),
             now: 0,
             alarms: Alarms::new(plan.switches.len() + plan.rows.len()),
@@ -70,6 +99,8 @@ impl<'p, W: Write> Run<'p, W> {
             kept_stops: vec![false; plan.owners.len()],
             game: Game::new(plan.variables.names.len()),
             ledger: Ledger { on_their_way: vec![0; plan.rows.len() + 1], ..Ledger::default() },
+            texts: Texts::new(plan),
+            is_idle: plan.groups.iter().zip(&plan.steps).map(is_idle).collect(),
             waiting: VecDeque::new(),
         }
     }
@@ -81,8 +112,11 @@ impl<'p, W: Write> Run<'p, W> {
         }
     }
 
-    fn post(&mut self, owner: Owner, events: &[Event]) {
-        self.waiting.extend(events.iter().map(|&event| (owner, event)));
+    #[inline(always)]
+    fn post(&mut self, owner: Owner, events: &'p [Event]) {
+        if !events.is_empty() {
+            self.waiting.push_back((owner, events));
+        }
     }
 
     /// Ends the machine: coils that are on go off.
@@ -90,7 +124,7 @@ impl<'p, W: Write> Run<'p, W> {
         for (coil, name) in self.coils.iter().zip(&self.plan.coil_names.names) {
             if coil.is_on(self.now) {
                 self.output.begin(MACHINE);
-                self.output.push(b"off ");
+                self.output.push(b" off ");
                 self.output.push(name.as_bytes());
                 self.output.end();
             }
@@ -99,7 +133,7 @@ impl<'p, W: Write> Run<'p, W> {
 }
 
 /// Switches and coils.
-impl<W: Write> Run<'_, W> {
+impl<'p, W: Write> Run<'p, W> {
     pub fn change(&mut self, number: u16, raw: bool) {
         let (switch, level) = (&self.plan.switches[number as usize], &mut self.levels[number as usize]);
         if raw == level.raw {
@@ -116,19 +150,17 @@ impl<W: Write> Run<'_, W> {
     }
 
     fn accept(&mut self, number: u16) {
-        let (switch, level) = (&self.plan.switches[number as usize], &mut self.levels[number as usize]);
+        let (plan, level) = (self.plan, &mut self.levels[number as usize]);
+        let switch = &plan.switches[number as usize];
         level.active = !level.active;
         let active = level.active;
-        self.output.begin(MACHINE);
-        self.output.push(b"switch ");
-        self.output.push(self.plan.switch_names.names[number as usize].as_bytes());
-        self.output.push(if active { b" active\n" } else { b" inactive\n" });
+        self.output.line(MACHINE, &self.texts.switches[number as usize][usize::from(active)]);
         for &(row, place) in &switch.listeners {
             let answer = self.devices[row as usize].switched(place, active, self.now);
             self.answered(row, answer);
         }
-        if active && switch.is_on_playfield && self.ledger.on_their_way[self.plan.rows.len()] > 0 {
-            self.confirm(self.plan.rows.len());
+        if active && switch.is_on_playfield && self.ledger.on_their_way[plan.rows.len()] > 0 {
+            self.confirm(plan.rows.len());
         }
         self.post(MACHINE, &switch.posts[usize::from(active)]);
     }
@@ -137,7 +169,7 @@ impl<W: Write> Run<'_, W> {
         let is_sent = self.coils[coil as usize].take(command, owner, self.now);
         let output = &mut self.output;
         output.begin(owner);
-        output.push(if is_sent { b"coil " } else { b"skip " });
+        output.push(if is_sent { b" coil " } else { b" skip " });
         output.push(self.plan.coil_names.names[coil as usize].as_bytes());
         match command {
             Command::Pulse { ms, power } => {
@@ -160,7 +192,7 @@ impl<W: Write> Run<'_, W> {
 }
 
 /// Devices and balls.
-impl<W: Write> Run<'_, W> {
+impl<'p, W: Write> Run<'p, W> {
     /// A source was due, and this is the moment.
     pub fn fire(&mut self, source: Source) {
         let switches = self.plan.switches.len() as u16;
@@ -182,13 +214,14 @@ impl<W: Write> Run<'_, W> {
     }
 
     fn run_list(&mut self, row: u16, list: u16) {
-        let of = &self.plan.rows[row as usize];
-        for &action in &of.lists[list as usize] {
+        let plan = self.plan;
+        let of = &plan.rows[row as usize];
+        for action in &of.lists[list as usize] {
             match action {
-                Action::Post(event) => self.waiting.push_back((of.owner, event)),
-                Action::Drive(coil, command) => self.drive(of.owner, coil, command),
+                Action::Post(event) => self.post(of.owner, slice::from_ref(event)),
+                Action::Drive(coil, command) => self.drive(of.owner, *coil, *command),
                 Action::Enter(event) => self.enter(row, event),
-                Action::Leave | Action::Lose | Action::Arrive => self.book(of.target, action),
+                Action::Leave | Action::Lose | Action::Arrive => self.book(of.target, *action),
             }
         }
     }
@@ -213,7 +246,7 @@ impl<W: Write> Run<'_, W> {
     fn write_balls(&mut self) {
         let Ledger { known, in_devices, playfield, .. } = self.ledger;
         self.output.begin(MACHINE);
-        self.output.push(b"balls");
+        self.output.push(b" balls");
         for number in [known, in_devices, known - in_devices - playfield, playfield] {
             self.output.push_number(number);
         }
@@ -221,7 +254,7 @@ impl<W: Write> Run<'_, W> {
     }
 
     /// A ball enters a device, which posts an event.
-    fn enter(&mut self, row: u16, event: Event) {
+    fn enter(&mut self, row: u16, event: &'p Event) {
         let Ledger { known, in_devices, on_their_way, playfield } = &mut self.ledger;
         let awaited = &mut on_their_way[row as usize];
         let is_awaited = *awaited > 0;
@@ -232,11 +265,11 @@ impl<W: Write> Run<'_, W> {
         }
         *in_devices += 1;
         self.write_balls();
-        self.post(MACHINE, &[event]);
+        self.post(MACHINE, slice::from_ref(event));
         if is_awaited {
             self.confirm(row as usize);
         } else if self.game.phase == Phase::Ball && self.plan.rows[row as usize].drains {
-            self.post(MACHINE, &[self.plan.game[game::DRAIN]]);
+            self.post(MACHINE, slice::from_ref(&self.plan.game[game::DRAIN]));
         }
     }
 
@@ -260,24 +293,31 @@ impl<W: Write> Run<'_, W> {
 }
 
 /// Events.
-impl<W: Write> Run<'_, W> {
+impl<'p, W: Write> Run<'p, W> {
     /// Takes events until none waits.
     pub fn settle(&mut self) {
-        while let Some((owner, event)) = self.waiting.pop_front() {
-            self.output.begin(owner);
-            self.output.push(b"event ");
-            self.output.push(self.plan.event_names.names[event as usize].as_bytes());
-            self.output.end();
-            let step = self.plan.steps[event as usize];
-            if let Step::Mode(mode, STARTED) = step {
-                self.begin_mode(mode);
+        while let Some((owner, events)) = self.waiting.pop_front() {
+            for &event in events {
+                self.output.line(owner, &self.texts.events[event as usize]);
+                if !self.is_idle[event as usize] {
+                    self.work(event);
+                }
             }
-            self.handle(event);
-            match step {
-                Step::Mode(mode, place) => self.mode_work(mode, place),
-                Step::Game(place) => self.game_work(place),
-                Step::None => (),
-            }
+        }
+    }
+
+    /// Runs the handlers of an event, and what the machine itself does then.
+    #[inline(always)]
+    fn work(&mut self, event: Event) {
+        let step = self.plan.steps[event as usize];
+        if let Step::Mode(mode, STARTED) = step {
+            self.begin_mode(mode);
+        }
+        self.handle(event);
+        match step {
+            Step::Mode(mode, place) => self.mode_work(mode, place),
+            Step::Game(place) => self.game_work(place),
+            Step::None => (),
         }
     }
 
@@ -291,7 +331,8 @@ impl<W: Write> Run<'_, W> {
         }
     }
 
-    fn run_handler(&mut self, owner: Owner, handler: &Handler) {
+    #[inline(always)]
+    fn run_handler(&mut self, owner: Owner, handler: &'p Handler) {
         if handler.condition.as_ref().is_some_and(|condition| !self.game.meets(condition)) {
             return;
         }
@@ -305,25 +346,25 @@ impl<W: Write> Run<'_, W> {
         }
     }
 
-    fn change_variables(&mut self, owner: Owner, changes: &[Change]) {
+    fn change_variables(&mut self, owner: Owner, changes: &'p [Change]) {
         let current = self.game.current as i64;
         let Some(values) = self.game.values() else { return };
         for change in changes {
             let Some(value) = change.apply(values) else { continue };
             self.output.begin(owner);
-            self.output.push(b"player");
+            self.output.push(b" player");
             self.output.push_number(current);
             self.output.push(b" ");
-            self.output.push(self.plan.variables.names[change.variable as usize].as_bytes());
+            self.output.put(&self.texts.variables[change.variable as usize]);
             self.output.push_number(value);
             self.output.end();
-            self.waiting.push_back((owner, change.event));
+            self.waiting.push_back((owner, slice::from_ref(&change.event)));
         }
     }
 }
 
 /// Modes and games.
-impl<W: Write> Run<'_, W> {
+impl<'p, W: Write> Run<'p, W> {
     fn start_mode(&mut self, mode: Owner) {
         let may_start = self.game.phase != Phase::None || !self.plan.mode(mode).needs_game;
         let life = &mut self.lives[mode as usize];
@@ -365,8 +406,9 @@ impl<W: Write> Run<'_, W> {
             STOPPING => self.end_mode(mode),
             _ => (),
         }
-        let next = self.plan.mode(mode).events.get(place + 1);
-        self.waiting.extend(next.map(|&event| (MACHINE, event)));
+        if let Some(next) = self.plan.mode(mode).events.get(place + 1) {
+            self.post(MACHINE, slice::from_ref(next));
+        }
     }
 
     /// Its devices stop, and the coils that it holds go off.
@@ -398,7 +440,7 @@ impl<W: Write> Run<'_, W> {
     fn write_scores(&mut self) {
         for (number, values) in (1..).zip(&self.game.players) {
             self.output.begin(MACHINE);
-            self.output.push(b"final");
+            self.output.push(b" final");
             self.output.push_number(number);
             self.output.push_number(values[game::SCORE]);
             self.output.end();
