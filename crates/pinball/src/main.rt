@@ -147,9 +147,7 @@ fn play_log<L: Read, W: Write>(
     let board = MemoryBoard::new(alloc)?;
     let mut devices = Vec::new(alloc);
     for row in checked.plan().rows() {
-        if let Some(device) = device_of(row) {
-            devices.push(device)?;
-        }
+        devices.extend(device_of(row))?;
     }
     play_text(alloc, checked, devices, board, log, writer)
 }

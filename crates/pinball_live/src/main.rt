@@ -70,9 +70,7 @@ fn serve<R: Input + Print + AllocGlobal>(
 fn run<R: Input + Print + AllocGlobal>(rt: &R, checked: &Checked) -> Result<Verdict, ShellFault> {
     let mut devices = Vec::new(rt.alloc());
     for row in checked.plan().rows() {
-        if let Some(device) = device_of(row) {
-            devices.push(device)?;
-        }
+        devices.extend(device_of(row))?;
     }
     let link = LineLink::new(rt.alloc(), rt.reader(), io::writer(rt))?;
     let wire = BufWriter::with_capacity(rt.alloc(), ANSWER_ROOM, LinkWriter { link });
