@@ -8,7 +8,8 @@ use device_objects::autofire::FIRE_LIST;
 use device_objects::outcome::one_list;
 use device_objects::{AutofireState, Device, DeviceState, Outcome, World};
 use plan_tables::{Act, DeviceRow, Settings};
-use std::{cell::Cell, rc::Rc};
+use std::cell::Cell;
+use std::rc::Rc;
 
 /// An autofire coil that does what `coil_rules::Autofire` does, and counts how often it fires. So one
 /// knows when its coil is worn out.

@@ -15,7 +15,10 @@ use pin_rig::{Input, Refusal, Rig, ShutReport, StepFault};
 use pinball_shell::load_bundle;
 use plan_tables::Plan;
 use row_devices::device_of;
-use std::{alloc::Global, cell::Cell, env, io, rc::Rc};
+use std::alloc::Global;
+use std::cell::Cell;
+use std::rc::Rc;
+use std::{env, io};
 use wire_board::WireBoard;
 
 /// A change of a switch: its moment in milliseconds, the switch, and whether it becomes active.
