@@ -2,7 +2,8 @@
 
 A fault is `FILE:LINE: KIND NAME`, or `FILE: wide N lines`:
 
-  twice       a public function or constant of src/ that two crates declare, crates of tests apart
+  twice       a public function or constant of src/ that two crates declare, crates of tests apart. Definitions are not
+              looked at: specs/ is imported by its files, so two crates may each have a definition of one name
   alike       a type that another crate has too, and a type whose name is that of a type of another crate but for a
               plural or the case of letters, public or not, in src/ or specs/. Facts, such as `IsKept`, are left out
   inside      a file of definitions that is called Inside
@@ -57,7 +58,8 @@ IRREGULAR = frozenset(
     "become been begun born borne bought bought broken brought built caught chosen come done drawn driven fallen felt "
     "forgotten found given gone got grown heard held hidden hung kept known laid led left lent lost made meant met "
     "paid risen said seen sent shown shut slept sold sought spent spoken stolen stood struck sung sunk swept taken "
-    "taught thought thrown told torn understood unseen woken won worn wound woven written".split()
+    "taught thought thrown told torn unbroken understood unfit unmet unseen untold woken won worn wound woven "
+    "written".split()
 )
 # Adjectives that are terms, and words in -ed that are no participles.
 TERMS = frozenset("deed embed enabled exceed feed indeed need proceed red seed signed speed unsigned".split())
@@ -122,7 +124,8 @@ def inside() -> Iterator[Fault]:
 
 
 def names_in(file: Path, text: str) -> Iterator[tuple[str, int]]:
-    """The names that a file declares, each with a place in its text. Constructors and variants are not among them."""
+    """The names that a file declares, each with a place in its text. Variants are not among them, nor are constructors
+    that begin with a capital letter."""
     for it in (IN_CODE if file.suffix == ".rt" else IN_SPECS).finditer(text):
         for kind, words in it.groupdict().items():
             pattern = r"\w+$" if kind == "one" else r"\b[a-z]\w*"
