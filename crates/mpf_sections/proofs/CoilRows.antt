@@ -58,19 +58,19 @@ unfolding rule_by
 rule_named form e h = record {
   name = h.name;
   coil = needed_named e form.coil h;
-  hold_coil = hold form.hold_coil;
-  switch = switch form.switch;
+  hold_coil = optional form.hold_coil;
+  switch = needed form.switch;
   enables = events_named (slice_get e.values form.enables) (value_at_named e.values form.enables h.values);
   disables = events_named (slice_get e.values form.disables) (value_at_named e.values form.disables h.values);
 }
   where
-    hold : (place : Option ℕ) → IfSome (name_at place e) (λ w. IsName w.text)
-    hold None = tt
-    hold (Some place) = some_named (name_in (text_of (slice_get e.values place))) (written_named e place h)
+    optional : (place : Option ℕ) → IfSome (name_at place e) (λ w. IsName w.text)
+    optional None = tt
+    optional (Some place) = some_named (name_in (text_of (slice_get e.values place))) (written_named e place h)
 
-    switch : (place : Option ℕ) → IfSome (switch_at place e) (λ w. IsName w.text)
-    switch None = tt
-    switch (Some place) = needed_named e place h
+    needed : (place : Option ℕ) → IfSome (switch_at place e) (λ w. IsName w.text)
+    needed None = tt
+    needed (Some place) = needed_named e place h
 
 -- And those in an entry that is a coil rule, whichever it is.
 pub coil_rule_named : (section : List ℕ) (e : Entry) → IsNamedEntry e → IfSome (coil_rule_of section e) IsNamedCoilRule

@@ -1,11 +1,11 @@
 -- Coil rules: entries that do something with a coil, as flippers and autofire coils do, by the names of their settings.
 -- Here each kind of coil rule has a line in the list of their sections, and the places of its settings.
-use Rattle.std.specs.Prelude.{◌≡◌, ℕ, List, [], ◌∷◌, map, Option, None, Some, option_map, slice_get, codes, IfSome}
+use Rattle.std.specs.Prelude.{◌≡◌, ℕ, List, [], ◌∷◌, map, Option, None, Some, option_map, option_and_then, slice_get}
+use Rattle.std.specs.Prelude.{codes, IfSome}
 use Rattle.section_tables.specs.{Rows.Entry, View.entry_view}
 use Rattle.section_tables.specs.declared.rows.Entry as entry_rows
 use Rattle.mpf_tables.specs.SectionTables as tables
-use Rattle.mpf_tables.specs.SectionTables.{named_in}
-pub use Rattle.mpf_tables.specs.SectionTables.{flippers_name, autofire_coils_name}
+use Rattle.mpf_tables.specs.SectionTables.{named_in, flippers_name, autofire_coils_name}
 use Rattle.mpf_sections.specs.declared.coil_rules.{RuleForm.RuleForm, RuleKind.TheVariants.{Flipper, Autofire}}
 use Rattle.mpf_sections.specs.declared.coil_rules.CoilRule as typed_coil_rules
 use Rattle.mpf_sections.specs.Rows.{WrittenName, HandledEvent, SectionRows}
@@ -66,7 +66,7 @@ name_at (Some place) e = name_in (text_of (slice_get e.values place))
 
 -- a name that has to be written if there is a place for it
 abbrev pub switch_at : Option ℕ → Entry → Option WrittenName
-switch_at place e = option_map (λ at. needed_at at e) place
+switch_at place e = option_map (λ p. needed_at p e) place
 
 -- the coil rule of an entry of this form
 unfoldable pub rule_by : RuleForm → Entry → CoilRule

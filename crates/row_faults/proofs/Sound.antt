@@ -27,7 +27,7 @@ use Rattle.row_faults.specs.ShotFaults.{profile_faults, shot_faults, ListedShot,
 use Rattle.row_faults.specs.ShotFaults.{listed_by, listed_in, listed_of, is_own_shot, are_of_two_profiles, is_misplaced}
 use Rattle.row_faults.specs.ShotFaults.{taken_with, taken_after, kept_if, faulty_shots}
 use Rattle.row_faults.specs.Sound.{ChangesNothingBarred, IsHoldWithin, IsCoilSound, IsCoilSuch, IsItemSound}
-use Rattle.row_faults.specs.Sound.{IsCoilPlayerSound, IsCoilRuleSound, IsRuleSound, IsShotSound}
+use Rattle.row_faults.specs.Sound.{IsCoilPlayerSound, IsCoilRuleSound, IsShotSound}
 use Rattle.row_faults.specs.Sound.{IsShotGroupSound, IsBallDeviceSound, IsSectionSound, IsSound}
 use Rattle.row_faults.proofs.None.{fault_if-none, map-none, append-none, flat_map-none, filter-none, ordered-none}
 use Rattle.row_faults.proofs.{None.once-none, AsWritten.{order-none, written-none}}
@@ -105,7 +105,7 @@ module _ (machine : List SectionRows) (all : All IsCoilSound (flat_map coils_in 
         switch = named_switch-sound machine text r.switch (none 2 (0, []) (omega arith));
       }
 
-  rule-sound : (o : Option CoilRule) → rule_faults machine text o ≡ [] → IsRuleSound machine o
+  rule-sound : (o : Option CoilRule) → rule_faults machine text o ≡ [] → IfSome o (IsCoilRuleSound machine)
   rule-sound None e = tt
   rule-sound (Some r) e = coil_rule-sound r e
 

@@ -59,10 +59,6 @@ pub record IsCoilRuleSound (machine : List SectionRows) (r : CoilRule) : Type 0 
   pub hold_coil : IfSome r.hold_coil (λ w. IsCoilSuch machine w.text (λ c. IsHoldWithin c c.hold_power))
   pub switch : IfSome r.switch (λ w. has_switch machine w.text ≡ true)
 
--- so it is with an entry that may be one
-abbrev pub IsRuleSound : List SectionRows → Option CoilRule → Type 0
-IsRuleSound machine rule = IfSome rule (IsCoilRuleSound machine)
-
 -- the switch of a shot is defined, if it has one, and so is its profile
 pub record IsShotSound (rows : Rows) (s : Shot) : Type 0 where
   pub switch : IfSome s.switch (λ w. has_switch rows.machine w.text ≡ true)
@@ -82,7 +78,7 @@ pub record IsBallDeviceSound (machine : List SectionRows) (d : BallDeviceEntry) 
 pub record IsSectionSound (rows : Rows) (s : SectionRows) : Type 0 where
   pub coils : All IsCoilSound (coils_in s)
   pub coil_players : All (IsCoilPlayerSound rows.machine) (coil_players_in s)
-  pub rules : All (λ e. IsRuleSound rows.machine (coil_rule_of s.name e)) (entries_in s.content)
+  pub rules : All (λ e. IfSome (coil_rule_of s.name e) (IsCoilRuleSound rows.machine)) (entries_in s.content)
   pub shots : All (IsShotSound rows) (shots_in s)
   pub groups : All (IsShotGroupSound rows) (shot_groups_in s)
   pub ball_devices : All (IsBallDeviceSound rows.machine) (ball_devices_in s)
