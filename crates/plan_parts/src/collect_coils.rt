@@ -148,7 +148,8 @@ pub(crate) fn collect_coil_rule<'a>(
 ) -> Result<(), AllocError>
     ensures { OnOk result (AddsDevice parts.old parts.new (coil_rule_in definitions.now.machine row.entry)) }
 {
-    parts.head = RowHead::Device(settings_of_rule(row.form.kind));
+    let settings = settings_of_rule(row.form.kind);
+    parts.head = RowHead::Device(settings);
     listen_to(&mut parts.listens, row.switch)?;
     collect_acts(&mut parts.event_acts, Act::Enable, row.enables)?;
     collect_acts(&mut parts.event_acts, Act::Disable, row.disables)?;

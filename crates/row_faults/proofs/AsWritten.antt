@@ -15,8 +15,8 @@ pub order-none : {X : Type 0} (order : List ℕ) (parts : List (ℕ × List X)) 
 unfolding in_order
 order-none {X = X} order parts e =
     let before : ℕ × List X → ℕ = λ part. written_before order part.0 in
-    ordered-all before (λ part. part.1 ≡ []) parts
-    (flat_map-none (λ (part : ℕ × List X). part.1) (ordered_by before parts) e)
+    let none : ℕ × List X → Type 0 = λ part. part.1 ≡ [] in
+    ordered-all before none parts (flat_map-none (λ (part : ℕ × List X). part.1) (ordered_by before parts) e)
 
 -- what is of each item of what settings have is of all that each has
 module _ {X : Type 0} (table : List Setting) (order : List ℕ) (parts : List (List ℕ × List X)) where
@@ -27,7 +27,9 @@ module _ {X : Type 0} (table : List Setting) (order : List ℕ) (parts : List (L
   before part = written_before order part.0
 
   pub written-none : as_written table order parts ≡ [] → All (λ part. part.1 ≡ []) parts
-  written-none e = All-from_map (λ part. part.1 ≡ []) placed parts (order-none order (map placed parts) e)
+  written-none e =
+      let none : ℕ × List X → Type 0 = λ part. part.1 ≡ [] in
+      All-from_map none placed parts (order-none order (map placed parts) e)
 
   pub written-all : (P : X → Type 0) → All P (as_written table order parts) → All (λ part. All P part.1) parts
   unfolding in_order

@@ -14,7 +14,7 @@ returns c =
     let disables = acts Disable row.disables in
     on_ok_weaker c.collect_lists.result
     (λ doing. record {
-      head = ap heads.Device c.settings_of_rule.ensures;
+      head = ap heads.Device c.settings_of_rule-settings.ensures;
       of = refl;
       known = refl;
       mentions = refl;
