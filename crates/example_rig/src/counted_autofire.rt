@@ -4,14 +4,12 @@ ghost use Rattle.std.specs.Prelude.{◌≡◌, ◌≢◌, ◌↔◌, ◌+◌, �
 ghost use Rattle.device_objects.specs.Autofire.{act_step};
 ghost use Rattle.plan_tables.specs.declared.devices.Settings.TheVariants as kinds;
 
+use device_objects::autofire::FIRE_LIST;
 use device_objects::outcome::one_list;
 use device_objects::{AutofireState, Device, DeviceState, Outcome, World};
 use plan_tables::{Act, DeviceRow, Settings};
 use std::cell::Cell;
 use std::rc::Rc;
-
-/// The list of an autofire coil that fires.
-const FIRES: u16 = 0;
 
 /// An autofire coil that does what `coil_rules::Autofire` does, and counts how often it fires. So one
 /// knows when its coil is worn out.
@@ -94,7 +92,7 @@ fn step(state: &mut AutofireState, act: Act) -> Outcome
     match act {
         Act::Enable => state.enabled = true,
         Act::Disable => state.enabled = false,
-        Act::SwitchOn(0) if state.enabled => return one_list(FIRES),
+        Act::SwitchOn(0) if state.enabled => return one_list(FIRE_LIST),
         _ => {}
     }
     Outcome::new()
@@ -105,9 +103,5 @@ fn count_after(before: u64, outcome: &Outcome) -> u64
     ensures none { outcome.now.items ≡ [] → result ≡ before }
     ensures one { outcome.now.items ≢ [] → result ≡ min (before + 1) (2 ^ 64 - 1) }
 {
-    if outcome.is_empty() {
-        before
-    } else {
-        before.saturating_add(1)
-    }
+    before.saturating_add(u64::from(!outcome.is_empty()))
 }

@@ -1,7 +1,6 @@
 //! A board at the other end of a wire.
 
-ghost use Rattle.std.specs.Prelude.{◌≡◌, ◌↔◌, [], Some, Ok, OnOk, IsErr, is_ok, option_map};
-ghost use Rattle.std.specs.Io.KnownBytes.{Appends};
+ghost use Rattle.std.specs.{Prelude.{◌≡◌, ◌↔◌, [], Some, Ok, OnOk, IsErr, is_ok, option_map}, Io.KnownBytes.Appends};
 ghost use Rattle.coil_guard.specs.Boards.{IsToldAfter};
 ghost use Rattle.example_rig.specs.Wire.{frame_of, told_of};
 
@@ -41,10 +40,7 @@ impl<W: Write + Drop> WireBoard<W> {
     pub fn commands(&self) -> Option<&[Command]>
         ensures { option_map (λ commands. commands.now) result ≡ told_of self.now.commands }
     {
-        match &self.commands {
-            Some(commands) => Some(commands.as_slice()),
-            None => None,
-        }
+        self.commands.as_ref().map(|commands| commands.as_slice())
     }
 }
 

@@ -10,7 +10,7 @@ use Rattle.mpf_sections.specs.{Rows.SectionRows, Typed.mode_settings, TypedBalls
 use Rattle.mpf_sections.specs.TypedShots.{shots_name, shot_groups_name, shot_of, shot_group_of}
 use Rattle.mpf_config.specs.{Rows.{ModeRows, Rows}, FewModes.AreFewModes}
 use Rattle.plan_rows.specs.{declared.destination.Destination.Destination, Rows.rows_of}
-use Rattle.plan_rows.specs.declared.place.Place.{Place, TheVariants.{Machine, Control, Mode}}
+use Rattle.mpf_tables.specs.declared.tables.TextKind.{TextKind, TheVariants.{Machine, Mode}}
 use Rattle.plan_rows.specs.Seats.{Seat, seat_of, destination_of, rows_after_text}
 use Rattle.plan_rows.specs.Rows.{Row, entry, alone, shot, group, ball_device, player, of_mode, shot_row, group_row}
 use Rattle.plan_rows.specs.Rows.{ball_device_row, other_row, entry_row, rows_from, rows_in, text_rows, modes_rows}
@@ -30,14 +30,13 @@ all_flat : {X Y : Type 0} (P : Y → Type 0) (f : X → List Y) → ((x : X) →
 all_flat P f each [] = All-nil P
 all_flat P f each (x ∷ xs) = All-append P (f x) (flat_map f xs) (each x) (all_flat P f each xs)
 
-module _ (rows : Rows) (place : Place) (seat : List ℕ → Option Seat) (to : List ℕ → Destination) where
-  other_in : (place : Place) (section : List ℕ) (e : Entry) → IsInText (other_row to place section e)
+module _ (rows : Rows) (place : TextKind) (seat : List ℕ → Option Seat) (to : List ℕ → Destination) where
+  other_in : (place : TextKind) (section : List ℕ) (e : Entry) → IsInText (other_row to place section e)
   other_in Machine section e = by (bytes_eq section ball_devices_name)
     where
       by : (b : Bool) → IsInText (if b then ball_device_row to (ball_device_of e) else entry Machine section e)
       by true = tt
       by false = tt
-  other_in Control section e = tt
   other_in Mode section e = tt
 
   entry_in : (section : List ℕ) (e : Entry) → IsInText (entry_row rows place seat to section e)
@@ -55,7 +54,7 @@ module _ (rows : Rows) (place : Place) (seat : List ℕ → Option Seat) (to : L
   content_in section (single e) = All-cons IsInText (alone place section e) [] tt (All-nil IsInText)
   content_in section (name_list ws) = All-nil IsInText
 
-pub text_in : (rows : Rows) (place : Place) (n : ℕ) (sections : List SectionRows)
+pub text_in : (rows : Rows) (place : TextKind) (n : ℕ) (sections : List SectionRows)
     → All IsInText (text_rows rows place n sections)
 text_in rows place n sections =
     let seat = seat_of place n sections in

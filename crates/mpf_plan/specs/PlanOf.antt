@@ -6,7 +6,7 @@
 -- 3. The parts give the tables: `plan_by`. Modes, bindings, rows and effect lists are each one concatenation of what
 --    the parts give. Events and variables are names alone. What a switch or a coil is, the part of its name says; what
 --    the game is, the part that is the game. The number of a row, and of an effect list, is how many of them come
---    before it: `placed`.
+--    before it: `part_places`.
 use Rattle.std.specs.Prelude.{◌≡◌, ℕ, ◌+◌, ◌==◌, ◌||◌, Bool, true, false, if◌then◌else◌, cond, List, [], ◌∷◌, ◌++◌}
 use Rattle.std.specs.Prelude.{Option, None, Some, Result, Ok, Err, map, filter, length, option_map, slice_index_or}
 use Rattle.std.specs.{Prelude.unwrap_or, List.{flat_map, list_any, last_or, range_with_len}, Str.bytes_eq}

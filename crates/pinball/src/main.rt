@@ -10,7 +10,7 @@ use pinball_shell::{
     BUNDLE_LIMIT, Failure, ShellFault, Verdict, check_bundle, load_bundle, play_text, read_all,
     status, verify_bundle,
 };
-use row_devices::devices_of;
+use row_devices::device_of;
 use std::alloc::Global;
 use std::fs;
 use std::io::{self, BufWriter, Read, Write};
@@ -145,7 +145,10 @@ fn play_log<L: Read, W: Write>(
     writer: &mut W,
 ) -> Result<Verdict, ShellFault> {
     let board = MemoryBoard::new(alloc)?;
-    let devices = devices_of(alloc, checked.plan().rows())?;
+    let mut devices = Vec::new(alloc);
+    for row in checked.plan().rows() {
+        devices.extend(device_of(row))?;
+    }
     play_text(alloc, checked, devices, board, log, writer)
 }
 

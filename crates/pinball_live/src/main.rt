@@ -7,7 +7,7 @@ use config_checker::Checked;
 use live_machine::{LineLink, LinkWriter, admits, run_live, tell_work};
 use machine_folder::{Disk, folder_bundle};
 use pinball_shell::{Failure, ShellFault, Verdict, load_bundle, status};
-use row_devices::devices_of;
+use row_devices::device_of;
 use std::io::{self, BufWriter};
 use std::process::ExitCode;
 use std::rt::{Env, Files};
@@ -48,7 +48,7 @@ fn answer<R: Files + Input + Print + AllocGlobal>(
     }
 }
 
-/// Tells the work bound, or runs the machine.
+/// Tells the work bound, or runs the machine unless this bound is too much.
 fn serve<R: Input + Print + AllocGlobal>(
     rt: &R,
     ask: &LiveAsk,
@@ -56,23 +56,25 @@ fn serve<R: Input + Print + AllocGlobal>(
 ) -> Result<Verdict, ShellFault> {
     match ask {
         LiveAsk::Work { .. } => tell_work(rt.alloc(), checked, &mut io::writer(rt)),
-        LiveAsk::Run { any_work, .. } => run(rt, checked, *any_work),
+        LiveAsk::Run { any_work, .. } => {
+            if *any_work || admits(rt.alloc(), checked, &mut io::writer(rt))? {
+                run(rt, checked)
+            } else {
+                Ok(Verdict::Refused)
+            }
+        }
     }
 }
 
-/// Runs the machine of a plan, unless its work bound is too much. Its board is in memory.
-fn run<R: Input + Print + AllocGlobal>(
-    rt: &R,
-    checked: &Checked,
-    any_work: bool,
-) -> Result<Verdict, ShellFault> {
-    if !any_work && !admits(rt.alloc(), checked, &mut io::writer(rt))? {
-        return Ok(Verdict::Refused);
+/// Runs the machine of a plan, with a device for each row. Its board is in memory.
+fn run<R: Input + Print + AllocGlobal>(rt: &R, checked: &Checked) -> Result<Verdict, ShellFault> {
+    let mut devices = Vec::new(rt.alloc());
+    for row in checked.plan().rows() {
+        devices.extend(device_of(row))?;
     }
     let link = LineLink::new(rt.alloc(), rt.reader(), io::writer(rt))?;
     let wire = BufWriter::with_capacity(rt.alloc(), ANSWER_ROOM, LinkWriter { link });
     let mut wire = wire.map_err(|_| ShellFault::NoMemory)?;
     let board = MemoryBoard::new(rt.alloc())?;
-    let devices = devices_of(rt.alloc(), checked.plan().rows())?;
     run_live(rt.alloc(), checked, devices, board, &mut wire)
 }

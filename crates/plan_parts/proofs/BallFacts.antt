@@ -16,7 +16,7 @@ use Rattle.machine_definitions.specs.Shots.{Profile, has_profile, profile_of_nam
 use Rattle.plan_tables.specs.declared.{devices.Settings.Settings, entries.ModeId.ModeId}
 use Rattle.plan_tables.specs.{BallRows.IsNoBallDevice, declared.table.Table.TheVariants.Switches}
 use Rattle.plan_tables.specs.declared.devices.Settings.TheVariants as kinds
-use Rattle.plan_rows.specs.declared.place.Place.{Place, TheVariants.{Machine, Control, Mode}}
+use Rattle.mpf_tables.specs.declared.tables.TextKind.{TextKind, TheVariants.{Machine, Mode}}
 use Rattle.plan_rows.specs.declared.destination.Destination.{Destination}
 use Rattle.plan_rows.specs.{Members.members_of, Seats.{Seat, seat_of, destination_of}}
 use Rattle.plan_rows.specs.Rows.{entry, alone, player, shot_row, group_row, ball_device_row}
@@ -142,24 +142,21 @@ module _ (rows : Rows) (whose : Whose) where
       (in_rule whose (machine_device machine whose section e)
       (machine_rule (Unit {0}) ⊥ e (λ x. absurd x) machine whose section)))
 
-  in_entry : (place : Place) (section : List ℕ) (e : Entry) → Are (row_parts machine whose (entry place section e))
+  in_entry : (place : TextKind) (section : List ℕ) (e : Entry) → Are (row_parts machine whose (entry place section e))
   unfolding row_parts entry_parts
   in_entry Machine section e = in_machine_entry section e
-  in_entry Control section e = in_shared whose (device_of section e)
-      (device_shared (Unit {0}) ⊥ e (λ x. absurd x) section)
   in_entry Mode section e = in_shared whose (device_of section e) (device_shared (Unit {0}) ⊥ e (λ x. absurd x) section)
 
-  in_alone : (place : Place) (section : List ℕ) (e : Entry) → Are (row_parts machine whose (alone place section e))
+  in_alone : (place : TextKind) (section : List ℕ) (e : Entry) → Are (row_parts machine whose (alone place section e))
   unfolding row_parts alone_parts
   in_alone Machine section e = by (bytes_eq section game_name)
     where
       by : (b : Bool) → Are (where_true b (game_part machine whose (game_of e)))
       by true = one (game_part machine whose (game_of e)) tt
       by false = All-nil IsRight
-  in_alone Control section e = All-nil IsRight
   in_alone Mode section e = All-nil IsRight
 
-  in_player : (place : Place) (section : List ℕ) (p : PlayerEntry)
+  in_player : (place : TextKind) (section : List ℕ) (p : PlayerEntry)
       → Are (row_parts machine whose (player place section p))
   unfolding row_parts player_parts
   in_player place section p = by (bytes_eq section event_player_name) (bytes_eq section coil_player_name)
@@ -180,7 +177,7 @@ module _ (rows : Rows) (whose : Whose) where
           (run (map item_change (variable_player_of p).items))) tt
       by false false false = All-nil IsRight
 
-  in_shot : (place : Place) (seat : List ℕ → Option Seat) (s : Shot)
+  in_shot : (place : TextKind) (seat : List ℕ → Option Seat) (s : Shot)
       → Are (row_parts machine whose (shot_row rows place seat s))
   unfolding row_parts
   in_shot place seat s =
@@ -191,7 +188,7 @@ module _ (rows : Rows) (whose : Whose) where
       (All-append IsRight known named (in_unknown (has_profile rows s.profile.text)) (in_mention s.switch))
       (in_seated p s (seat s.name.text))
 
-  in_group : (place : Place) (seat : List ℕ → Option Seat) (e : Entry)
+  in_group : (place : TextKind) (seat : List ℕ → Option Seat) (e : Entry)
       → Are (row_parts machine whose (group_row rows place seat (shot_group_of e)))
   unfolding row_parts
   in_group place seat e =
@@ -209,7 +206,7 @@ module _ (rows : Rows) (whose : Whose) where
       (in_unknown (is_known target))
       (one (device whose (ball_device_from machine d target)) (right_ball_device machine d target))
 
-  in_text : (place : Place) (n : ℕ) (ss : List SectionRows) → Are (text_parts rows whose place n ss)
+  in_text : (place : TextKind) (n : ℕ) (ss : List SectionRows) → Are (text_parts rows whose place n ss)
   in_text place n ss =
       let any_entry : List ℕ → Entry → Type 0 = λ section e. Unit {0} in
       let any_player : List ℕ → PlayerEntry → Type 0 = λ section p. Unit {0} in

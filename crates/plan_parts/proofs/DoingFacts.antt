@@ -19,7 +19,7 @@ use Rattle.mpf_sections.specs.TypedShots.{shots_name, shot_groups_name, shot_of,
 use Rattle.mpf_config.specs.Rows.{ModeRows, Rows}
 use Rattle.machine_definitions.specs.Shots.{Profile, has_profile, profile_of_name}
 use Rattle.plan_tables.specs.declared.{entries.ModeId.ModeId, table.Table.TheVariants.Switches}
-use Rattle.plan_rows.specs.declared.place.Place.{Place, TheVariants.{Machine, Control, Mode}}
+use Rattle.mpf_tables.specs.declared.tables.TextKind.{TextKind, TheVariants.{Machine, Mode}}
 use Rattle.plan_rows.specs.declared.destination.Destination.{Destination}
 use Rattle.plan_rows.specs.{Members.members_of, Rows.{rows_in, rows_from, text_rows}}
 use Rattle.plan_rows.specs.declared.destination.Destination.TheVariants as destinations
@@ -179,7 +179,7 @@ module _ (P : Effect → Type 0) (S L : List ℕ → Type 0) where
     in_seated p s (Some seat) h = each (λ h. handler whose h.0 (act_on (record { 0 = seat.row }) h.1)) (λ h. tt)
         (shot_acts seat.shot s)
 
-    in_shot : (place : Place) (seat : List ℕ → Option Seat) (s : Shot) → IsShotDoing P S L rows s
+    in_shot : (place : TextKind) (seat : List ℕ → Option Seat) (s : Shot) → IsShotDoing P S L rows s
         → GivesDoing (shot_row rows place seat s)
     unfolding row_parts
     in_shot place seat s h =
@@ -191,7 +191,7 @@ module _ (P : Effect → Type 0) (S L : List ℕ → Type 0) where
         (in_shot_switch s.switch h.switch))
         (in_seated p s (seat s.name.text) h.lists)
 
-    in_group : (place : Place) (seat : List ℕ → Option Seat) (g : ShotGroup) → IsShotGroupDoing P S L rows g
+    in_group : (place : TextKind) (seat : List ℕ → Option Seat) (g : ShotGroup) → IsShotGroupDoing P S L rows g
         → GivesDoing (group_row rows place seat g)
     unfolding row_parts
     in_group place seat g h =
@@ -239,7 +239,7 @@ module _ (P : Effect → Type 0) (S L : List ℕ → Type 0) where
         by false false hs h = in_where whose (machine_device machine whose section e) h
             (machine_apart machine whose section e)
 
-    in_player : (place : Place) (section : List ℕ) (p : PlayerEntry)
+    in_player : (place : TextKind) (section : List ℕ) (p : PlayerEntry)
         → Where (bytes_eq section event_player_name) (IsPlayerDoing P S L (event_player_of p))
         → Where (bytes_eq section coil_player_name) (IsCoilPlayerDoing P S L rows (coil_player_of p))
         → Where (bytes_eq section variable_player_name) (IsVariablePlayerDoing P S L (variable_player_of p))
@@ -272,19 +272,18 @@ module _ (P : Effect → Type 0) (S L : List ℕ → Type 0) where
         by false false false he hc hv = All-nil D
 
     -- the game does nothing of its own
-    in_alone : (place : Place) (section : List ℕ) (e : Entry) → GivesDoing (alone place section e)
+    in_alone : (place : TextKind) (section : List ℕ) (e : Entry) → GivesDoing (alone place section e)
     unfolding row_parts alone_parts
     in_alone Machine section e = by (bytes_eq section game_name)
       where
         by : (b : Bool) → All D (where_true b (game_part machine whose (game_of e)))
         by true = one (game_part machine whose (game_of e)) tt
         by false = All-nil D
-    in_alone Control section e = All-nil D
     in_alone Mode section e = All-nil D
 
     -- ---- sections
 
-    in_players : (place : Place) (s : SectionRows) (ps : List PlayerEntry)
+    in_players : (place : TextKind) (s : SectionRows) (ps : List PlayerEntry)
         → All (IsPlayerDoing P S L) (map event_player_of (if bytes_eq s.name event_player_name then ps else []))
         → All (IsCoilPlayerDoing P S L rows) (map coil_player_of (if bytes_eq s.name coil_player_name then ps else []))
         → All (IsVariablePlayerDoing P S L)
@@ -301,13 +300,13 @@ module _ (P : Effect → Type 0) (S L : List ℕ → Type 0) where
         (changing i d within))
 
     -- if an entry is a ball device of the machine text, it does so, and ejects its balls to what there is
-    abbrev IsBallEntryDoing : (List ℕ → Destination) → Place → List ℕ → Entry → Type 0
+    abbrev IsBallEntryDoing : (List ℕ → Destination) → TextKind → List ℕ → Entry → Type 0
     IsBallEntryDoing to place section e =
         place ≡ Machine → bytes_eq section ball_devices_name ≡ true
         → IsBallDeviceDoing P S L rows (ball_device_of e) × (is_known (to (ball_device_of e).target.text) ≡ true)
 
     -- an entry of a section, whether it is a shot, a group, a ball device, or none of these
-    in_entry_row : (place : Place) (seat : List ℕ → Option Seat) (to : List ℕ → Destination) (section : List ℕ)
+    in_entry_row : (place : TextKind) (seat : List ℕ → Option Seat) (to : List ℕ → Destination) (section : List ℕ)
         (e : Entry)
         → Where (bytes_eq section shots_name) (IsShotDoing P S L rows (shot_of e))
         → Where (bytes_eq section shot_groups_name) (IsShotGroupDoing P S L rows (shot_group_of e))
@@ -322,7 +321,7 @@ module _ (P : Effect → Type 0) (S L : List ℕ → Type 0) where
             → GivesDoing (if b then ball_device_row to (ball_device_of e) else entry Machine section e)
         in_machine x1 ball h = search (rules, in_ball_device)
 
-        in_other : (place : Place) → IsBallEntryDoing to place section e → GivesDoing (entry place section e)
+        in_other : (place : TextKind) → IsBallEntryDoing to place section e → GivesDoing (entry place section e)
             → GivesDoing (other_row to place section e)
         in_other x1 ball h = search (rules, in_machine)
 
@@ -335,7 +334,7 @@ module _ (P : Effect → Type 0) (S L : List ℕ → Type 0) where
         by false true hs hg ball h = in_group place seat (shot_group_of e) hg
         by false false hs hg ball h = in_other place ball h
 
-    in_entries : (place : Place) (seat : List ℕ → Option Seat) (to : List ℕ → Destination) (s : SectionRows)
+    in_entries : (place : TextKind) (seat : List ℕ → Option Seat) (to : List ℕ → Destination) (s : SectionRows)
         (es : List Entry)
         → All (IsShotDoing P S L rows) (map shot_of (if bytes_eq s.name shots_name then es else []))
         → All (IsShotGroupDoing P S L rows) (map shot_group_of (if bytes_eq s.name shot_groups_name then es else []))
@@ -397,7 +396,7 @@ module _ (P : Effect → Type 0) (S L : List ℕ → Type 0) where
     -- ---- texts
 
     -- of all parts of a text, if each section meets C, and so do its rows
-    in_text : (place : Place) (n : ℕ) (ss : List SectionRows) (C : SectionRows → Type 0)
+    in_text : (place : TextKind) (n : ℕ) (ss : List SectionRows) (C : SectionRows → Type 0)
         → ((s : SectionRows) → C s → All GivesDoing
         (rows_from rows place (seat_of place n ss) (destination_of place n ss) s.name s.content))
         → All C ss → All D (text_parts rows whose place n ss)

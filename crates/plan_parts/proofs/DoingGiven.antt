@@ -14,7 +14,7 @@ use Rattle.mpf_sections.specs.TypedGame.{variable_player_name, game_name, variab
 use Rattle.mpf_config.specs.Rows.{ModeRows, Rows}
 use Rattle.machine_definitions.specs.Shots.{Profile, has_profile, profile_of_name}
 use Rattle.plan_tables.specs.declared.{entries.ModeId.ModeId, table.Table.{Table, TheVariants.Switches}}
-use Rattle.plan_rows.specs.declared.place.Place.{Place, TheVariants.{Machine, Control, Mode}}
+use Rattle.mpf_tables.specs.declared.tables.TextKind.{TextKind, TheVariants.{Machine, Mode}}
 use Rattle.plan_rows.specs.{declared.destination.Destination.Destination, Members.members_of}
 use Rattle.plan_rows.specs.Seats.{Seat, seat_of, destination_of, rows_after_text}
 use Rattle.plan_rows.specs.Rows.{Row, entry, alone, player, entry_row, rows_from, rows_in}
@@ -113,7 +113,7 @@ module _ {X : Type 0} (tell : Part → List X) (quiet : IsQuiet tell) where
         each (λ h. handler whose h.0 (act_on (record { 0 = seat.row }) h.1))
         (λ h. quiet.handlers whose h.0 (act_on (record { 0 = seat.row }) h.1)) (shot_acts seat.shot s)
 
-    silent_entry_row : (place : Place) (seat : List ℕ → Option Seat) (to : List ℕ → Destination) (section : List ℕ)
+    silent_entry_row : (place : TextKind) (seat : List ℕ → Option Seat) (to : List ℕ → Destination) (section : List ℕ)
         (e : Entry)
         → IsSilentRow (entry place section e) → IsSilentRow (entry_row rows place seat to section e)
     unfolding row_parts
@@ -136,7 +136,7 @@ module _ {X : Type 0} (tell : Part → List X) (quiet : IsQuiet tell) where
         (silent_unknown (is_known (to d.target.text))) (one (device whose ball) (quiet.devices whose ball)))
         other
 
-    silent_player : (place : Place) (section : List ℕ) (p : PlayerEntry) → IsSilentRow (player place section p)
+    silent_player : (place : TextKind) (section : List ℕ) (p : PlayerEntry) → IsSilentRow (player place section p)
     unfolding row_parts player_parts
     silent_player place section p =
         let event = event_player_of p in
@@ -156,14 +156,13 @@ module _ {X : Type 0} (tell : Part → List X) (quiet : IsQuiet tell) where
         (when (bytes_eq section variable_player_name) (handler whose changes.event.event changed ∷ []) []
         (one (handler whose changes.event.event changed) (quiet.handlers whose changes.event.event changed)) refl))
 
-    silent_alone : (place : Place) (section : List ℕ) (e : Entry) → IsSilentRow (alone place section e)
+    silent_alone : (place : TextKind) (section : List ℕ) (e : Entry) → IsSilentRow (alone place section e)
     unfolding row_parts alone_parts
     silent_alone Machine section e = by (bytes_eq section game_name)
       where
         by : (b : Bool) → IsSilent (where_true b (game_part machine whose (game_of e)))
         by true = one (game_part machine whose (game_of e)) (quiet.games _ _ _)
         by false = refl
-    silent_alone Control section e = refl
     silent_alone Mode section e = refl
 
     told-cons : (r : Row) (rs : List Row) → told_rows (r ∷ rs) ≡ told (of_row r) ++ told_rows rs

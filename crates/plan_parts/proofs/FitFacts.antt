@@ -16,7 +16,8 @@ use Rattle.mpf_sections.proofs.{CoilRows.{coil_named, coil_player_named}, ShotRo
 use Rattle.mpf_sections.proofs.{GameRows.variable_player_named, BallRows.ball_device_named}
 use Rattle.machine_definitions.specs.Shots.{profile_of_name}
 use Rattle.plan_tables.specs.declared.{devices.Act.Act, entries.ModeId.ModeId}
-use Rattle.plan_rows.specs.{declared.place.Place.Place, Members.members_of, Seats.destination_of}
+use Rattle.plan_rows.specs.{Members.members_of, Seats.destination_of}
+use Rattle.mpf_tables.specs.declared.tables.TextKind.TextKind
 use Rattle.plan_parts.specs.{VariableEntries.item_change, CoilEntries.item_effect, ShotEntries.shot_acts}
 use Rattle.plan_parts.specs.Parts.{Whose, Device, events, always, device_of, Reaction, start, stop}
 use Rattle.plan_parts.specs.Parts.{act_on, switch, mode, handler, device, where_true, control, stops_at_ball_end}
@@ -44,7 +45,7 @@ module _ (P : List ℕ → Type 0) where
 
     -- ---- a text
 
-    module _ (whose : Whose) (place : Place) (n : ℕ) (ss : List SectionRows) where
+    module _ (whose : Whose) (place : TextKind) (n : ℕ) (ss : List SectionRows) where
       each_part : EachPart rows whose place n ss (IsFitPart P) E L
       each_part = record {
         unknowns = tt;

@@ -8,7 +8,8 @@ use Rattle.mpf_config.specs.Rows.{ModeRows, Rows}
 use Rattle.mpf_sections.specs.Rows.{Entry, PlayerEntry, ModeSettings, Content, entries, players}
 use Rattle.mpf_sections.specs.{Rows.{entry as single, name_list, SectionRows}, Typed.mode_settings, TypedShots.shot_of}
 use Rattle.plan_tables.specs.declared.entries.ModeId.{ModeId}
-use Rattle.plan_rows.specs.{declared.place.Place.{Place, TheVariants.{Machine, Mode}}, Seats.rows_after_text}
+use Rattle.plan_rows.specs.Seats.rows_after_text
+use Rattle.mpf_tables.specs.declared.tables.TextKind.{TextKind, TheVariants.{Machine, Mode}}
 use Rattle.plan_parts.specs.{ShotEntries.shot_acts, PartKinds.IsNoMode}
 use Rattle.plan_parts.specs.Parts.{Whose, Device, events, always, device_of, start, stop, act_on, Part, mode, handler}
 use Rattle.plan_parts.specs.Parts.{device, where_true, own, control, text_parts, modes_parts, parts_of}
@@ -36,7 +37,7 @@ any s = by s.content
     by (name_list ws) = tt
 
 -- no part of a text is a mode
-no_modes : (rows : Rows) (whose : Whose) (place : Place) (n : ℕ) (ss : List SectionRows)
+no_modes : (rows : Rows) (whose : Whose) (place : TextKind) (n : ℕ) (ss : List SectionRows)
     → All IsNoMode (text_parts rows whose place n ss)
 no_modes rows whose place n ss =
     text_parts_each rows whose place n ss IsNoMode E L
@@ -95,7 +96,7 @@ module _ {X : Type 0} (tell : Part → List X) (quiet : (p : Part) → IsNoMode 
   abbrev pub told : ModeRows → List X
   told m = tell (mode m.name (mode_settings m.sections))
 
-  text_told : (rows : Rows) (whose : Whose) (place : Place) (n : ℕ) (ss : List SectionRows)
+  text_told : (rows : Rows) (whose : Whose) (place : TextKind) (n : ℕ) (ss : List SectionRows)
       → flat_map tell (text_parts rows whose place n ss) ≡ []
   text_told rows whose place n ss = none_told (text_parts rows whose place n ss) (no_modes rows whose place n ss)
 

@@ -7,7 +7,8 @@ use Rattle.std.proofs.lemmas.List.Elements.{All-nil, All-head, All-tail, All-app
 use Rattle.mpf_values.specs.Events.{Event}
 use Rattle.mpf_config.specs.Rows.{ModeRows, Rows}
 use Rattle.mpf_sections.specs.{Rows.{ModeSettings, SectionRows}, Typed.mode_settings}
-use Rattle.plan_rows.specs.{declared.place.Place.{Place, TheVariants.{Machine, Mode}}, Seats.rows_after_text}
+use Rattle.plan_rows.specs.Seats.rows_after_text
+use Rattle.mpf_tables.specs.declared.tables.TextKind.{TextKind, TheVariants.{Machine, Mode}}
 use Rattle.plan_tables.specs.declared.entries.ModeId.{ModeId}
 use Rattle.plan_tables.specs.declared.entries.Owner.TheVariants as owners
 use Rattle.plan_parts.specs.Parts.{Whose, Device, events, always, Part, start, stop, handler, device}
@@ -61,7 +62,7 @@ at_middle (b ∷ bs) own later n (suc r) x first from is =
 
 -- A text of rows: its owner is the machine, or one of the modes that there are; and which rows of the parts are its
 -- own.
-pub record IsTextOf (rows : Rows) (whose : Whose) (place : Place) (n : ℕ) (ss : List SectionRows) : Type 0 where
+pub record IsTextOf (rows : Rows) (whose : Whose) (place : TextKind) (n : ℕ) (ss : List SectionRows) : Type 0 where
   pub owner : IsOwnerBelow (length rows.modes) whose.owner
   pub machine : place ≡ Machine → whose.owner ≡ owners.Machine
   pub rows_at : (r : ℕ) (ball : Bool) → IsRowAt n (rows_of_text whose place ss) (whose, ball) r
@@ -97,7 +98,7 @@ mode_marks m name s =
 module _ (rows : Rows) (Q : Part → Type 0) (S : SectionRows → Type 0) (M : ModeRows → Type 0) where
   -- What holds of the parts of each text whose sections meet S, and of those by which a mode begins that meets M.
   pub record EachText : Type 0 where
-    pub text : (whose : Whose) (place : Place) (n : ℕ) (ss : List SectionRows) → IsTextOf rows whose place n ss
+    pub text : (whose : Whose) (place : TextKind) (n : ℕ) (ss : List SectionRows) → IsTextOf rows whose place n ss
         → All S ss → All Q (text_parts rows whose place n ss)
     pub sections : (m : ModeRows) → M m → All S m.sections
     pub mode : (k : ℕ) (m : ModeRows) → k < length rows.modes → M m
@@ -106,7 +107,7 @@ module _ (rows : Rows) (Q : Part → Type 0) (S : SectionRows → Type 0) (M : M
   abbrev all : List (Whose × Bool)
   all = marks (parts_of rows)
 
-  text_of : (whose : Whose) (place : Place) (n : ℕ) (ss : List SectionRows) (before later : List (Whose × Bool))
+  text_of : (whose : Whose) (place : TextKind) (n : ℕ) (ss : List SectionRows) (before later : List (Whose × Bool))
       → IsOwnerBelow (length rows.modes) whose.owner → (place ≡ Machine → whose.owner ≡ owners.Machine)
       → length before ≡ n → all ≡ before ++ (rows_of_text whose place ss ++ later) → IsTextOf rows whose place n ss
   text_of whose place n ss before later owner machine first is = record {

@@ -23,7 +23,8 @@ use Rattle.machine_definitions.proofs.States.{sections_have_states}
 use Rattle.plan_tables.specs.{BallRows.IsNoBallDevice, Valid.IsTargetThere}
 use Rattle.plan_tables.specs.declared.{entries.{ModeId.ModeId, Owner.Owner}, devices.Settings.Settings}
 use Rattle.plan_tables.specs.declared.entries.Owner.TheVariants as owners
-use Rattle.plan_rows.specs.declared.{destination.Destination.Destination, place.Place.{Place, TheVariants.Machine}}
+use Rattle.plan_rows.specs.declared.destination.Destination.Destination
+use Rattle.mpf_tables.specs.declared.tables.TextKind.{TextKind, TheVariants.Machine}
 use Rattle.plan_rows.specs.declared.destination.Destination.TheVariants as destinations
 use Rattle.plan_rows.specs.{Members.{members_of, first_profile}, Rows.{Row, alone, rows_in, rows_from}}
 use Rattle.plan_rows.specs.Seats.{Seat, seat_of, ball_row_of, row_or_unknown, destination_of, rows_after_text}
@@ -137,7 +138,7 @@ module _ (rows : Rows) where
   Are ps = All (IsPartOf rows) ps
 
   -- where a ball device ejects its balls to
-  ball_target : (whose : Whose) (place : Place) (n : ℕ) (ss : List SectionRows) → IsTextOf rows whose place n ss
+  ball_target : (whose : Whose) (place : TextKind) (n : ℕ) (ss : List SectionRows) → IsTextOf rows whose place n ss
       → place ≡ Machine → (name : List ℕ) → IsTargetThere (length all) (target_of (destination_of place n ss name))
   ball_target whose Machine n ss at machine name =
       by (bytes_eq name playfield) (ball_row_of Machine n ss name) (ball_row_at whose n ss name)
@@ -168,7 +169,8 @@ module _ (rows : Rows) where
   abbrev L : List ℕ → PlayerEntry → Type 0
   L section p = AreListsShort rows → IsShortPlayer 1024 p
 
-  module _ (whose : Whose) (place : Place) (n : ℕ) (ss : List SectionRows) (at : IsTextOf rows whose place n ss) where
+  module _ (whose : Whose) (place : TextKind) (n : ℕ) (ss : List SectionRows)
+      (at : IsTextOf rows whose place n ss) where
     plain_drains : (d : Device) → IsPlain d → All (All (DrainsIn has)) d.lists
     plain_drains d is =
         All-weaker (All IsOfNoBall) (All (DrainsIn has))

@@ -24,7 +24,7 @@ use Rattle.machine_definitions.specs.Shots.{Profile, has_profile, profile_of_nam
 use Rattle.plan_tables.specs.declared.{devices.Act.Act, table.Table.TheVariants.Switches}
 use Rattle.plan_tables.specs.declared.devices.Settings.TheVariants as kinds
 use Rattle.plan_rows.specs.{declared.destination.Destination.Destination, Rows.{entry_row, rows_from, rows_in}}
-use Rattle.plan_rows.specs.declared.place.Place.{Place, TheVariants.{Machine, Control, Mode}}
+use Rattle.mpf_tables.specs.declared.tables.TextKind.{TextKind, TheVariants.{Machine, Mode}}
 use Rattle.plan_rows.specs.Seats.{section_entries, text_entries, lists_shot, is_grouped, row_sections, has_row}
 use Rattle.plan_rows.specs.Seats.{rows_after, rows_after_all, Seat, seats_at, given_from, latest, found_in}
 use Rattle.plan_rows.specs.Seats.{entry_seats, seat_of, entry_ball_row, ball_row_of, destination_of, rows_after_text}
@@ -48,7 +48,7 @@ abbrev pub marks : List Part → List (Whose × Bool)
 marks ps = flat_map mark ps
 
 -- whether the entries of a section of this name are ball devices
-abbrev has_balls : Place → List ℕ → Bool
+abbrev has_balls : TextKind → List ℕ → Bool
 has_balls Machine section = bytes_eq section ball_devices_name
 has_balls _ section = false
 
@@ -57,7 +57,7 @@ among_same : (keys : List (List ℕ)) (name : List ℕ) → is_among keys name �
 among_same x1 name = search rules
 
 -- those of groups are among them
-groups_among : (place : Place) → is_among (row_sections place) shot_groups_name ≡ true
+groups_among : (place : TextKind) → is_among (row_sections place) shot_groups_name ≡ true
 groups_among x1 = search rules
 
 -- what holds of a name holds of what has it
@@ -65,10 +65,10 @@ named : (A : List ℕ → Type 0) (section name : List ℕ) → bytes_eq section
 named A section name is h = subst A (sym ((bytes_eq-Decides section name).0 is)) h
 
 -- neither shots nor groups are ball devices
-shots_no_balls : (place : Place) → has_balls place shots_name ≡ false
+shots_no_balls : (place : TextKind) → has_balls place shots_name ≡ false
 shots_no_balls x1 = search rules
 
-groups_no_balls : (place : Place) → has_balls place shot_groups_name ≡ false
+groups_no_balls : (place : TextKind) → has_balls place shot_groups_name ≡ false
 groups_no_balls x1 = search rules
 
 -- Here `whose` is the owner of the text.
@@ -81,10 +81,10 @@ module _ (whose : Whose) where
   row_if b ball = if b then (whose, ball) ∷ [] else []
 
   -- the rows of entries
-  abbrev pub rows_of_entries : Place → (List ℕ → Bool) → List (List ℕ × Entry) → List (Whose × Bool)
+  abbrev pub rows_of_entries : TextKind → (List ℕ → Bool) → List (List ℕ × Entry) → List (Whose × Bool)
   rows_of_entries place is_in_group es = flat_map (λ e. row_if (has_row place is_in_group e) (has_balls place e.0)) es
 
-  abbrev pub rows_of_text : Place → List SectionRows → List (Whose × Bool)
+  abbrev pub rows_of_text : TextKind → List SectionRows → List (Whose × Bool)
   rows_of_text place ss = rows_of_entries place (is_grouped ss) (text_entries ss)
 
   -- what the device of an entry gives, if it is one
@@ -177,7 +177,7 @@ module _ (whose : Whose) where
             (sym (among_same (row_sections Machine) section))
 
     -- a ball device of the machine text has one
-    other_entry_row : (to : List ℕ → Destination) (place : Place) (section : List ℕ) (e : Entry)
+    other_entry_row : (to : List ℕ → Destination) (place : TextKind) (section : List ℕ) (e : Entry)
         → bytes_eq section shot_groups_name ≡ false
         → marks (row_parts machine whose (other_row to place section e))
         ≡ row_if (is_among (row_sections place) section) (has_balls place section)
@@ -199,15 +199,13 @@ module _ (whose : Whose) where
             (λ s. (whose, true) ∷ [] ≡ row_if (is_among (row_sections Machine) s) true) section ball_devices_name is
             refl
         by false is = machine_row section e other is
-    other_entry_row to Control section e other =
-        shared_row section e other ∙ ap (λ b. row_if b false) (sym (among_same (row_sections Control) section))
     other_entry_row to Mode section e other =
         shared_row section e other ∙ ap (λ b. row_if b false) (sym (among_same (row_sections Mode) section))
 
   -- ---- those that are counted
 
   -- if those shots have seats that groups list
-  module _ (rows : Rows) (place : Place) (is_in_group : List ℕ → Bool) (seat : List ℕ → Option Seat)
+  module _ (rows : Rows) (place : TextKind) (is_in_group : List ℕ → Bool) (seat : List ℕ → Option Seat)
       (to : List ℕ → Destination) (same : (name : List ℕ) → is_some (seat name) ≡ is_in_group name) where
     abbrev given : Row → List (Whose × Bool)
     given r = marks (row_parts rows.machine whose r)
@@ -313,7 +311,7 @@ module _ (whose : Whose) where
         all_given-cons (player place name p) (map (player place name) ps) ∙
         (λ i. player_gives name p i ++ players_give name ps i)
 
-    alone_gives : (own : Place) (section : List ℕ) (e : Entry) → given (alone own section e) ≡ []
+    alone_gives : (own : TextKind) (section : List ℕ) (e : Entry) → given (alone own section e) ≡ []
     unfolding row_parts alone_parts
     alone_gives Machine section e = none_if (bytes_eq section game_name) _ _ refl refl
     alone_gives _ section e = refl
@@ -338,7 +336,7 @@ module _ (whose : Whose) where
         (text_entries ss))
 
   -- they are as many
-  module _ (place : Place) (is_in_group : List ℕ → Bool) where
+  module _ (place : TextKind) (is_in_group : List ℕ → Bool) where
     one_more : (n m : ℕ) (b ball : Bool) (rest : List (Whose × Bool)) → (if b then suc n else n) + length rest ≡ m
         → n + length (row_if b ball ++ rest) ≡ m
     one_more n m x3 ball rest is = search rules
@@ -354,7 +352,7 @@ module _ (whose : Whose) where
 abbrev pub IsRowAt : ℕ → List (Whose × Bool) → Whose × Bool → ℕ → Type 0
 IsRowAt n rows x r = (n ≤ r) × (slice_get rows (r - n) ≡ Some x)
 
-module _ {X : Type 0} (whose : Whose) (row : X → ℕ) (give : ℕ → List ℕ × Entry → List (List ℕ × X)) (place : Place)
+module _ {X : Type 0} (whose : Whose) (row : X → ℕ) (give : ℕ → List ℕ × Entry → List (List ℕ × X)) (place : TextKind)
     (is_in_group : List ℕ → Bool) (ball : Bool) where
   -- it is of the row of its entry
   abbrev IsOwn : ℕ → List ℕ × Entry → List ℕ × X → Type 0
@@ -419,7 +417,7 @@ module _ {X : Type 0} (name : List ℕ) where
     gives_it e = if bytes_eq e.0 own then p (f e.1) else false
 
     module _ (each : (n : ℕ) (e : List ℕ × Entry) → list_any has_it (give n e) ≡ gives_it e) where
-      at_entries : (place : Place) (is_in_group : List ℕ → Bool) (es : List (List ℕ × Entry)) (n : ℕ)
+      at_entries : (place : TextKind) (is_in_group : List ℕ → Bool) (es : List (List ℕ × Entry)) (n : ℕ)
           → list_any has_it (given_from give place is_in_group n es) ≡ list_any gives_it es
       at_entries place is_in_group [] n = refl
       at_entries place is_in_group (e ∷ es) n =
@@ -443,7 +441,7 @@ module _ {X : Type 0} (name : List ℕ) where
           ∙ (λ i. in_section s.name (bytes_eq s.name own) refl (entries_in s.content) i || in_sections ss i)
           ∙ sym (list_any-append p (map f (entries_of own s)) (flat_map (λ s. map f (entries_of own s)) ss))
 
-      found_some : (place : Place) (n : ℕ) (ss : List SectionRows)
+      found_some : (place : TextKind) (n : ℕ) (ss : List SectionRows)
           → is_some (found_in give place n ss name) ≡ list_any p (flat_map (λ s. map f (entries_of own s)) ss)
       found_some place n ss = search (rules, latest_some, at_entries, in_sections)
 
@@ -480,7 +478,7 @@ balls_each name n e = by (bytes_eq e.0 ball_devices_name)
 abbrev seat_row : Seat → ℕ
 seat_row s = s.row
 
-seats_own : (whose : Whose) (place : Place) (is_in_group : List ℕ → Bool) (n : ℕ) (e : List ℕ × Entry)
+seats_own : (whose : Whose) (place : TextKind) (is_in_group : List ℕ → Bool) (n : ℕ) (e : List ℕ × Entry)
     → All (IsOwn whose seat_row entry_seats place is_in_group false n e) (entry_seats n e)
 seats_own whose place is_in_group n e = by (bytes_eq e.0 shot_groups_name) refl
   where
@@ -507,7 +505,7 @@ balls_own whose is_in_group n e = by (bytes_eq e.0 ball_devices_name) refl
 
 -- ---- a text
 
-module _ (whose : Whose) (place : Place) (n : ℕ) (ss : List SectionRows) where
+module _ (whose : Whose) (place : TextKind) (n : ℕ) (ss : List SectionRows) where
   -- those shots have seats that groups list
   pub seat_some : (name : List ℕ) → is_some (seat_of place n ss name) ≡ is_grouped ss name
   unfolding shot_groups_in

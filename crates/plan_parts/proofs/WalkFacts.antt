@@ -11,7 +11,8 @@ use Rattle.mpf_sections.specs.TypedGame.{game_name, variable_player_name, game_o
 use Rattle.machine_definitions.specs.Shots.{Profile, has_profile, profile_of_name}
 use Rattle.plan_tables.specs.declared.table.Table.TheVariants.{Switches}
 use Rattle.mpf_config.specs.Rows.{Rows}
-use Rattle.plan_rows.specs.declared.{destination.Destination.Destination, place.Place.{Place, TheVariants.Machine}}
+use Rattle.plan_rows.specs.declared.destination.Destination.Destination
+use Rattle.mpf_tables.specs.declared.tables.TextKind.{TextKind, TheVariants.Machine}
 use Rattle.plan_rows.specs.{Members.members_of, Seats.{Seat, seat_of, destination_of}}
 use Rattle.plan_rows.specs.Rows.{Row, entry, alone, player, shot_row, group_row, ball_device_row, other_row}
 use Rattle.plan_rows.specs.Rows.{entry_row, rows_from, text_rows}
@@ -26,7 +27,7 @@ use Rattle.yaml_bytes.proofs.Each.{All-flat_map}
 -- ---- rows
 
 -- what holds of a row of a shot, of a group, of a ball device and of any other entry holds of each entry's row
-pub entry_such : (R : Row → Type 0) (rows : Rows) (place : Place) (seat : List ℕ → Option Seat)
+pub entry_such : (R : Row → Type 0) (rows : Rows) (place : TextKind) (seat : List ℕ → Option Seat)
     (to : List ℕ → Destination) (section : List ℕ) (e : Entry)
     → (bytes_eq section shots_name ≡ true → R (shot_row rows place seat (shot_of e)))
     → (bytes_eq section shot_groups_name ≡ true → R (group_row rows place seat (shot_group_of e)))
@@ -39,7 +40,7 @@ entry_such R rows place seat to section e of_shot of_group of_ball other =
         → R (if b then ball_device_row to (ball_device_of e) else entry Machine section e)
     in_machine x1 ball rest = search rules
 
-    in_other : (place : Place)
+    in_other : (place : TextKind)
         → (place ≡ Machine → bytes_eq section ball_devices_name ≡ true → R (ball_device_row to (ball_device_of e)))
         → R (entry place section e) → R (other_row to place section e)
     in_other x1 ball rest = search (rules, in_machine)
@@ -61,7 +62,7 @@ IsSuch E L s = IsSuchContent E L s.name s.content
 
 -- ---- the parts of a text
 
-module _ (rows : Rows) (whose : Whose) (place : Place) (n : ℕ) (ss : List SectionRows) (Q : Part → Type 0)
+module _ (rows : Rows) (whose : Whose) (place : TextKind) (n : ℕ) (ss : List SectionRows) (Q : Part → Type 0)
     (E : List ℕ → Entry → Type 0) (L : List ℕ → PlayerEntry → Type 0) where
   abbrev seat : List ℕ → Option Seat
   seat = seat_of place n ss
@@ -169,7 +170,7 @@ module _ (rows : Rows) (whose : Whose) (place : Place) (n : ℕ) (ss : List Sect
     in_seated s p own None seats = one (device whose (lone_device p s)) own
     in_seated s p own (Some x) seats = seats x refl
 
-    in_entry : (own : Place) → place ≡ own → (section : List ℕ) (e : Entry) → E section e
+    in_entry : (own : TextKind) → place ≡ own → (section : List ℕ) (e : Entry) → E section e
         → All Q (entry_parts rows.machine whose own section e)
     unfolding entry_parts machine_entry_parts
     in_entry Machine same section e is =
@@ -178,7 +179,7 @@ module _ (rows : Rows) (whose : Whose) (place : Place) (n : ℕ) (ss : List Sect
         (in_device (machine_device rows.machine whose section e) (each.rules section e is same)))
     in_entry _ same section e is = in_device (device_of section e) (each.devices section e is)
 
-    in_alone : (own : Place) (section : List ℕ) (e : Entry) → E section e
+    in_alone : (own : TextKind) (section : List ℕ) (e : Entry) → E section e
         → All Q (alone_parts rows.machine whose own section e)
     unfolding alone_parts
     in_alone Machine section e is =

@@ -26,7 +26,8 @@ use Rattle.mpf_sections.specs.View.{variable_player_view, game_view, shot_view}
 use Rattle.mpf_sections.specs.View.{shot_group_view, ball_device_view, ball_save_view, multiball_view}
 use Rattle.machine_definitions.specs.declared.profile.Profile as profiles
 use Rattle.machine_definitions.specs.Found.{profile_view}
-use Rattle.plan_rows.specs.declared.{place.Place.Place, destination.Destination.Destination}
+use Rattle.plan_rows.specs.declared.destination.Destination.Destination
+use Rattle.mpf_tables.specs.declared.tables.TextKind.TextKind
 use Rattle.plan_rows.specs.declared.seats.Seat as seats
 use Rattle.plan_rows.specs.declared.members.Members as members
 use Rattle.plan_rows.specs.View.{seat_view, members_view}
@@ -92,13 +93,13 @@ defaults_view d =
 
 -- ---- entries, by the names of their sections
 
-abbrev pub entry_gives : List SectionRows → Place → List ℕ → entry_rows.Entry → Whose → List Part
+abbrev pub entry_gives : List SectionRows → TextKind → List ℕ → entry_rows.Entry → Whose → List Part
 entry_gives machine place section e whose = entry_parts machine whose place section (entry_view e)
 
 abbrev pub machine_entry_gives : List SectionRows → List ℕ → entry_rows.Entry → Whose → List Part
 machine_entry_gives machine section e whose = machine_entry_parts machine whose section (entry_view e)
 
-abbrev pub alone_gives : List SectionRows → Place → List ℕ → entry_rows.Entry → Whose → List Part
+abbrev pub alone_gives : List SectionRows → TextKind → List ℕ → entry_rows.Entry → Whose → List Part
 alone_gives machine place section e whose = alone_parts machine whose place section (entry_view e)
 
 abbrev pub player_entry_gives : List SectionRows → List ℕ → player_rows.PlayerEntry → Whose → List Part

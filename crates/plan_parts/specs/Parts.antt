@@ -13,7 +13,8 @@ use Rattle.machine_definitions.specs.{Definitions.makes_quick, Shots.Profile}
 use Rattle.plan_tables.specs.declared.entries.{ModeId.ModeId, SwitchKind.SwitchKind, CoilLimits.CoilLimits, Owner.Owner}
 use Rattle.plan_tables.specs.declared.entries.Owner.TheVariants as owners
 use Rattle.plan_tables.specs.declared.{devices.{RowId.RowId, Act.Act}, table.Table.{Table, TheVariants.Switches}}
-use Rattle.plan_rows.specs.{declared.place.Place.{Place, TheVariants.{Machine, Mode}}, Seats.{Seat, rows_after_text}}
+use Rattle.plan_rows.specs.Seats.{Seat, rows_after_text}
+use Rattle.mpf_tables.specs.declared.tables.TextKind.{TextKind, TheVariants.{Machine, Mode}}
 use Rattle.plan_rows.specs.Rows.{Row, entry, alone, shot, group, ball_device, player, of_mode, text_rows}
 use Rattle.plan_parts.specs.{Effects.{Effect, posts}, VariableEntries.item_change}
 use Rattle.plan_parts.specs.BallEntries.{is_known, ball_device_from}
@@ -158,12 +159,12 @@ module _ (machine : List SectionRows) (whose : Whose) where
       else (if bytes_eq section switches_name then switch_part (switch_of e) ∷ []
       else where_some (device whose) (machine_device section e))
 
-  unfoldable pub entry_parts : Place → List ℕ → Entry → List Part
+  unfoldable pub entry_parts : TextKind → List ℕ → Entry → List Part
   entry_parts Machine section e = machine_entry_parts section e
   entry_parts _ section e = where_some (device whose) (device_of section e)
 
   -- the one entry of a section: only the machine text has a game
-  unfoldable pub alone_parts : Place → List ℕ → Entry → List Part
+  unfoldable pub alone_parts : TextKind → List ℕ → Entry → List Part
   alone_parts Machine section e = where_true (bytes_eq section game_name) (game_part (game_of e))
   alone_parts _ section e = []
 
@@ -198,7 +199,7 @@ module _ (machine : List SectionRows) (whose : Whose) where
 -- ---- all parts, in order: the machine's, then each mode's, which begin with the mode
 
 -- the parts of a text; so many rows of devices come before it
-abbrev pub text_parts : Rows → Whose → Place → (rows_before : ℕ) → List SectionRows → List Part
+abbrev pub text_parts : Rows → Whose → TextKind → (rows_before : ℕ) → List SectionRows → List Part
 text_parts rows whose place n sections = flat_map (row_parts rows.machine whose) (text_rows rows place n sections)
 
 -- the parts of modes; this is the number of the first mode, and so many rows of devices come before it

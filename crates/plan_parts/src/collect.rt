@@ -26,7 +26,8 @@ use mpf_config::{
     as_switch, as_variable_player, mode_settings,
 };
 use mpf_sections::as_coil_rule;
-use plan_rows::{Place, Row};
+use mpf_tables::TextKind;
+use plan_rows::Row;
 use plan_tables::entries::{ModeId, Owner, SwitchKind};
 use std::alloc::AllocError;
 
@@ -72,7 +73,7 @@ pub fn collect_row<'a>(
 fn collect_entry<'a>(
     parts: &mut RowParts<'a>,
     definitions: &Definitions<'_>,
-    place: Place,
+    place: TextKind,
     section: &[u8],
     entry: &'a Entry,
 ) -> Result<(), AllocError>
@@ -80,8 +81,8 @@ fn collect_entry<'a>(
         (entry_gives definitions.now.machine place section.now entry.now)) }
 {
     match place {
-        Place::Machine => collect_machine_entry(parts, definitions, section, entry),
-        Place::Control | Place::Mode => collect_device(parts, section, entry),
+        TextKind::Machine => collect_machine_entry(parts, definitions, section, entry),
+        TextKind::Mode => collect_device(parts, section, entry),
     }
 }
 
@@ -114,13 +115,13 @@ fn collect_machine_entry<'a>(
 fn collect_alone(
     parts: &mut RowParts<'_>,
     definitions: &Definitions<'_>,
-    place: Place,
+    place: TextKind,
     section: &[u8],
     entry: &Entry,
 )
     ensures { Gives parts.old parts.new (alone_gives definitions.now.machine place section.now entry.now) }
 {
-    if let Place::Machine = place {
+    if let TextKind::Machine = place {
         if section == GAME_NAME {
             collect_game(parts, definitions, as_game(entry));
         }

@@ -23,8 +23,8 @@ use plan_rows::{Members, Seat, is_enabled};
 use plan_tables::devices::{Act, BankSettings, Settings};
 use std::alloc::AllocError;
 
-/// A shot. If it has a seat in a group, its events act on the row of the group; else it is a device of its own. `known`
-/// says whether its profile is defined.
+/// A shot. If it has a seat in a group, its events act on the row of the group; else it is a device of its own.
+/// `is_known` says whether its profile is defined.
 pub(crate) fn collect_shot<'a>(
     parts: &mut RowParts<'a>,
     row: Shot<'a>,

@@ -8,7 +8,8 @@ use Rattle.mpf_sections.specs.{declared.section.Section.Section, Rows.Entry, Typ
 use Rattle.mpf_sections.specs.View.{name_view, entry_view, section_view}
 use Rattle.yaml_subset.specs.Keys.{is_among}
 use Rattle.machine_definitions.proofs.Finding.{next-is}
-use Rattle.plan_rows.specs.{declared.place.Place.Place, Seats.{Seat, seats_at, given_from, latest}}
+use Rattle.plan_rows.specs.Seats.{Seat, seats_at, given_from, latest}
+use Rattle.mpf_tables.specs.declared.tables.TextKind.TextKind
 use Rattle.plan_rows.specs.Seats.{section_entries, text_entries, row_sections, has_row, rows_after, rows_after_all}
 
 -- what is found under a name after these, if this was found before
@@ -30,7 +31,7 @@ seat_next name o row shots i d within = search (rules, get_or, drop_more)
 abbrev pub entries_of : List ℕ → List rows.Entry → List (List ℕ × Entry)
 entries_of section es = map (λ e. (section, e)) (map entry_view es)
 
-module _ (place : Place) (is_in_group : List ℕ → Bool) where
+module _ (place : TextKind) (is_in_group : List ℕ → Bool) where
   -- whether a shot has a row
   pub shot_has_row : (section : List ℕ) (e : Entry) → bytes_eq section shots_name ≡ true
       → not (is_in_group e.name.text) ≡ has_row place is_in_group (section, e)

@@ -9,7 +9,8 @@ use Rattle.mpf_sections.specs.{Rows.{WrittenName, Entry}, TypedBalls.ball_device
 use Rattle.mpf_sections.specs.View.{name_view, entry_view, player_view, section_view}
 use Rattle.mpf_config.specs.{declared.config.ModeText.ModeText, Rows.Rows, View.mode_view}
 use Rattle.machine_definitions.specs.Found.{is_found, section_rows}
-use Rattle.plan_rows.specs.declared.{place.Place.{Place, TheVariants.Mode}, seats.Seats.Seats}
+use Rattle.plan_rows.specs.declared.seats.Seats.Seats
+use Rattle.mpf_tables.specs.declared.tables.TextKind.{TextKind, TheVariants.Mode}
 use Rattle.plan_rows.specs.declared.rows.Row as rows
 use Rattle.plan_rows.specs.declared.seats.Seat as seats
 use Rattle.plan_rows.specs.Seats.{section_entries, text_entries, lists_shot, is_grouped, given_from, latest, Seat}
@@ -62,34 +63,35 @@ abbrev pub HasGrouped : {S : Type 0} → List Section → HashSet (Bor (List ℕ
 HasGrouped sections names = (name : List ℕ) → is_found names name ≡ is_grouped (section_rows sections) name
 
 -- by each name the seat of the shot that has it is found, if a group lists it
-abbrev pub HasSeats : Place → ℕ → List Section → Seats → Type 0
+abbrev pub HasSeats : TextKind → ℕ → List Section → Seats → Type 0
 HasSeats place before sections seats_so_far = (name : List ℕ)
     → found_seat seats_so_far.shots name ≡ seat_of place before (section_rows sections) name
 
 -- by each name is found where balls go that are ejected to it
-abbrev pub HasDestinations : Place → ℕ → List Section → Seats → Type 0
+abbrev pub HasDestinations : TextKind → ℕ → List Section → Seats → Type 0
 HasDestinations place before sections seats_so_far = (name : List ℕ)
     → found_destination seats_so_far.devices name ≡ destination_of place before (section_rows sections) name
 
 -- what a section gives, if such shots are grouped: the seats of shots, and the rows of ball devices
-abbrev pub seats_given : {S : Type 0} → Place → HashSet (Bor (List ℕ)) S → ℕ → Section → List (List ℕ × Seat)
+abbrev pub seats_given : {S : Type 0} → TextKind → HashSet (Bor (List ℕ)) S → ℕ → Section → List (List ℕ × Seat)
 seats_given place group_shots before s = given_from entry_seats place (is_found group_shots) before (named_entries s)
 
-abbrev pub devices_given : {S : Type 0} → Place → HashSet (Bor (List ℕ)) S → ℕ → Section → List (List ℕ × ℕ)
+abbrev pub devices_given : {S : Type 0} → TextKind → HashSet (Bor (List ℕ)) S → ℕ → Section → List (List ℕ × ℕ)
 devices_given place group_shots before s =
     given_from entry_ball_row place (is_found group_shots) before (named_entries s)
 
 -- what sections give
-abbrev pub all_seats_given : {S : Type 0} → Place → HashSet (Bor (List ℕ)) S → ℕ → List Section → List (List ℕ × Seat)
+abbrev pub all_seats_given : {S : Type 0} → TextKind → HashSet (Bor (List ℕ)) S → ℕ → List Section
+    → List (List ℕ × Seat)
 all_seats_given place group_shots before sections =
     given_from entry_seats place (is_found group_shots) before (all_entries sections)
 
-abbrev pub all_devices_given : {S : Type 0} → Place → HashSet (Bor (List ℕ)) S → ℕ → List Section → List (List ℕ × ℕ)
+abbrev pub all_devices_given : {S : Type 0} → TextKind → HashSet (Bor (List ℕ)) S → ℕ → List Section → List (List ℕ × ℕ)
 all_devices_given place group_shots before sections =
     given_from entry_ball_row place (is_found group_shots) before (all_entries sections)
 
 -- how many rows come before the text after these sections
-abbrev pub rows_after_sections : Place → ℕ → List Section → ℕ
+abbrev pub rows_after_sections : TextKind → ℕ → List Section → ℕ
 rows_after_sections place before sections = rows_after_text place before (section_rows sections)
 
 -- how many rows come before the text after this mode
@@ -98,7 +100,7 @@ rows_after_mode before mode = rows_after_text Mode before (mode_view mode).secti
 
 -- ---- the rows that the program's entries give, if these are the seats of their text
 
-module _ (definitions : Rows) (place : Place) (seats_so_far : Seats) where
+module _ (definitions : Rows) (place : TextKind) (seats_so_far : Seats) where
   abbrev pub row_of_entry : List ℕ → written_entries.Entry → Row
   row_of_entry section e = entry_row definitions place (found_seat seats_so_far.shots)
       (found_destination seats_so_far.devices) section (entry_view e)
@@ -120,7 +122,7 @@ module _ (definitions : Rows) (place : Place) (seats_so_far : Seats) where
   row_of_shot e = shot_row definitions place (found_seat seats_so_far.shots) (shot_of (entry_view e))
 
 -- an entry that is neither a shot nor a group
-abbrev pub row_of_other : Place → Seats → List ℕ → written_entries.Entry → Row
+abbrev pub row_of_other : TextKind → Seats → List ℕ → written_entries.Entry → Row
 row_of_other place seats_so_far section e =
     other_row (found_destination seats_so_far.devices) place section (entry_view e)
 
@@ -129,11 +131,11 @@ row_of_ball_device seats_so_far e = ball_device_row (found_destination seats_so_
     (ball_device_of (entry_view e))
 
 -- the entries of a player
-abbrev pub rows_of_players : Place → List ℕ → List written_players.PlayerEntry → List Row
+abbrev pub rows_of_players : TextKind → List ℕ → List written_players.PlayerEntry → List Row
 rows_of_players place section ps = map (player place section) (map player_view ps)
 
 -- a text, and a mode with its text, before which come so many rows of devices
-abbrev pub rows_of_text : Rows → Place → ℕ → List Section → List Row
+abbrev pub rows_of_text : Rows → TextKind → ℕ → List Section → List Row
 rows_of_text definitions place before sections = text_rows definitions place before (section_rows sections)
 
 abbrev pub rows_of_mode : Rows → ℕ → ModeText → List Row

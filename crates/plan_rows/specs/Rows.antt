@@ -4,7 +4,7 @@ use Rattle.mpf_sections.specs.Rows.{Entry, PlayerEntry, ModeSettings, Content, e
 use Rattle.mpf_sections.specs.Rows.{name_list, SectionRows, Shot, ShotGroup, BallDeviceEntry}
 use Rattle.mpf_config.specs.Rows.{ModeRows, Rows}
 use Rattle.mpf_sections.specs.{Typed.mode_settings, TypedBalls.{ball_devices_name, ball_device_of}}
-use Rattle.plan_rows.specs.declared.place.Place.{Place, TheVariants.{Machine, Control, Mode}}
+use Rattle.mpf_tables.specs.declared.tables.TextKind.{TextKind, TheVariants.{Machine, Mode}}
 use Rattle.plan_rows.specs.{declared.destination.Destination.Destination, Members.{Members, members_of}}
 use Rattle.mpf_sections.specs.TypedShots.{shots_name, shot_groups_name, shot_of, shot_group_of}
 use Rattle.machine_definitions.specs.Shots.{Profile, has_profile, profile_of_name}
@@ -12,19 +12,19 @@ use Rattle.plan_rows.specs.Seats.{Seat, seat_of, destination_of, rows_after_text
 
 -- An entry in the section of this name, or the one that the section is; a shot, with its seat if it has one, whether
 -- its profile is known, and its profile; a group, with what is known of its shots; a ball device, which is the
--- machine's, with where it ejects its balls to; or an entry of a player, whose bindings have this place; or a mode by
--- its name, with what its text says of it.
+-- machine's, with where it ejects its balls to; or an entry of a player; or a mode by its name, with what its text says
+-- of it. Most have the kind of the text that they are in.
 pub data Row : Type 0 where
-  entry : Place → List ℕ → Entry → Row
-  alone : Place → List ℕ → Entry → Row
-  shot : Place → Shot → Option Seat → Bool → Profile → Row
-  group : Place → ShotGroup → Members → Row
+  entry : TextKind → List ℕ → Entry → Row
+  alone : TextKind → List ℕ → Entry → Row
+  shot : TextKind → Shot → Option Seat → Bool → Profile → Row
+  group : TextKind → ShotGroup → Members → Row
   ball_device : BallDeviceEntry → Destination → Row
-  player : Place → List ℕ → PlayerEntry → Row
+  player : TextKind → List ℕ → PlayerEntry → Row
   of_mode : List ℕ → ModeSettings → Row
 
 -- Here `seat` says of a name which seat the shot of this name has, if it has one.
-module _ (rows : Rows) (place : Place) (seat : List ℕ → Option Seat) where
+module _ (rows : Rows) (place : TextKind) (seat : List ℕ → Option Seat) where
   abbrev pub shot_row : Shot → Row
   shot_row s = shot place s (seat s.name.text) (has_profile rows s.profile.text) (profile_of_name rows s.profile.text)
 
@@ -37,13 +37,12 @@ module _ (destination : List ℕ → Destination) where
   ball_device_row d = ball_device d (destination d.target.text)
 
   -- an entry of neither a shot nor a group; ball devices stand in the machine text alone
-  abbrev pub other_row : Place → List ℕ → Entry → Row
+  abbrev pub other_row : TextKind → List ℕ → Entry → Row
   other_row Machine section e =
       if bytes_eq section ball_devices_name then ball_device_row (ball_device_of e) else entry Machine section e
-  other_row Control section e = entry Control section e
   other_row Mode section e = entry Mode section e
 
-module _ (rows : Rows) (place : Place) (seat : List ℕ → Option Seat) (destination : List ℕ → Destination) where
+module _ (rows : Rows) (place : TextKind) (seat : List ℕ → Option Seat) (destination : List ℕ → Destination) where
   -- an entry in the section of this name
   abbrev pub entry_row : List ℕ → Entry → Row
   entry_row section e =
@@ -62,7 +61,7 @@ module _ (rows : Rows) (place : Place) (seat : List ℕ → Option Seat) (destin
   rows_in sections = flat_map (λ s. rows_from s.name s.content) sections
 
 -- the rows of a text, if so many rows of devices come before it
-abbrev pub text_rows : Rows → Place → ℕ → List SectionRows → List Row
+abbrev pub text_rows : Rows → TextKind → ℕ → List SectionRows → List Row
 text_rows rows place n sections = rows_in rows place (seat_of place n sections) (destination_of place n sections)
     sections
 

@@ -6,12 +6,10 @@
 
 pub mod destination;
 pub mod members;
-pub mod place;
 pub mod rows;
 pub mod seats;
 
 pub use destination::Destination;
 pub use members::{Members, is_enabled, is_none};
-pub use place::Place;
 pub use rows::{Row, rows_of};
 pub use seats::Seat;

@@ -12,7 +12,6 @@ ghost use Rattle.plan_rows.specs.Gained.{rows_of_section, rows_of_sections, row_
 
 use crate::destination::Destination;
 use crate::members::{Members, members_of};
-use crate::place::Place;
 use crate::seats::{Seat, Seats, seats_of};
 use machine_definitions::{Definitions, Profile};
 use mpf_config::config::ModeText;
@@ -20,23 +19,24 @@ use mpf_config::{
     BALL_DEVICES_NAME, Content, Entry, PlayerEntry, SHOT_GROUPS_NAME, SHOTS_NAME, Section,
     as_ball_device, as_shot, as_shot_group,
 };
+use mpf_tables::TextKind;
 use std::alloc::{AllocError, Global};
 
 /// A row of a text.
 #[derive(Clone, Copy)]
 pub enum Row<'d, 'a> {
-    /// An entry in the section of this name, whose bindings have this place.
-    Entry(Place, &'a [u8], &'a Entry),
-    /// The one entry that the section of this name is, in a text of this place.
-    Alone(Place, &'a [u8], &'a Entry),
+    /// An entry in the section of this name, in a text of this kind.
+    Entry(TextKind, &'a [u8], &'a Entry),
+    /// The one entry that the section of this name is, in a text of this kind.
+    Alone(TextKind, &'a [u8], &'a Entry),
     /// A shot, with its seat if it has one, whether its profile is defined, and its profile.
-    Shot(Place, &'a Entry, Option<Seat>, bool, &'d Profile<'a>),
+    Shot(TextKind, &'a Entry, Option<Seat>, bool, &'d Profile<'a>),
     /// A group, with what is known of its shots.
-    Group(Place, &'a Entry, Members<'d, 'a>),
+    Group(TextKind, &'a Entry, Members<'d, 'a>),
     /// A ball device of the machine text, with where it ejects its balls to.
     BallDevice(&'a Entry, Destination),
-    /// An entry of a player in the section of this name, whose bindings have this place.
-    Player(Place, &'a [u8], &'a PlayerEntry),
+    /// An entry of a player in the section of this name, in a text of this kind.
+    Player(TextKind, &'a [u8], &'a PlayerEntry),
     /// A mode by its name, with the sections of its text.
     Mode(&'a [u8], &'a [Section]),
 }
@@ -61,7 +61,7 @@ pub fn rows_of<'d, 'a>(
         alloc,
         &mut rows,
         definitions,
-        Place::Machine,
+        TextKind::Machine,
         0,
         &config.machine.sections,
     )?;
@@ -85,7 +85,7 @@ fn add_mode<'d, 'a>(
 {
     let sections = mode.sections.as_slice();
     rows.push(Row::Mode(&mode.name, sections))?;
-    add_text(alloc, rows, definitions, Place::Mode, before, sections)
+    add_text(alloc, rows, definitions, TextKind::Mode, before, sections)
 }
 
 /// Adds the rows of a text, before which come so many rows of devices. Returns how many come before
@@ -94,7 +94,7 @@ fn add_text<'d, 'a>(
     alloc: Global,
     rows: &mut Vec<Row<'d, 'a>>,
     definitions: &'d Definitions<'a>,
-    place: Place,
+    place: TextKind,
     before: usize,
     sections: &'a [Section],
 ) -> Result<usize, AllocError>
@@ -110,7 +110,7 @@ fn add_text<'d, 'a>(
 fn add_sections<'d, 'a>(
     rows: &mut Vec<Row<'d, 'a>>,
     definitions: &'d Definitions<'a>,
-    place: Place,
+    place: TextKind,
     seats: &Seats<'a>,
     sections: &'a [Section],
 ) -> Result<(), AllocError>
@@ -125,7 +125,7 @@ fn add_sections<'d, 'a>(
 fn add_rows<'d, 'a>(
     rows: &mut Vec<Row<'d, 'a>>,
     definitions: &'d Definitions<'a>,
-    place: Place,
+    place: TextKind,
     seats: &Seats<'a>,
     section: &'a Section,
 ) -> Result<(), AllocError>
@@ -147,7 +147,7 @@ fn add_rows<'d, 'a>(
 fn add_entries<'d, 'a>(
     rows: &mut Vec<Row<'d, 'a>>,
     definitions: &'d Definitions<'a>,
-    place: Place,
+    place: TextKind,
     seats: &Seats<'a>,
     section: &'a [u8],
     entries: &'a [Entry],
@@ -165,7 +165,7 @@ fn add_entries<'d, 'a>(
 
 fn add_players<'d, 'a>(
     rows: &mut Vec<Row<'d, 'a>>,
-    place: Place,
+    place: TextKind,
     section: &'a [u8],
     players: &'a [PlayerEntry],
 ) -> Result<(), AllocError>
@@ -205,7 +205,7 @@ fn section_of(name: &[u8]) -> EntrySection<'_>
 /// The row of an entry in this section.
 fn entry_row<'d, 'a>(
     definitions: &'d Definitions<'a>,
-    place: Place,
+    place: TextKind,
     seats: &Seats<'a>,
     section: EntrySection<'a>,
     entry: &'a Entry,
@@ -224,7 +224,7 @@ fn entry_row<'d, 'a>(
 /// That of a shot.
 fn shot_row<'d, 'a>(
     definitions: &'d Definitions<'a>,
-    place: Place,
+    place: TextKind,
     seats: &Seats<'a>,
     entry: &'a Entry,
 ) -> Row<'d, 'a>
@@ -243,7 +243,7 @@ fn shot_row<'d, 'a>(
 
 /// That of an entry that is neither a shot nor a group.
 fn other_row<'d, 'a>(
-    place: Place,
+    place: TextKind,
     seats: &Seats<'a>,
     section: EntrySection<'a>,
     entry: &'a Entry,
@@ -251,7 +251,7 @@ fn other_row<'d, 'a>(
     ensures { row_view result ≡ row_of_other place seats.now section.entry.name.now entry.now }
 {
     match place {
-        Place::Machine if section.has_ball_devices => ball_device_row(seats, entry),
+        TextKind::Machine if section.has_ball_devices => ball_device_row(seats, entry),
         _ => Row::Entry(place, section.name, entry),
     }
 }

@@ -6,7 +6,7 @@
 ghost use Rattle.std.specs.Prelude.{◌≡◌, IfOk, OnOk};
 ghost use Rattle.machine_definitions.specs.Found.{is_found, GainsNames};
 ghost use Rattle.yaml_subset.specs.Keys.{is_among};
-ghost use Rattle.plan_rows.specs.declared.place.Place.{Place};
+ghost use Rattle.mpf_tables.specs.declared.tables.TextKind.{TextKind};
 ghost use Rattle.plan_rows.specs.Seats.{row_sections, has_row, rows_after, rows_after_all, entry_seats, entry_ball_row};
 ghost use Rattle.plan_rows.specs.Seats.{row_or_unknown};
 ghost use Rattle.plan_rows.specs.View.{found_row, found_destination};
@@ -16,7 +16,6 @@ ghost use Rattle.plan_rows.specs.Gained.{named_entries, named_entry, rows_after_
 ghost use Rattle.plan_rows.specs.Gained.{devices_given, seats_given};
 
 use crate::destination::Destination;
-use crate::place::Place;
 use indexmap::{IndexMap, IndexSet};
 use machine_definitions::by_name::{ByName, Names};
 use mpf_config::{
@@ -24,6 +23,7 @@ use mpf_config::{
     PLAYFIELD, SEQUENCES_NAME, SHOT_GROUPS_NAME, SHOTS_NAME, Section, TIMERS_NAME, as_shot_group,
 };
 use mpf_sections::coil_rules::COIL_RULE_SECTIONS;
+use mpf_tables::TextKind;
 use section_tables::is_one_of;
 use std::alloc::{AllocError, Global};
 use yaml_subset::keys::KeyHashing;
@@ -93,7 +93,7 @@ const ROW_SECTIONS: [&[u8]; 8] = [
 pub(crate) fn seats_of<'a>(
     alloc: Global,
     hashing: KeyHashing,
-    place: Place,
+    place: TextKind,
     before: usize,
     sections: &'a [Section],
 ) -> Result<(Seats<'a>, usize), AllocError>
@@ -113,7 +113,7 @@ pub(crate) fn seats_of<'a>(
 /// comes after them.
 fn add_sections<'a>(
     seats: &mut Seats<'a>,
-    place: Place,
+    place: TextKind,
     group_shots: &Names<'a>,
     before: usize,
     sections: &'a [Section],
@@ -136,7 +136,7 @@ fn add_sections<'a>(
 /// next one.
 fn add_section<'a>(
     seats: &mut Seats<'a>,
-    place: Place,
+    place: TextKind,
     group_shots: &Names<'a>,
     before: usize,
     section: &'a Section,
@@ -218,7 +218,7 @@ fn add_seats<'a>(
     Ok(())
 }
 
-/// How many rows come before what comes after this entry, if so many come before it, and `rowed` says whether
+/// How many rows come before what comes after this entry, if so many come before it, and `takes_rows` says whether
 /// other entries than shots have rows in its section. No memory holds so many entries that they cannot be counted.
 fn rows_after(
     takes_rows: bool,
@@ -227,7 +227,7 @@ fn rows_after(
     section: &[u8],
     entry: &Entry,
 ) -> Result<usize, AllocError>
-    ensures { IfOk result (λ rows. (place : Place) → takes_rows ≡ is_among (row_sections place) section.now
+    ensures { IfOk result (λ rows. (place : TextKind) → takes_rows ≡ is_among (row_sections place) section.now
         → rows ≡ rows_after place (is_found group_shots.now) before (named_entry section.now entry.now)) }
 {
     if has_row(takes_rows, group_shots, section, entry) {
@@ -236,10 +236,10 @@ fn rows_after(
     Ok(before)
 }
 
-/// Whether an entry has a row, if these shots are in groups of its text, and `rowed` says whether other entries
+/// Whether an entry has a row, if these shots are in groups of its text, and `takes_rows` says whether other entries
 /// than shots have rows in its section.
 fn has_row(takes_rows: bool, group_shots: &Names<'_>, section: &[u8], entry: &Entry) -> bool
-    ensures { (place : Place) → takes_rows ≡ is_among (row_sections place) section.now
+    ensures { (place : TextKind) → takes_rows ≡ is_among (row_sections place) section.now
         → result ≡ has_row place (is_found group_shots.now) (named_entry section.now entry.now) }
 {
     if section == SHOTS_NAME {
@@ -249,14 +249,14 @@ fn has_row(takes_rows: bool, group_shots: &Names<'_>, section: &[u8], entry: &En
 }
 
 /// Whether the entries of a section of this name have rows, if it is not that of shots.
-fn is_rowed(place: Place, section: &[u8]) -> bool
+fn is_rowed(place: TextKind, section: &[u8]) -> bool
     ensures { result ≡ is_among (row_sections place) section.now }
 {
     match place {
-        Place::Machine => {
+        TextKind::Machine => {
             is_one_of(&COIL_RULE_SECTIONS, section) || is_one_of(&ROW_SECTIONS, section)
         }
-        Place::Control | Place::Mode => is_one_of(&ROW_SECTIONS[1..], section),
+        TextKind::Mode => is_one_of(&ROW_SECTIONS[1..], section),
     }
 }
 

@@ -3,4 +3,4 @@
 
 pub mod row_device;
 
-pub use row_device::{RowDevice, device_of, devices_of};
+pub use row_device::{RowDevice, device_of};

@@ -1,7 +1,6 @@
 //! One type for the devices of all kinds.
 
-ghost use Rattle.std.specs.Prelude.{◌≡◌, ◌↔◌, IsSome, IfSome, IfOk, map};
-ghost use Rattle.std.specs.List.{All};
+ghost use Rattle.std.specs.Prelude.{◌≡◌, ◌↔◌, IsSome, IfSome};
 ghost use Rattle.device_objects.specs.DeviceStep.{first_state};
 ghost use Rattle.row_devices.specs.Kinds.{HasDevice};
 
@@ -11,7 +10,6 @@ use device_objects::{Device, DeviceState, Outcome, World};
 use logic_blocks::{Counter, MaskAccrual, Sequence, Timer};
 use plan_tables::{Act, DeviceRow, Settings};
 use shot_groups::MaskBank;
-use std::alloc::{AllocError, Global};
 
 /// A device of any kind.
 #[derive(Drop)]
@@ -47,27 +45,6 @@ pub fn device_of(row: &DeviceRow) -> Option<RowDevice>
         Settings::BallSave(_) => Some(RowDevice::BallSave(BallSave::new(row)?)),
         Settings::Multiball(_) => Some(RowDevice::Multiball(Multiball::new(row)?)),
     }
-}
-
-/// The devices of these rows, in their order, each in its first state. It promises nothing if a row is
-/// of a bank above the limits, which no plan has.
-///
-/// # Errors
-///
-/// `AllocError`: memory ran out.
-pub fn devices_of(alloc: Global, rows: &[DeviceRow]) -> Result<Vec<RowDevice>, AllocError>
-    ensures rows { IfOk result (λ devices. All (λ row. HasDevice row.settings) rows.now
-        → map ⟦<RowDevice as Device>⟧.row_of devices.items ≡ rows.now) }
-    ensures first { IfOk result (λ devices. All (λ row. HasDevice row.settings) rows.now
-        → map ⟦<RowDevice as Device>⟧.state_of devices.items ≡ map (λ row. first_state row.settings) rows.now) }
-{
-    let mut devices = Vec::with_capacity(alloc, rows.len())?;
-    for row in rows {
-        if let Some(device) = device_of(row) {
-            devices.push(device)?;
-        }
-    }
-    Ok(devices)
 }
 
 // What is asked of a device of any kind.

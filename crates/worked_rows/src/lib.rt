@@ -14,6 +14,7 @@ mod row;
 mod shot_plays;
 mod sink;
 mod source;
+mod stream_plays;
 mod switch_plays;
 mod texts;
 mod walks;
@@ -28,12 +29,13 @@ pub use row::{Answers, Row, answered, written, wrong_rows};
 use shot_plays::SHOT_PLAYS;
 pub use sink::Sink;
 pub use source::Source;
+pub use stream_plays::STREAM_PLAYS;
 use switch_plays::SWITCH_PLAYS;
 pub use texts::named;
 pub use walks::wrong_walks;
 
 /// All tables of logs that are played. A test of every row goes over this list, so that it also tries a new row.
-pub const PLAYS: [&str; 12] = [
+pub const PLAYS: [&str; 13] = [
     SWITCH_PLAYS,
     MODE_PLAYS,
     BLOCK_PLAYS,
@@ -46,4 +48,5 @@ pub const PLAYS: [&str; 12] = [
     BALL_PLAYS,
     SAVE_PLAYS,
     THREE_MACHINES_PLAY,
+    STREAM_PLAYS,
 ];

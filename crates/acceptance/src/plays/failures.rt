@@ -1,6 +1,7 @@
 //! Readers and writers that fail, and readers that never end.
 
 use crate::plays::row::{assert_rows, assert_walks};
+use worked_rows::STREAM_PLAYS;
 
 // A reader and a writer that fail.
 const FAILING: &str = "
@@ -53,50 +54,6 @@ const ENDLESS: &str = "
 => Yes
 ";
 
-// Texts that are read and answers that are written by slow and failing ones.
-const WALKED: &str = "
-=== refused line, and a coil that is put off
---- play
-@ config/config.yaml
-#config_version=6
-switches:
-  s: {debounce: quick}
-coils:
-  c: {allow_enable: yes}
-coil_player:
-  s_active: {c: enable}
---- log
-5 s 1
-x
-=> Refused
-5 machine switch s active
-5 machine event s_active
-5 machine coil c enable 1000
-refused 2 8 BadLine
-5 machine off c
-
-=== nothing to write
---- play
-@ config/config.yaml
-#config_version=6
---- log
-5
-=> Yes
-
-=== nothing is played
-The log is not read.
---- play
-@ config/config.yaml
-#config_version=6
-event_player:
-  a: a
---- log
-5
-=> Refused
-fault 8 Cycle a
-no
-";
-
 #[test]
 fn readers_and_writers_fail(rt: HostRuntime) {
     assert_rows(&rt, FAILING);
@@ -104,7 +61,7 @@ fn readers_and_writers_fail(rt: HostRuntime) {
 
 #[test]
 fn each_read_and_write_fails(rt: HostRuntime) {
-    assert_walks(&rt, WALKED);
+    assert_walks(&rt, STREAM_PLAYS);
 }
 
 #[test]

@@ -6,7 +6,7 @@ use coil_guard::{Board, FuseBoard, MemoryBoard, SharedCommands};
 use config_checker::Checked;
 use pinball_shell::{ShellFault, Verdict, play_text};
 use plan_tables::DeviceRow;
-use row_devices::{RowDevice, devices_of};
+use row_devices::{RowDevice, device_of};
 use std::alloc::Global;
 use std::cell::RefCell;
 use std::rc::Rc;
@@ -21,7 +21,7 @@ pub(crate) fn play_log(
     log: &mut Source<'_>,
     sink: &mut Sink,
 ) {
-    let devices = devices_for(pen, checked.plan().rows());
+    let devices = devices_of(pen, checked.plan().rows());
     match board.trim_ascii().split_once(' ') {
         None => play(pen, checked, devices, is_live, log, sink),
         Some((word, number)) => {
@@ -38,15 +38,15 @@ pub(crate) fn play_log(
     }
 }
 
-/// A device for each row. If memory runs out, there is none, and what is written is lost.
-fn devices_for(pen: &mut Pen, rows: &[DeviceRow]) -> Vec<RowDevice> {
-    match devices_of(pen.alloc, rows) {
-        Ok(devices) => devices,
-        Err(_) => {
-            pen.is_lost = true;
-            Vec::new(pen.alloc)
+/// A device for each row. If memory runs out, some are missing, and what is written is lost.
+fn devices_of(pen: &mut Pen, rows: &[DeviceRow]) -> Vec<RowDevice> {
+    let mut devices = Vec::new(pen.alloc);
+    for row in rows {
+        if let Some(device) = device_of(row) {
+            pen.is_lost |= devices.push(device).is_err();
         }
     }
+    devices
 }
 
 /// Plays a log on a board in memory.
