@@ -1,5 +1,5 @@
 -- What holds of the device of a coil rule, and so of each device of the machine text that is no ball device.
-use Rattle.std.proofs.Common.{rules, ◌≡◌, ℕ, ◌≤◌, List, [], length}
+use Rattle.std.proofs.Common.{rules, ◌≡◌, ℕ, ◌≤◌, List, length}
 use Rattle.std.{proofs.lemmas.List.Elements.{All-nil, All-cons}, specs.{Prelude.{Option, None, Some, IfSome}, List.All}}
 use Rattle.mpf_sections.specs.declared.coil_rules.RuleKind.{RuleKind}
 use Rattle.mpf_sections.specs.{Rows.{WrittenName, Entry, SectionRows}, Named.{IsName, IsNamedEntry}, Short.IsShortEntry}
