@@ -2,7 +2,7 @@
 -- profiles and ball devices of which they speak are defined; the balls of each ball device come to the playfield; and
 -- each ball switch is of one ball device, once. Here `machine` is the sections of the machine text.
 use Rattle.std.specs.Prelude.{◌≡◌, ◌≢◌, ℕ, ◌≤◌, true, false, ◌||◌, Some, IfSome, IsSome, is_some, List, unwrap_or}
-use Rattle.std.specs.{List.{All, AllPairs, flat_map}}
+use Rattle.std.specs.List.{All, AllPairs, flat_map}
 use Rattle.mpf_sections.specs.declared.words.CoilAction.{CoilAction, TheVariants.{Pulse, Enable, Disable}}
 use Rattle.mpf_sections.specs.Rows.{Coil, CoilItem, CoilPlayer, VariableItem, Shot, ShotGroup, BallDeviceEntry}
 use Rattle.mpf_sections.specs.{Rows.SectionRows, TypedBalls.{is_trough, ball_devices_in}}
