@@ -7,9 +7,8 @@ use Rattle.std.specs.Prelude.{Option, Some, None, IfSome, is_some}
 use Rattle.std.proofs.lemmas.{List.{get_or_append_left, Elements.All-from_recursion}, Bool.or_parts}
 use Rattle.std.specs.{Str.bytes_eq, List.{All, AllPairs, flat_map, list_any}}
 use Rattle.std.proofs.lemmas.List.Elements.{All-nil, All-cons, All-append, All-map, All-weaker, All-from_get_or}
-use Rattle.mpf_sections.specs.declared.coil_rules.RuleKind.{RuleKind}
+use Rattle.mpf_sections.specs.{declared.coil_rules.RuleKind.RuleKind, Rows.{ShotGroup, BallDeviceEntry, SectionRows}}
 use Rattle.mpf_sections.specs.Rows.{WrittenName, Entry, Switch, CoilPlayer, VariablePlayer, BlockEvents, Shot}
-use Rattle.mpf_sections.specs.Rows.{ShotGroup, BallDeviceEntry, SectionRows}
 use Rattle.mpf_sections.specs.{TypedGame.variable_players_in, Typed.{accruals_in, sequences_in}}
 use Rattle.mpf_sections.specs.{CoilRules.{CoilRule, coil_rule_of}, TypedShots.{shots_in, shot_groups_in}}
 use Rattle.mpf_sections.specs.{TypedBalls.ball_devices_in, TypedCoils.coil_players_in}
@@ -35,10 +34,10 @@ use Rattle.plan_rows.specs.Members.{members_of}
 use Rattle.plan_parts.specs.Doing.{IsSwitchDoing, IsPlayerDoing, IsEntryDoing, IsCoilPlayerDoing, IsVariablePlayerDoing}
 use Rattle.plan_parts.specs.Doing.{IsShotDoing, IsShotGroupDoing, has_target, IsBallDeviceDoing, IsDoing}
 use Rattle.row_faults.specs.Reserved.{is_reserved, switch_posts, player_posts, counter_posts, step_posts, posts_in}
-use Rattle.row_faults.specs.{Reserved.posts_of, BallFaults.is_place}
+use Rattle.row_faults.specs.{Reserved.posts_of, BallFaults.is_place, Routes.switch_names}
 use Rattle.row_faults.specs.Sound.{ChangesNothingBarred, IsChangeFree, IsItemSound, IsCoilSound, IsCoilSuch}
 use Rattle.row_faults.specs.Sound.{IsHoldWithin, IsCoilPlayerSound, IsCoilRuleSound, IsShotSound, IsShotGroupSound}
-use Rattle.row_faults.specs.{Sound.{IsBallDeviceSound, IsSectionSound, IsSound}, Routes.switch_names}
+use Rattle.row_faults.specs.Sound.{IsBallDeviceSound, IsSectionSound, IsSound}
 use Rattle.row_faults.proofs.AsWritten.{switch-posts, counter-posts, step-posts}
 use Rattle.config_checker.proofs.FreeNames.{active-free, inactive-free, tag-free, block-free, timer-free, ball-free}
 use Rattle.config_checker.proofs.FreeNames.{save-free, multiball-free, shot-free, group_hit-free, group_complete-free}

@@ -1,17 +1,16 @@
 -- What holds of coils, coil players and coil rules, by the names of their settings: their names are names, and their
 -- settings are in their ranges.
-use Rattle.std.proofs.Common.{rules, ◌≡◌, ℕ, ◌≤◌, Bool, true, false, ◌||◌, List, [], ◌∷◌, map, length, Option, None, Some}
-use Rattle.std.proofs.{Common.{IfSome, is_some, unwrap_or, slice_get, refl, arith}, lemmas.List.length-map}
+use Rattle.std.proofs.Common.{rules, ◌≡◌, ℕ, ◌≤◌, Bool, true, false, ◌||◌, List, [], ◌∷◌, map, length, Option, Some}
+use Rattle.std.proofs.{Common.{None, IfSome, is_some, unwrap_or, slice_get, refl, arith}, lemmas.List.length-map}
 use Rattle.std.specs.{List.{All, list_any}, Prelude.{if◌then◌else◌, option_map}, Str.bytes_eq}
 use Rattle.mpf_tables.specs.SectionTables.{named_in}
 use Rattle.mpf_values.specs.Names.{IsName}
 use Rattle.setting_values.specs.Values.{Plain, KeyedValues, Value}
 use Rattle.section_tables.specs.{Rows.{Entry, PlayerEntry}, Named.{IsNamedEntry, IsNamedPlayer, IsShortPlayer}}
-use Rattle.mpf_sections.specs.{Rows.{WrittenName, SectionRows}, Short.IsCoilPlayerInRange}
+use Rattle.mpf_sections.specs.{Rows.{WrittenName, SectionRows}, declared.coil_rules.RuleForm.RuleForm}
+use Rattle.mpf_sections.specs.{Short.IsCoilPlayerInRange, CoilRules.IsNamedCoilRule}
 use Rattle.mpf_sections.specs.Typed.{text_of, listed_keyed, name_in, pulse_in, power_in, entries_of, players_of}
-use Rattle.mpf_sections.specs.declared.coil_rules.RuleForm.{RuleForm}
 use Rattle.mpf_sections.specs.CoilRules.{coil_rules, coil_rule_sections, name_at, switch_at, rule_by, coil_rule_of}
-use Rattle.mpf_sections.specs.CoilRules.{IsNamedCoilRule}
 use Rattle.mpf_sections.specs.TypedCoils.{coils_name, coil_player_name, max_hold_power, coil_of, coil_item_of}
 use Rattle.mpf_sections.specs.TypedCoils.{coil_player_of, needed_at, coils_in, coil_players_in}
 use Rattle.mpf_sections.specs.Named.{IsNamedCoil, IsNamedCoilPlayer}

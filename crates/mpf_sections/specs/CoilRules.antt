@@ -9,8 +9,9 @@ use Rattle.mpf_tables.specs.SectionTables.{named_in, flippers_name, autofire_coi
 use Rattle.mpf_sections.specs.declared.coil_rules.{RuleForm.RuleForm, RuleKind.TheVariants.{Flipper, Autofire}}
 use Rattle.mpf_sections.specs.declared.coil_rules.CoilRule as typed_coil_rules
 use Rattle.mpf_sections.specs.Rows.{WrittenName, HandledEvent, SectionRows}
-use Rattle.mpf_sections.specs.{View.{name_view, name_at_view, handler_view}, Named.{IsName, AllNamedEvents}}
-use Rattle.mpf_sections.specs.{Typed.{text_of, listed_events, name_in, place_of, entries_in}, TypedCoils.needed_at}
+use Rattle.mpf_sections.specs.View.{name_view, name_at_view, handler_view}
+use Rattle.mpf_sections.specs.{Named.{IsName, AllNamedEvents}, TypedCoils.needed_at}
+use Rattle.mpf_sections.specs.Typed.{text_of, listed_events, name_in, place_of, entries_in}
 
 -- A coil rule, by the names of its settings: its coil, the coil that it may hold, the switch at which it acts, if its
 -- section has these settings, and the events that enable and disable it.

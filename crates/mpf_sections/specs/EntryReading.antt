@@ -12,8 +12,8 @@ use Rattle.mpf_sections.specs.declared.section.Content as contents
 use Rattle.mpf_sections.specs.declared.{section.Section.Section, typed.{NameAt.NameAt, HandledAt.HandledAt}}
 use Rattle.mpf_sections.specs.declared.blocks.BlockEvents as typed_blocks
 use Rattle.machine_settings.specs.declared.settings.BlockSettings.{BlockSettings}
-use Rattle.mpf_sections.specs.{Rows.BlockEvents, Typed.{ball_ending, content_named}}
-use Rattle.mpf_sections.specs.{TypedShots.few, View.{plain_option_view, block_view}}
+use Rattle.mpf_sections.specs.{Rows.BlockEvents, Typed.{ball_ending, content_named}, TypedShots.few}
+use Rattle.mpf_sections.specs.View.{plain_option_view, block_view}
 use Rattle.mpf_sections.specs.Typed.{text_of, flag_of, listed_names, listed_events, listed_posts, listed_steps}
 use Rattle.mpf_sections.specs.Typed.{listed_maps, listed_keyed, name_in, handled_in, event_in, pulse_in, power_in}
 use Rattle.mpf_sections.specs.View.{name_view, handler_view, step_view, plain_view, fields_view, keyed_view}

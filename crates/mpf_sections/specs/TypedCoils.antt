@@ -7,8 +7,7 @@ use Rattle.section_tables.specs.Rows.{Entry, PlayerEntry}
 use Rattle.mpf_tables.specs.SectionTables as tables
 pub use Rattle.mpf_tables.specs.SectionTables.{coils_name, coil_player_name}
 use Rattle.mpf_sections.specs.Typed.{setting_of, field_of, text_of, flag_of, listed_keyed, handled_in, name_in, word_in}
-use Rattle.mpf_sections.specs.Typed.{pulse_in, power_in, entries_of, players_of}
-use Rattle.mpf_sections.specs.TypedNumbers.{time_setting}
+use Rattle.mpf_sections.specs.{Typed.{pulse_in, power_in, entries_of, players_of}, TypedNumbers.time_setting}
 use Rattle.mpf_sections.specs.Rows.{WrittenName, Coil, CoilItem, CoilPlayer, SectionRows}
 
 -- ---- `coils`

@@ -28,16 +28,16 @@ use Rattle.mpf_sections.specs.declared.saves.BallSaveEntry as typed_saves
 use Rattle.mpf_sections.specs.declared.saves.MultiballEntry as typed_multiballs
 use Rattle.mpf_sections.specs.Typed.{switch_of, event_player_of, mode_settings_of, mode_settings, listed_modes}
 use Rattle.mpf_sections.specs.Typed.{counter_of, step_block_of, control_of, timer_of, entries_in, players_in}
-use Rattle.mpf_sections.specs.{Typed.{entries_of, players_of}, TypedSaves.{ball_save_of, multiball_of}}
+use Rattle.mpf_sections.specs.{Typed.{entries_of, players_of}, TypedBalls.ball_device_of}
+use Rattle.mpf_sections.specs.TypedSaves.{ball_save_of, multiball_of}
 use Rattle.mpf_sections.specs.TypedCoils.{coil_of, coil_item_of, coil_player_of, needed_at}
 use Rattle.mpf_sections.specs.TypedGame.{variable_item_of, variable_player_of, game_of, min_balls_of}
 use Rattle.mpf_sections.specs.TypedShots.{shot_of, shot_group_of, state_of, shot_profile_of}
-use Rattle.mpf_sections.specs.{TypedBalls.ball_device_of, View.multiball_view}
+use Rattle.mpf_sections.specs.View.{multiball_view, variable_player_view, game_view, shot_view}
 use Rattle.mpf_sections.specs.View.{name_view, handler_view, fields_view, keyed_view, entry_view, player_view}
 use Rattle.mpf_sections.specs.View.{content_view, section_view, name_at_view, handled_at_view, switch_view}
 use Rattle.mpf_sections.specs.View.{event_player_view, mode_settings_view, counter_view, step_block_view, control_view}
 use Rattle.mpf_sections.specs.View.{timer_view, coil_view, coil_item_view, coil_player_view, variable_item_view}
-use Rattle.mpf_sections.specs.View.{variable_player_view, game_view, shot_view}
 use Rattle.mpf_sections.specs.View.{shot_group_view, shot_profile_view, ball_device_view, ball_save_view}
 
 -- ---- switches, and what events do

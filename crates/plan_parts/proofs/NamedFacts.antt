@@ -20,9 +20,8 @@ use Rattle.plan_tables.specs.declared.devices.Settings.{Settings}
 use Rattle.plan_tables.specs.declared.devices.Settings.TheVariants as kinds
 use Rattle.plan_rows.specs.{declared.destination.Destination.Destination, Members.Members}
 use Rattle.plan_parts.specs.Effects.{Effect, posts, works, leaves, loses, arrives}
-use Rattle.plan_parts.specs.CoilEntries.{defaults_called, own_pulse}
+use Rattle.plan_parts.specs.{CoilEntries.{defaults_called, own_pulse}, BallEntries.{drain_mentions, ball_device_from}}
 use Rattle.plan_parts.specs.BallEntries.{drains, ball_event, ball_endings, eject_pulse, attempt_effects}
-use Rattle.plan_parts.specs.BallEntries.{drain_mentions, ball_device_from}
 use Rattle.plan_parts.specs.ShotEntries.{shot_events, group_events, shot_acts, lone_device, group_device}
 use Rattle.plan_parts.specs.SaveEntries.{save_device, multiball_device, save_device_of}
 use Rattle.plan_parts.specs.DeviceEntries.{Device, texts, always, acts, block_acts, block_mentions, device_of}

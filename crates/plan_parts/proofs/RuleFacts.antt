@@ -1,17 +1,16 @@
 -- What holds of the device of a coil rule, and so of each device of the machine text that is no ball device.
-use Rattle.std.proofs.Common.{rules, ◌≡◌, ℕ, ◌≤◌, List, length}
-use Rattle.std.{proofs.lemmas.List.Elements.{All-nil, All-cons}, specs.{Prelude.{Option, None, Some, IfSome}, List.All}}
-use Rattle.mpf_sections.specs.declared.coil_rules.RuleKind.{RuleKind}
-use Rattle.mpf_sections.specs.{Rows.{WrittenName, Entry, SectionRows}, Named.{IsName, IsNamedEntry}, Short.IsShortEntry}
-use Rattle.mpf_sections.{specs.CoilRules.{CoilRule, coil_rule_of, IsNamedCoilRule}, proofs.CoilRows.coil_rule_named}
+use Rattle.std.proofs.{Common.{rules, ◌≡◌, ℕ, ◌≤◌, List, length}, lemmas.List.Elements.{All-nil, All-cons}}
+use Rattle.std.specs.{Prelude.{Option, None, Some, IfSome}, List.All}
+use Rattle.mpf_sections.specs.{declared.coil_rules.RuleKind.RuleKind, Rows.{WrittenName, Entry, SectionRows}}
+use Rattle.mpf_sections.{specs.{Named.{IsName, IsNamedEntry}, Short.IsShortEntry}, proofs.CoilRows.coil_rule_named}
+use Rattle.mpf_sections.specs.CoilRules.{CoilRule, coil_rule_of, IsNamedCoilRule}
 use Rattle.plan_tables.specs.{Devices.{IsWithinLimits, list_count}, BallRows.IsNoBallDevice}
 use Rattle.plan_parts.specs.{Effects.{disable, Effect, works}, Devices.Device, PartBounds.IsFew}
 use Rattle.plan_parts.specs.{DeviceEntries.device_of, Parts.{Whose, first_of, machine_device}, PartBalls.IsOfNoBall}
 use Rattle.plan_parts.specs.CoilEntries.{defaults_called, own_pulse, own_hold, rule_lists, rule_settings}
 use Rattle.plan_parts.specs.CoilEntries.{named_switches, coil_rule_device, rule_device_of}
-use Rattle.plan_parts.specs.PartNames.{IsOfNames, IsFitEffect, IsFitDevice}
+use Rattle.plan_parts.{specs.PartNames.{IsOfNames, IsFitEffect, IsFitDevice}, proofs.NamedFacts.{device_fit, fit_rule}}
 use Rattle.plan_parts.proofs.DeviceFacts.{IsPlain, IsSound, IsShared, any_written, device_shared}
-use Rattle.plan_parts.proofs.NamedFacts.{device_fit, fit_rule}
 
 -- ---- coil rules
 

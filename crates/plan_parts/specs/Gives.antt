@@ -41,8 +41,9 @@ use Rattle.plan_parts.specs.DeviceEntries.{Device, texts, block_acts, block_ment
 use Rattle.plan_parts.specs.DeviceEntries.{step_settings, step_device, timer_device, device_of}
 use Rattle.plan_parts.specs.BallEntries.{ball_settings, is_known, ball_device_from}
 use Rattle.plan_parts.specs.SaveEntries.{save_device, multiball_device, save_device_of}
-use Rattle.plan_parts.specs.{CoilEntries.{Defaults, item_effect, coil_rule_device}, Parts.{player_parts, handler, run}}
-use Rattle.plan_parts.specs.{ShotEntries.{group_device, lone_device}, Effects.posts, VariableEntries.item_change}
+use Rattle.plan_parts.specs.CoilEntries.{Defaults, item_effect, coil_rule_device}
+use Rattle.plan_parts.specs.{Parts.{player_parts, handler, run}, ShotEntries.{group_device, lone_device}}
+use Rattle.plan_parts.specs.{Effects.posts, VariableEntries.item_change}
 use Rattle.plan_parts.specs.Parts.{Whose, Part, device, where_some, unknown_unless, with_seat, mention, switch_part}
 use Rattle.plan_parts.specs.Parts.{coil_part, game_part, mode_parts, machine_entry_parts, entry_parts, alone_parts}
 use Rattle.plan_parts.specs.RowViews.{AreNoParts, acts_view, bytes_view, names_view, parts_in}

@@ -5,9 +5,9 @@ use Rattle.std.specs.{Option.is_none, List.{All, flat_map}}
 use Rattle.std.proofs.lemmas.{Bool.{ltb-false, not-false, or_parts}, List.Elements.{All-nil, All-cons, All-weaker}}
 use Rattle.mpf_tables.specs.SectionTables as tables
 use Rattle.mpf_sections.specs.Rows.{WrittenName, Coil, CoilItem, CoilPlayer, VariablePlayer, Shot, ShotGroup}
-use Rattle.mpf_sections.specs.Rows.{BallDeviceEntry, SectionRows}
+use Rattle.mpf_sections.specs.{Rows.{BallDeviceEntry, SectionRows}, TypedShots.{shots_in, shot_groups_in}}
 use Rattle.mpf_sections.specs.{Typed.{entries_in, timers_in}, TypedBalls.ball_devices_in}
-use Rattle.mpf_sections.specs.{TypedCoils.{coils_in, coil_players_in}, TypedShots.{shots_in, shot_groups_in}}
+use Rattle.mpf_sections.specs.TypedCoils.{coils_in, coil_players_in}
 use Rattle.mpf_sections.specs.{CoilRules.{CoilRule, coil_rule_of}, TypedGame.variable_players_in}
 use Rattle.row_faults.specs.VariableFaults.{is_barred, variable_player_faults, variable_faults}
 use Rattle.mpf_sections.specs.Short.{IsCoilInRange, IsItemInRange, IsCoilPlayerInRange}
@@ -15,8 +15,8 @@ use Rattle.mpf_sections.proofs.CoilRows.{coils_in_range, coil_players_in_range}
 use Rattle.mpf_config.specs.{Rows.{ModeRows, Rows}, BundleText.{machine_name, mode_text_name}}
 use Rattle.machine_definitions.specs.Definitions.{coil_called, has_switch, ball_devices_of}
 use Rattle.machine_definitions.{specs.Shots.{shot_called, has_profile}, proofs.Called.called-such}
-use Rattle.row_faults.specs.{FaultView.RowFaultView, CoilFaults.{named_switch_faults, rule_faults}}
-use Rattle.row_faults.specs.declared.fault.RowFaultKind.TheVariants.{Name}
+use Rattle.row_faults.specs.{FaultView.RowFaultView, declared.fault.RowFaultKind.TheVariants.Name}
+use Rattle.row_faults.specs.CoilFaults.{named_switch_faults, rule_faults}
 use Rattle.row_faults.specs.Reserved.{events_of_modes, mode_names, is_reserved_by, posts_in, posts_of, reserved_among}
 use Rattle.row_faults.specs.CoilFaults.{fault_if, coil_name_faults, switch_name_faults, coil_faults, item_faults_by}
 use Rattle.row_faults.specs.CoilFaults.{item_faults, coil_player_faults, hold_faults_by, hold_faults, coil_rule_faults}
@@ -30,8 +30,8 @@ use Rattle.row_faults.specs.Sound.{ChangesNothingBarred, IsHoldWithin, IsCoilSou
 use Rattle.row_faults.specs.Sound.{IsCoilPlayerSound, IsCoilRuleSound, IsShotSound}
 use Rattle.row_faults.specs.Sound.{IsShotGroupSound, IsBallDeviceSound, IsSectionSound, IsSound}
 use Rattle.row_faults.proofs.None.{fault_if-none, map-none, append-none, flat_map-none, filter-none, ordered-none}
-use Rattle.row_faults.proofs.{None.once-none, AsWritten.{order-none, written-none}}
-use Rattle.row_faults.proofs.{Called.{machine-called, mode-called}, Routed.route_faults-none}
+use Rattle.row_faults.proofs.{None.once-none, Routed.route_faults-none}
+use Rattle.row_faults.proofs.{AsWritten.{order-none, written-none}, Called.{machine-called, mode-called}}
 use Rattle.yaml_bytes.proofs.Each.{or_else, All-flat_map, All-from_flat_map, All-from_map}
 
 -- ---- settings

@@ -15,18 +15,19 @@ use Rattle.mpf_sections.specs.declared.balls.BallDeviceEntry as typed_balls
 use Rattle.mpf_sections.specs.declared.game.VariableItem as typed_variable_items
 use Rattle.mpf_sections.specs.declared.shots.Shot as typed_shots
 use Rattle.mpf_sections.specs.declared.shots.ShotGroup as typed_groups
-use Rattle.mpf_sections.specs.{Rows.{WrittenName, BallDeviceEntry, ShotGroup}, TypedGame.variable_item_of}
+use Rattle.mpf_sections.specs.{Rows.{WrittenName, BallDeviceEntry, ShotGroup}, CoilRules.{coil_rule_of, coil_rule_view}}
+use Rattle.mpf_sections.specs.{TypedGame.variable_item_of, TypedBalls.ball_devices_in}
 use Rattle.mpf_sections.specs.TypedShots.{shot_of, shots_in, shot_groups_in}
 use Rattle.mpf_sections.specs.Typed.{step_block_of, entries_in, switches_in, event_players_in, counters_in, timers_in}
 use Rattle.mpf_sections.specs.TypedCoils.{coils_in, coil_item_of, coil_players_in}
-use Rattle.mpf_sections.specs.{CoilRules.{coil_rule_of, coil_rule_view}, TypedBalls.ball_devices_in}
 use Rattle.mpf_sections.specs.View.{name_view, name_at_view, entry_view, keyed_view, content_view, section_view}
 use Rattle.mpf_sections.specs.View.{coil_view, coil_item_view, ball_device_view}
 use Rattle.mpf_sections.specs.View.{variable_item_view, shot_view, shot_group_view}
 use Rattle.mpf_config.specs.{declared.config.ModeText.ModeText, Rows.Rows, View.mode_view}
 use Rattle.machine_definitions.specs.{Definitions.ball_devices_of, Found.{is_found, section_rows}}
 use Rattle.row_faults.specs.declared.fault.{RowFault.RowFault, RowFaultKind.RowFaultKind}
-use Rattle.row_faults.specs.{declared.as_written.NamedThing.NamedThing, FaultView.RowFaultView, Named.named_faults}
+use Rattle.row_faults.specs.{declared.as_written.NamedThing.NamedThing, RowFaults.{text_faults, mode_faults}}
+use Rattle.row_faults.specs.{FaultView.RowFaultView, Named.named_faults, CoilFaults.{named_switch_faults, rule_faults}}
 use Rattle.row_faults.specs.declared.fault.RowFaultKind.TheVariants.{Name as a_name, PulseLimit, PowerLimit}
 use Rattle.row_faults.specs.declared.fault.RowFaultKind.TheVariants.{HoldNotAllowed, TimerAtEnd, BallRoute}
 use Rattle.row_faults.specs.{FaultText.row_fault_line, AsWritten.{ordered_by, in_order}}
@@ -34,7 +35,6 @@ use Rattle.row_faults.specs.Reserved.{events_of_modes, switch_posts, player_post
 use Rattle.row_faults.specs.VariableFaults.{variable_item_faults, variable_faults}
 use Rattle.row_faults.specs.CoilFaults.{fault_if, coil_name_faults, switch_name_faults, coil_faults, item_faults_by}
 use Rattle.row_faults.specs.CoilFaults.{item_faults, coil_player_faults, hold_faults_by, hold_faults, coil_rule_faults}
-use Rattle.row_faults.specs.{CoilFaults.{named_switch_faults, rule_faults}, RowFaults.{text_faults, mode_faults}}
 use Rattle.row_faults.specs.ShotFaults.{profile_faults, shot_faults, ListedShot, listed_with}
 use Rattle.row_faults.specs.ShotFaults.{listed_by, listed_in, listed_of, is_own_shot, is_misplaced, taken_after}
 use Rattle.row_faults.specs.BallFaults.{eject_coil_faults, target_faults, ball_device_faults, route_faults}

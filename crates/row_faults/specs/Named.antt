@@ -2,10 +2,10 @@
 use Rattle.std.specs.{Prelude.{ℕ, List, map, option_map}, List.flat_map}
 use Rattle.mpf_sections.specs.View.{name_view, name_at_view}
 use Rattle.mpf_config.specs.Rows.{Rows}
-use Rattle.row_faults.specs.{declared.as_written.NamedThing.NamedThing, FaultView.RowFaultView}
+use Rattle.row_faults.specs.{declared.as_written.NamedThing.NamedThing, BallFaults.{eject_coil_faults, target_faults}}
+use Rattle.row_faults.specs.{FaultView.RowFaultView, ShotFaults.profile_faults}
 use Rattle.row_faults.specs.declared.as_written.NamedThing.TheVariants as named
 use Rattle.row_faults.specs.CoilFaults.{switch_name_faults, named_switch_faults, hold_faults}
-use Rattle.row_faults.specs.{ShotFaults.profile_faults, BallFaults.{eject_coil_faults, target_faults}}
 
 -- what is wrong with what a setting names
 abbrev pub named_faults : Rows → List ℕ → NamedThing → List RowFaultView

@@ -5,10 +5,9 @@ use Rattle.std.specs.Prelude.{◌≡◌, ◌≢◌, ℕ, ◌≤◌, true, false,
 use Rattle.std.specs.List.{All, AllPairs, flat_map}
 use Rattle.mpf_sections.specs.declared.words.CoilAction.{CoilAction, TheVariants.{Pulse, Enable, Disable}}
 use Rattle.mpf_sections.specs.Rows.{Coil, CoilItem, CoilPlayer, VariableItem, Shot, ShotGroup, BallDeviceEntry}
-use Rattle.mpf_sections.specs.{Rows.SectionRows, TypedBalls.{is_trough, ball_devices_in}}
-use Rattle.mpf_sections.specs.{Typed.entries_in, TypedGame.variable_players_in}
-use Rattle.mpf_sections.specs.{TypedCoils.{coils_in, coil_players_in}, TypedShots.{shots_in, shot_groups_in}}
-use Rattle.mpf_sections.specs.CoilRules.{CoilRule, coil_rule_of}
+use Rattle.mpf_sections.specs.{Rows.SectionRows, Typed.entries_in, TypedShots.{shots_in, shot_groups_in}}
+use Rattle.mpf_sections.specs.{TypedBalls.{is_trough, ball_devices_in}, TypedCoils.{coils_in, coil_players_in}}
+use Rattle.mpf_sections.specs.{TypedGame.variable_players_in, CoilRules.{CoilRule, coil_rule_of}}
 use Rattle.mpf_config.specs.Rows.{Rows}
 use Rattle.machine_definitions.specs.Definitions.{coil_called, has_switch, ball_devices_of}
 use Rattle.machine_definitions.specs.Shots.{shot_called, has_profile}

@@ -208,10 +208,10 @@ fn add_coil_rule(faults: &mut Faults<'_, '_>, rule: CoilRule<'_>) -> Result<(), 
 {
     let hold_place = rule.form.hold_coil.unwrap_or(0);
     let switch_place = rule.form.switch.unwrap_or(0);
-    let held = NamedThing::HoldCoil(rule.name.line, rule.hold_coil);
+    let hold_coil = NamedThing::HoldCoil(rule.name.line, rule.hold_coil);
     let parts = [
         (rule.form.coil, NamedThing::Coil(Some(rule.coil))),
-        (hold_place, held),
+        (hold_place, hold_coil),
         (switch_place, NamedThing::Switch(rule.switch)),
     ];
     add_as_written(faults, rule.order, &parts)

@@ -1,5 +1,4 @@
-use Rattle.std.proofs.Common.{◌++◌, refl, ap, sym, ◌∙◌}
-use Rattle.std.proofs.lemmas.{Result.on_ok_weaker, List.{append_assoc, append-nil}}
+use Rattle.std.proofs.{Common.{◌++◌, refl, ap, sym, ◌∙◌}, lemmas.{Result.on_ok_weaker, List.{append_assoc, append-nil}}}
 use Rattle.mpf_sections.specs.CoilRules.{coil_rule_view}
 use Rattle.plan_tables.specs.declared.devices.Act.TheVariants.{Enable, Disable}
 use Rattle.plan_parts.specs.declared.row_parts.RowHead.TheVariants as heads
