@@ -1,8 +1,8 @@
 -- The coils, switches and ball devices of the machine text, by name. Here `machine` is the sections of that text.
 use Rattle.std.specs.Prelude.{ℕ, Bool, false, if◌then◌else◌, List, [], Option, None, Some, fold, unwrap_or}
 use Rattle.std.specs.{List.{flat_map, list_any}, Str.bytes_eq}
-use Rattle.mpf_sections.specs.{Rows.{Coil, BallDeviceEntry, SectionRows}, TypedCoils.{coils_in, quick_switches}}
-use Rattle.mpf_sections.specs.{Typed.switches_in, TypedBalls.ball_devices_in}
+use Rattle.mpf_sections.specs.{Rows.{Coil, BallDeviceEntry, SectionRows}, TypedCoils.coils_in, Typed.switches_in}
+use Rattle.mpf_sections.specs.{CoilRules.quick_switches, TypedBalls.ball_devices_in}
 
 -- the coil of this name, if there is one; of two the later
 abbrev pub latest_coil : List ℕ → Option Coil → Coil → Option Coil

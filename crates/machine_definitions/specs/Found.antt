@@ -3,11 +3,11 @@ use Rattle.std.specs.Prelude.{◌≡◌, ◌||◌, ℕ, Bool, List, fold, map, O
 use Rattle.std.specs.{List.{filter_map, flat_map, list_any}, Str.bytes_eq, HashMap.HashMap}
 use Rattle.std.specs.{Borrow.Bor, HashSet.HashSet, Map.lookup}
 use Rattle.mpf_sections.specs.Rows.{Coil, SectionRows, Shot, BallDeviceEntry}
-use Rattle.mpf_sections.specs.{declared.section.Section.Section, Typed.switch_of, TypedBalls.ball_device_of}
+use Rattle.mpf_sections.specs.{declared.section.Section.Section, TypedBalls.ball_device_of}
+use Rattle.mpf_sections.specs.{Typed.switch_of, TypedCoils.coil_of, CoilRules.{names_at, quick_switches}}
 use Rattle.section_tables.specs.declared.rows.Entry as entry_rows
 use Rattle.setting_values.specs.declared.values.Fields as field_rows
 use Rattle.mpf_sections.specs.View.{entry_view, fields_view, section_view}
-use Rattle.mpf_sections.specs.TypedCoils.{coil_of, names_at, quick_switches}
 use Rattle.mpf_sections.specs.TypedShots.{shot_of, state_of, shot_profile_of, shots_in, shot_profiles_in}
 use Rattle.mpf_config.specs.Rows.{Rows}
 use Rattle.machine_definitions.specs.declared.profile.Profile as profiles

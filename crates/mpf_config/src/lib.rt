@@ -25,14 +25,14 @@ pub use escape::{escaped_makes_no_line, write_escaped};
 pub use fault::{BundleFault, BundleFaultKind, ConfigFault, write_fault};
 // The sections: their names, and their entries by the names of their settings.
 pub use mpf_sections::{
-    AutofireEntry, BallDeviceEntry, BallSaveEntry, BlockEvents, Coil, CoilItem, CoilPlayer,
-    ControlEvent, CounterEntry, EventPlayer, FlipperEntry, GameSettings, HandledAt, ModeSettings,
-    MultiballEntry, NameAt, Shot, ShotGroup, ShotProfile, StepBlock, Switch, TimerEntry,
-    VariableItem, VariablePlayer, as_autofire, as_ball_device, as_ball_save, as_coil, as_coil_item,
-    as_coil_player, as_control, as_counter, as_event_player, as_flipper, as_game, as_handled,
-    as_multiball, as_shot, as_shot_group, as_shot_profile, as_state, as_step_block, as_switch,
-    as_timer, as_variable_item, as_variable_player, blocks, coil_rules, coils, game, listed_modes,
-    min_balls, mode_settings, timers, typed,
+    BallDeviceEntry, BallSaveEntry, BlockEvents, Coil, CoilItem, CoilPlayer, CoilRule,
+    ControlEvent, CounterEntry, EventPlayer, GameSettings, HandledAt, ModeSettings, MultiballEntry,
+    NameAt, RuleKind, Shot, ShotGroup, ShotProfile, StepBlock, Switch, TimerEntry, VariableItem,
+    VariablePlayer, as_ball_device, as_ball_save, as_coil, as_coil_item, as_coil_player,
+    as_coil_rule, as_control, as_counter, as_event_player, as_game, as_handled, as_multiball,
+    as_shot, as_shot_group, as_shot_profile, as_state, as_step_block, as_switch, as_timer,
+    as_variable_item, as_variable_player, blocks, coil_rules, coils, game, listed_modes, min_balls,
+    mode_settings, timers, typed,
 };
 pub use mpf_tables::tables::{
     ACCRUALS_NAME, AUTOFIRE_COILS_NAME, BALL_DEVICES_NAME, BALL_SAVES_NAME, COIL_PLAYER_NAME,

@@ -1,19 +1,19 @@
--- What holds of coils, coil players, flippers and autofire coils, by the names of their settings: their names are
--- names, and their settings are in their ranges.
+-- What holds of coils, coil players and coil rules, by the names of their settings: their names are names, and their
+-- settings are in their ranges.
 use Rattle.std.proofs.Common.{rules, ◌≡◌, ℕ, ◌≤◌, Bool, true, false, ◌||◌, List, [], ◌∷◌, map, length, Option, Some}
-use Rattle.std.proofs.{Common.{IfSome, is_some, unwrap_or, slice_get, refl, arith}, lemmas.List.length-map}
+use Rattle.std.proofs.{Common.{None, IfSome, is_some, unwrap_or, slice_get, refl, arith}, lemmas.List.length-map}
 use Rattle.std.specs.{List.{All, list_any}, Prelude.{if◌then◌else◌, option_map}, Str.bytes_eq}
 use Rattle.mpf_tables.specs.SectionTables.{named_in}
 use Rattle.mpf_values.specs.Names.{IsName}
 use Rattle.setting_values.specs.Values.{Plain, KeyedValues, Value}
 use Rattle.section_tables.specs.{Rows.{Entry, PlayerEntry}, Named.{IsNamedEntry, IsNamedPlayer, IsShortPlayer}}
-use Rattle.mpf_sections.specs.{Rows.{WrittenName, SectionRows}, Short.IsCoilPlayerInRange}
-use Rattle.mpf_sections.specs.{EntryReading.rule_at, Named.IsNamed}
+use Rattle.mpf_sections.specs.{Rows.{WrittenName, SectionRows}, declared.coil_rules.RuleForm.RuleForm}
+use Rattle.mpf_sections.specs.{Short.IsCoilPlayerInRange, CoilRules.IsNamedCoilRule}
 use Rattle.mpf_sections.specs.Typed.{text_of, listed_keyed, name_in, pulse_in, power_in, entries_of, players_of}
-use Rattle.mpf_sections.specs.CoilRules.{CoilRule, coil_rules, coil_rule_sections, coil_rule_of, IsNamedCoilRule}
+use Rattle.mpf_sections.specs.CoilRules.{coil_rules, coil_rule_sections, name_at, switch_at, rule_by, coil_rule_of}
 use Rattle.mpf_sections.specs.TypedCoils.{coils_name, coil_player_name, max_hold_power, coil_of, coil_item_of}
-use Rattle.mpf_sections.specs.TypedCoils.{coil_player_of, needed_at, flipper_of, autofire_of, coils_in, coil_players_in}
-use Rattle.mpf_sections.specs.Named.{IsNamedCoil, IsNamedCoilPlayer, IsNamedRule, IsNamedFlipper, IsNamedAutofire}
+use Rattle.mpf_sections.specs.TypedCoils.{coil_player_of, needed_at, coils_in, coil_players_in}
+use Rattle.mpf_sections.specs.Named.{IsNamedCoil, IsNamedCoilPlayer}
 use Rattle.mpf_sections.specs.Short.{IsPulseInRange, IsPowerInRange, IsCoilInRange, IsItemInRange, IsShortCoilPlayer}
 use Rattle.mpf_sections.proofs.{ShortRows.IsShortOption, NumberRows.time_in_range, RowNames.entries_of_named}
 use Rattle.mpf_sections.proofs.RowNames.{IsNamedOption, value_at_named, events_named, event_named, keyed_named}
@@ -51,38 +51,48 @@ either_named x1 other h is = search rules
 needed_named : (e : Entry) (i : ℕ) → IsNamedEntry e → IsName (needed_at i e).text
 needed_named e i h = either_named (name_in (text_of (slice_get e.values i))) e.name (written_named e i h) h.name
 
--- Those of a coil rule are, too, whichever setting names its switch.
-rule_named : (switch : ℕ) (e : Entry) → IsNamedEntry e → IsNamedRule (rule_at switch e)
-rule_named switch e h = search (rules, needed_named, events_named, slice_get, value_at_named)
+-- Those in an entry of any form are, too.
+rule_named : (form : RuleForm) (e : Entry) → IsNamedEntry e → IsNamedCoilRule (rule_by form e)
+unfolding rule_by
+rule_named form e h = record {
+  name = h.name;
+  coil = needed_named e form.coil h;
+  hold_coil = optional form.hold_coil;
+  switch = needed form.switch;
+  enables = events_named (slice_get e.values form.enables) (value_at_named e.values form.enables h.values);
+  disables = events_named (slice_get e.values form.disables) (value_at_named e.values form.disables h.values);
+}
+  where
+    optional : (place : Option ℕ) → IfSome (name_at place e) (λ w. IsName w.text)
+    optional None = tt
+    optional (Some place) = some_named (name_in (text_of (slice_get e.values place))) (written_named e place h)
 
--- And those in an entry of `flippers`.
-pub flipper_named : (e : Entry) → IsNamedEntry e → IsNamedFlipper (flipper_of e)
-unfolding flipper_of
-flipper_named e h = search (rules, needed_named, some_named, slice_get, written_named, rule_named)
-
--- And those in an entry of `autofire_coils`.
-pub autofire_named : (e : Entry) → IsNamedEntry e → IsNamedAutofire (autofire_of e)
-unfolding autofire_of
-autofire_named e h = record { coil = needed_named e 0 h; rule = rule_named 1 e h }
+    needed : (place : Option ℕ) → IfSome (switch_at place e) (λ w. IsName w.text)
+    needed None = tt
+    needed (Some place) = needed_named e place h
 
 -- And those in an entry that is a coil rule, whichever it is.
 pub coil_rule_named : (section : List ℕ) (e : Entry) → IsNamedEntry e → IfSome (coil_rule_of section e) IsNamedCoilRule
-coil_rule_named section e h = search (rules, flipper_named, autofire_named)
+coil_rule_named section e h = by (named_in section coil_rules)
+  where
+    by : (form : Option RuleForm) → IfSome (option_map (λ f. rule_by f e) form) IsNamedCoilRule
+    by None = tt
+    by (Some form) = rule_named form e h
 
 -- The entries of these sections are coil rules, and no others.
 pub coil_rule_some : (section : List ℕ) (e : Entry)
     → is_some (coil_rule_of section e) ≡ list_any (bytes_eq section) coil_rule_sections
 coil_rule_some section e = by coil_rules
   where
-    by : (each : List (List ℕ × (Entry → CoilRule)))
-        → is_some (option_map (λ rule_of. rule_of e) (named_in section each))
+    by : (each : List (List ℕ × RuleForm))
+        → is_some (option_map (λ form. rule_by form e) (named_in section each))
         ≡ list_any (bytes_eq section) (map (λ r. r.0) each)
     by [] = refl
     by (r ∷ rest) = either (bytes_eq section r.0) (by rest)
       where
-        either : (is : Bool) → is_some (option_map (λ rule_of. rule_of e) (named_in section rest))
+        either : (is : Bool) → is_some (option_map (λ form. rule_by form e) (named_in section rest))
             ≡ list_any (bytes_eq section) (map (λ x. x.0) rest)
-            → is_some (option_map (λ rule_of. rule_of e) (if is then Some r.1 else named_in section rest))
+            → is_some (option_map (λ form. rule_by form e) (if is then Some r.1 else named_in section rest))
             ≡ (is || list_any (bytes_eq section) (map (λ x. x.0) rest))
         either true h = refl
         either false h = h

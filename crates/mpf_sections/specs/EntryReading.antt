@@ -3,7 +3,6 @@ use Rattle.std.specs.Prelude.{◌≡◌, ℕ, ◌+◌, ◌==◌, Bool, List, len
 use Rattle.std.specs.{Prelude.unwrap_or, List.list_all, Str.bytes_eq, Borrow.Bor}
 use Rattle.setting_values.specs.declared.values.{Name.Name, Handler.Handler, Step.Step}
 use Rattle.setting_values.specs.{View.{value_view, plains_view}, Values.{Plain, Value, name as named, written_at}}
-use Rattle.section_tables.specs.Rows.{Entry}
 use Rattle.setting_values.specs.declared.values.Plain as plain_rows
 use Rattle.setting_values.specs.declared.values.Value as value_rows
 use Rattle.setting_values.specs.declared.values.Fields as field_rows
@@ -12,10 +11,9 @@ use Rattle.section_tables.specs.declared.rows.Entry as entry_rows
 use Rattle.mpf_sections.specs.declared.section.Content as contents
 use Rattle.mpf_sections.specs.declared.{section.Section.Section, typed.{NameAt.NameAt, HandledAt.HandledAt}}
 use Rattle.mpf_sections.specs.declared.blocks.BlockEvents as typed_blocks
-use Rattle.mpf_sections.specs.declared.coil_rules.Rule as typed_rules
 use Rattle.machine_settings.specs.declared.settings.BlockSettings.{BlockSettings}
-use Rattle.mpf_sections.specs.{Rows.{Rule, BlockEvents}, Typed.{ball_ending, content_named}}
-use Rattle.mpf_sections.specs.{TypedCoils.needed_at, TypedShots.few, View.{plain_option_view, block_view, rule_view}}
+use Rattle.mpf_sections.specs.{Rows.BlockEvents, Typed.{ball_ending, content_named}, TypedShots.few}
+use Rattle.mpf_sections.specs.View.{plain_option_view, block_view}
 use Rattle.mpf_sections.specs.Typed.{text_of, flag_of, listed_names, listed_events, listed_posts, listed_steps}
 use Rattle.mpf_sections.specs.Typed.{listed_maps, listed_keyed, name_in, handled_in, event_in, pulse_in, power_in}
 use Rattle.mpf_sections.specs.View.{name_view, handler_view, step_view, plain_view, fields_view, keyed_view}
@@ -40,20 +38,6 @@ block_at first row = record {
   hit = listed_posts (slice_get row (first + 7));
   complete = listed_posts (slice_get row (first + 8));
 }
-
--- a coil rule, with its switch at this place and the events that enable and disable it after that
-abbrev pub rule_at : ℕ → Entry → Rule
-rule_at switch e = record {
-  name = e.name;
-  switch = needed_at switch e;
-  enables = listed_events (slice_get e.values (switch + 1));
-  disables = listed_events (slice_get e.values (switch + 2));
-  order = e.order;
-}
-
--- the coil rule of this entry of the program
-abbrev pub IsRuleAt : ℕ → entry_rows.Entry → typed_rules.Rule → Type 0
-IsRuleAt switch entry rule = rule_view rule ≡ rule_at switch (entry_view entry)
 
 -- the events of a logic block, whose settings are from this place on in a row of the program
 abbrev pub IsBlockAt : ℕ → entry_rows.Entry → typed_blocks.BlockEvents → Type 0

@@ -3,7 +3,7 @@ use Rattle.std.specs.{Prelude.{List, IfSome}, List.All}
 pub use Rattle.setting_values.specs.NamedValues.{IsNamedHandled}
 pub use Rattle.section_tables.specs.Named.{IsNamedEntry, IsNamedPlayer}
 use Rattle.mpf_sections.specs.Rows.{WrittenName, HandledEvent, Switch, EventPlayer, Coil, CoilPlayer, VariablePlayer}
-use Rattle.mpf_sections.specs.Rows.{Rule, FlipperEntry, AutofireEntry, Shot, ShotGroup, ShotProfile, BallDeviceEntry}
+use Rattle.mpf_sections.specs.Rows.{Shot, ShotGroup, ShotProfile, BallDeviceEntry}
 use Rattle.mpf_sections.specs.Rows.{BallSaveEntry, MultiballEntry, BlockEvents, CounterEntry, StepBlock, TimerEntry}
 use Rattle.mpf_sections.specs.Rows.{ModeSettings, Content, entries, players, entry, name_list, SectionRows}
 pub use Rattle.mpf_values.specs.Names.{IsName}
@@ -41,23 +41,6 @@ pub record IsNamedCoilPlayer (p : CoilPlayer) : Type 0 where
 pub record IsNamedVariablePlayer (p : VariablePlayer) : Type 0 where
   pub event : IsNamedHandled p.event
   pub items : All (λ i. IsName i.variable.text) p.items
-
--- the name of a flipper or an autofire coil is one, and so are those of its switch and its events
-pub record IsNamedRule (r : Rule) : Type 0 where
-  pub name : IsName r.name.text
-  pub switch : IsName r.switch.text
-  pub enables : AllNamedEvents r.enables
-  pub disables : AllNamedEvents r.disables
-
--- those of its coils are, too
-pub record IsNamedFlipper (f : FlipperEntry) : Type 0 where
-  pub main_coil : IsName f.main_coil.text
-  pub hold_coil : IfSome f.hold_coil (λ w. IsName w.text)
-  pub rule : IsNamedRule f.rule
-
-pub record IsNamedAutofire (a : AutofireEntry) : Type 0 where
-  pub coil : IsName a.coil.text
-  pub rule : IsNamedRule a.rule
 
 -- the name of a shot is one, and so are those of its switch, its profile and its events
 pub record IsNamedShot (s : Shot) : Type 0 where

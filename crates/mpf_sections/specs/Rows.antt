@@ -67,25 +67,6 @@ pub record GameSettings : Type 0 where
   pub balls_per_game : ℕ
   pub max_players : ℕ
 
--- what flippers and autofire coils have in common: the switch, and the events that enable and disable it
-pub record Rule : Type 0 where
-  pub name : WrittenName
-  pub switch : WrittenName
-  pub enables : List HandledEvent
-  pub disables : List HandledEvent
-  pub order : List ℕ
-
--- an entry of `flippers`: its coil, the one that holds it if there is another for that, and its rule
-pub record FlipperEntry : Type 0 where
-  pub main_coil : WrittenName
-  pub hold_coil : Option WrittenName
-  pub rule : Rule
-
--- an entry of `autofire_coils`: its coil, and its rule
-pub record AutofireEntry : Type 0 where
-  pub coil : WrittenName
-  pub rule : Rule
-
 -- an entry of `ball_devices`: its ball switches, the coil that ejects a ball, if there is one, where it ejects its
 -- balls to, how it counts and ejects them, and its tags
 pub record BallDeviceEntry : Type 0 where

@@ -4,7 +4,7 @@ pub use Rattle.section_tables.specs.Named.{IsShortEntry, IsShortPlayer}
 use Rattle.machine_settings.specs.Limits.{IsNumberWithin, IsCounterWithin, IsTimerWithin, IsEjectWithin, IsSaveWithin}
 use Rattle.machine_settings.specs.Limits.{IsMultiballWithin}
 use Rattle.mpf_sections.specs.Rows.{Switch, EventPlayer, Coil, CoilItem, CoilPlayer, VariableItem, VariablePlayer}
-use Rattle.mpf_sections.specs.Rows.{GameSettings, Rule, Shot, ShotGroup, ShotProfile, BallDeviceEntry, BallSaveEntry}
+use Rattle.mpf_sections.specs.Rows.{GameSettings, Shot, ShotGroup, ShotProfile, BallDeviceEntry, BallSaveEntry}
 use Rattle.mpf_sections.specs.Rows.{MultiballEntry, BlockEvents, CounterEntry, StepBlock, TimerEntry, Content}
 use Rattle.mpf_sections.specs.{Rows.SectionRows, Typed.{entries_in, players_in, entry_in, names_in}}
 
@@ -72,10 +72,6 @@ pub record IsItemInRange (i : CoilItem) : Type 0 where
 
 abbrev pub IsCoilPlayerInRange : CoilPlayer → Type 0
 IsCoilPlayerInRange p = All IsItemInRange p.items
-
-pub record IsShortRule (r : Rule) : Type 0 where
-  pub enables : length r.enables ≤ 1024
-  pub disables : length r.disables ≤ 1024
 
 pub record IsShortShot (s : Shot) : Type 0 where
   pub hits : length s.hits ≤ 1024

@@ -1,15 +1,14 @@
--- The entries of `coils`, `coil_player`, `flippers` and `autofire_coils`, by the names of their settings.
-use Rattle.std.specs.Prelude.{◌∷◌, ℕ, nat_lt, Bool, true, false, ◌||◌, if◌then◌else◌, List, [], map, Option, Some, None}
+-- The entries of `coils` and `coil_player`, by the names of their settings.
+use Rattle.std.specs.Prelude.{ℕ, nat_lt, Bool, true, false, ◌||◌, if◌then◌else◌, List, map, Option, Some, None}
 use Rattle.std.specs.{Prelude.{slice_get, unwrap_or, codes}, Str.bytes_eq}
 use Rattle.mpf_sections.specs.declared.words.CoilAction.{CoilAction, TheVariants.{Pulse, Enable, Disable}}
-use Rattle.setting_values.specs.Values.{WrittenName, Plain, KeyedValues}
-use Rattle.section_tables.specs.{Rows.{Entry, PlayerEntry}, Shapes.Setting}
+use Rattle.setting_values.specs.Values.{Plain, KeyedValues}
+use Rattle.section_tables.specs.Rows.{Entry, PlayerEntry}
 use Rattle.mpf_tables.specs.SectionTables as tables
-pub use Rattle.mpf_tables.specs.SectionTables.{coils_name, coil_player_name, flippers_name, autofire_coils_name}
-use Rattle.mpf_sections.specs.Typed.{setting_of, field_of, text_of, flag_of, listed_events, listed_keyed, handled_in}
-use Rattle.mpf_sections.specs.Typed.{name_in, word_in, pulse_in, power_in, place_of, entries_in, entries_of, players_of}
-use Rattle.mpf_sections.specs.TypedNumbers.{time_setting}
-use Rattle.mpf_sections.specs.Rows.{Coil, CoilItem, CoilPlayer, Rule, FlipperEntry, AutofireEntry, SectionRows}
+pub use Rattle.mpf_tables.specs.SectionTables.{coils_name, coil_player_name}
+use Rattle.mpf_sections.specs.Typed.{setting_of, field_of, text_of, flag_of, listed_keyed, handled_in, name_in, word_in}
+use Rattle.mpf_sections.specs.{Typed.{pulse_in, power_in, entries_of, players_of}, TypedNumbers.time_setting}
+use Rattle.mpf_sections.specs.Rows.{WrittenName, Coil, CoilItem, CoilPlayer, SectionRows}
 
 -- ---- `coils`
 
@@ -65,39 +64,11 @@ coil_item_of k = record {
 unfoldable pub coil_player_of : PlayerEntry → CoilPlayer
 coil_player_of p = record { event = handled_in p.event; items = map coil_item_of (listed_keyed (Some p.value)) }
 
--- ---- `flippers` and `autofire_coils`
+-- ---- coil rules
 
--- a name that has to be written; the entry's own in a row that no table gives
-abbrev pub needed_name : List Setting → List ℕ → Entry → WrittenName
-needed_name table key e = unwrap_or (name_in (text_of (setting_of table key e.values))) e.name
-
--- the name at a place of an entry; its own in a row that has none there
+-- the name at a place of an entry, where one has to be written; the entry's own in a row that no table gives
 abbrev pub needed_at : ℕ → Entry → WrittenName
 needed_at place e = unwrap_or (name_in (text_of (slice_get e.values place))) e.name
-
--- what all coil rules have, if the setting of this key names the switch
-abbrev pub rule_of : List Setting → List ℕ → Entry → Rule
-rule_of table switch e = record {
-  name = e.name;
-  switch = needed_name table switch e;
-  enables = listed_events (setting_of table (codes "enable_events") e.values);
-  disables = listed_events (setting_of table (codes "disable_events") e.values);
-  order = e.order;
-}
-
-unfoldable pub flipper_of : Entry → FlipperEntry
-flipper_of e = record {
-  main_coil = needed_name tables.flippers (codes "main_coil") e;
-  hold_coil = name_in (text_of (setting_of tables.flippers (codes "hold_coil") e.values));
-  rule = rule_of tables.flippers (codes "activation_switch") e;
-}
-
-unfoldable pub autofire_of : Entry → AutofireEntry
-autofire_of e =
-    record {
-      coil = needed_name tables.autofire_coils (codes "coil") e;
-      rule = rule_of tables.autofire_coils (codes "switch") e;
-    }
 
 -- ---- sections
 
@@ -108,21 +79,3 @@ coils_in s = map coil_of (entries_of coils_name s)
 -- the same for `coil_player`
 unfoldable pub coil_players_in : SectionRows → List CoilPlayer
 coil_players_in s = map coil_player_of (players_of coil_player_name s)
-
--- ---- quick switches
-
--- The place of the setting that names a switch in entries of the section of this name, if they make that switch
--- quick: those of flippers and autofire coils do.
-abbrev pub quick_place : List ℕ → Option ℕ
-quick_place section =
-    if bytes_eq section flippers_name then Some (place_of tables.flippers (codes "activation_switch"))
-    else (if bytes_eq section autofire_coils_name then Some (place_of tables.autofire_coils (codes "switch")) else None)
-
--- the names of the switches that these entries have at a place
-abbrev pub names_at : Option ℕ → List Entry → List (List ℕ)
-names_at None es = []
-names_at (Some place) es = map (λ e. (needed_at place e).text) es
-
--- the names of the switches that a section makes quick
-abbrev pub quick_switches : SectionRows → List (List ℕ)
-quick_switches s = names_at (quick_place s.name) (entries_in s.content)

@@ -20,8 +20,6 @@ use Rattle.mpf_sections.specs.declared.coils.CoilItem as typed_coil_items
 use Rattle.mpf_sections.specs.declared.game.VariablePlayer as typed_variable_players
 use Rattle.mpf_sections.specs.declared.game.VariableItem as typed_variable_items
 use Rattle.mpf_sections.specs.declared.game.GameSettings as typed_games
-use Rattle.mpf_sections.specs.declared.coil_rules.FlipperEntry as typed_flippers
-use Rattle.mpf_sections.specs.declared.coil_rules.AutofireEntry as typed_autofires
 use Rattle.mpf_sections.specs.declared.shots.Shot as typed_shots
 use Rattle.mpf_sections.specs.declared.shots.ShotGroup as typed_groups
 use Rattle.mpf_sections.specs.declared.shots.ShotProfile as typed_profiles
@@ -30,16 +28,16 @@ use Rattle.mpf_sections.specs.declared.saves.BallSaveEntry as typed_saves
 use Rattle.mpf_sections.specs.declared.saves.MultiballEntry as typed_multiballs
 use Rattle.mpf_sections.specs.Typed.{switch_of, event_player_of, mode_settings_of, mode_settings, listed_modes}
 use Rattle.mpf_sections.specs.Typed.{counter_of, step_block_of, control_of, timer_of, entries_in, players_in}
-use Rattle.mpf_sections.specs.{Typed.{entries_of, players_of}, TypedSaves.{ball_save_of, multiball_of}}
-use Rattle.mpf_sections.specs.TypedCoils.{coil_of, coil_item_of, coil_player_of, needed_at, flipper_of, autofire_of}
+use Rattle.mpf_sections.specs.{Typed.{entries_of, players_of}, TypedBalls.ball_device_of}
+use Rattle.mpf_sections.specs.TypedSaves.{ball_save_of, multiball_of}
+use Rattle.mpf_sections.specs.TypedCoils.{coil_of, coil_item_of, coil_player_of, needed_at}
 use Rattle.mpf_sections.specs.TypedGame.{variable_item_of, variable_player_of, game_of, min_balls_of}
 use Rattle.mpf_sections.specs.TypedShots.{shot_of, shot_group_of, state_of, shot_profile_of}
-use Rattle.mpf_sections.specs.{TypedBalls.ball_device_of, View.multiball_view}
+use Rattle.mpf_sections.specs.View.{multiball_view, variable_player_view, game_view, shot_view}
 use Rattle.mpf_sections.specs.View.{name_view, handler_view, fields_view, keyed_view, entry_view, player_view}
 use Rattle.mpf_sections.specs.View.{content_view, section_view, name_at_view, handled_at_view, switch_view}
 use Rattle.mpf_sections.specs.View.{event_player_view, mode_settings_view, counter_view, step_block_view, control_view}
 use Rattle.mpf_sections.specs.View.{timer_view, coil_view, coil_item_view, coil_player_view, variable_item_view}
-use Rattle.mpf_sections.specs.View.{variable_player_view, game_view, flipper_view, autofire_view, shot_view}
 use Rattle.mpf_sections.specs.View.{shot_group_view, shot_profile_view, ball_device_view, ball_save_view}
 
 -- ---- switches, and what events do
@@ -81,14 +79,6 @@ IsCoilOf entry coil = coil_view coil ≡ coil_of (entry_view entry)
 -- the name at a place of this entry; its own if there is none
 abbrev pub IsNeededAt : ℕ → entry_rows.Entry → NameAt → Type 0
 IsNeededAt place entry name = name_at_view name ≡ needed_at place (entry_view entry)
-
--- the flipper of this entry of `flippers`
-abbrev pub IsFlipperOf : entry_rows.Entry → typed_flippers.FlipperEntry → Type 0
-IsFlipperOf entry flipper = flipper_view flipper ≡ flipper_of (entry_view entry)
-
--- the autofire coil of this entry of `autofire_coils`
-abbrev pub IsAutofireOf : entry_rows.Entry → typed_autofires.AutofireEntry → Type 0
-IsAutofireOf entry autofire = autofire_view autofire ≡ autofire_of (entry_view entry)
 
 -- ---- logic blocks and timers
 

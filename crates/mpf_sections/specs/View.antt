@@ -17,9 +17,6 @@ use Rattle.mpf_sections.specs.declared.coils.CoilItem as typed_coil_items
 use Rattle.mpf_sections.specs.declared.game.VariablePlayer as typed_variable_players
 use Rattle.mpf_sections.specs.declared.game.VariableItem as typed_variable_items
 use Rattle.mpf_sections.specs.declared.game.GameSettings as typed_games
-use Rattle.mpf_sections.specs.declared.coil_rules.Rule as typed_rules
-use Rattle.mpf_sections.specs.declared.coil_rules.FlipperEntry as typed_flippers
-use Rattle.mpf_sections.specs.declared.coil_rules.AutofireEntry as typed_autofires
 use Rattle.mpf_sections.specs.declared.shots.Shot as typed_shots
 use Rattle.mpf_sections.specs.declared.shots.ShotGroup as typed_groups
 use Rattle.mpf_sections.specs.declared.shots.ShotProfile as typed_profiles
@@ -27,7 +24,7 @@ use Rattle.mpf_sections.specs.declared.balls.BallDeviceEntry as typed_balls
 use Rattle.mpf_sections.specs.declared.saves.BallSaveEntry as typed_saves
 use Rattle.mpf_sections.specs.declared.saves.MultiballEntry as typed_multiballs
 use Rattle.mpf_sections.specs.Rows.{WrittenName, HandledEvent, Switch, EventPlayer, Coil, CoilItem, CoilPlayer}
-use Rattle.mpf_sections.specs.Rows.{VariableItem, VariablePlayer, GameSettings, Rule, FlipperEntry, AutofireEntry, Shot}
+use Rattle.mpf_sections.specs.Rows.{VariableItem, VariablePlayer, GameSettings, Shot}
 use Rattle.mpf_sections.specs.Rows.{ShotGroup, ShotProfile, BallDeviceEntry, BallSaveEntry, MultiballEntry, BlockEvents}
 use Rattle.mpf_sections.specs.Rows.{CounterEntry, StepBlock, ControlEvent, TimerEntry, ModeSettings}
 use Rattle.mpf_sections.specs.{Typed.controls_of, TypedShots.state_of}
@@ -150,26 +147,6 @@ variable_player_view p =
 
 abbrev pub game_view : typed_games.GameSettings → GameSettings
 game_view g = record { balls_per_game = g.balls_per_game; max_players = g.max_players }
-
-abbrev pub rule_view : typed_rules.Rule → Rule
-rule_view r = record {
-  name = name_view r.name.now;
-  switch = name_at_view r.switch;
-  enables = map handler_view r.enables.now;
-  disables = map handler_view r.disables.now;
-  order = r.order.now;
-}
-
-abbrev pub flipper_view : typed_flippers.FlipperEntry → FlipperEntry
-flipper_view f =
-    record {
-      main_coil = name_at_view f.main_coil;
-      hold_coil = option_map name_at_view f.hold_coil;
-      rule = rule_view f.rule;
-    }
-
-abbrev pub autofire_view : typed_autofires.AutofireEntry → AutofireEntry
-autofire_view a = record { coil = name_at_view a.coil; rule = rule_view a.rule }
 
 abbrev pub shot_view : typed_shots.Shot → Shot
 shot_view s = record {

@@ -1,10 +1,11 @@
-//! The entries of `flippers` and `autofire_coils`, by the names of their settings.
+//! Coil rules: the entries of `flippers` and `autofire_coils`, by the names of their settings.
 
-ghost use Rattle.std.specs.Prelude.{◌≡◌, ◌≤◌};
-ghost use Rattle.mpf_sections.specs.CoilRules.{IsCoilRuleOf};
-ghost use Rattle.mpf_sections.specs.EntryReading.{IsRuleAt};
-ghost use Rattle.mpf_sections.specs.TypedCoils.{quick_place};
-ghost use Rattle.mpf_sections.specs.TypedOf.{IsNeededAt, IsFlipperOf, IsAutofireOf};
+ghost use Rattle.std.specs.Prelude.{◌≡◌, option_map};
+ghost use Rattle.mpf_sections.specs.CoilRules.{IsCoilRuleOf, coil_rule_view, coil_rules, name_at, quick_place, rule_by};
+ghost use Rattle.mpf_sections.specs.CoilRules.{switch_at};
+ghost use Rattle.mpf_sections.specs.TypedOf.{IsNeededAt};
+ghost use Rattle.mpf_sections.specs.View.{entry_view, name_at_view};
+ghost use Rattle.mpf_tables.specs.SectionTables.{named_in};
 
 use crate::typed::NameAt;
 use crate::values::{handlers_at, name_in, text};
@@ -12,13 +13,41 @@ use mpf_tables::tables::{AUTOFIRE_COILS_NAME, FLIPPERS_NAME};
 use section_tables::rows::Entry;
 use setting_values::values::{Handler, Name};
 
-/// What flippers and autofire coils have in common: the switch, and the events that enable and
-/// disable it.
+/// The kinds of coil rules.
 #[derive(Clone, Copy)]
-pub struct Rule<'a> {
+pub enum RuleKind {
+    Flipper,
+    Autofire,
+}
+
+/// How the entries of a section say a coil rule: of what kind it is, and the places of its settings
+/// in the table of the section.
+#[derive(Clone, Copy)]
+pub struct RuleForm {
+    pub kind: RuleKind,
+    /// The place of its coil.
+    pub coil: usize,
+    /// The place of another coil that it may hold, if the table has such a setting.
+    pub hold_coil: Option<usize>,
+    /// The place of the switch at which it acts, if the table has such a setting.
+    pub switch: Option<usize>,
+    /// The place of the events that enable it.
+    pub enables: usize,
+    /// The place of the events that disable it.
+    pub disables: usize,
+}
+
+/// An entry that does something with a coil: a flipper, or an autofire coil.
+#[derive(Clone, Copy)]
+pub struct CoilRule<'a> {
+    pub form: RuleForm,
     pub name: &'a Name,
-    /// The switch at which it acts.
-    pub switch: NameAt<'a>,
+    /// Its coil, which lifts a flipper.
+    pub coil: NameAt<'a>,
+    /// The coil that holds a flipper up, if there is another for that: by default there is none.
+    pub hold_coil: Option<NameAt<'a>>,
+    /// The switch at which it acts: the button of a flipper, or the one that fires an autofire coil.
+    pub switch: Option<NameAt<'a>>,
     /// The events that enable it: by default `ball_started`, at line 0.
     pub enables: &'a [Handler],
     /// The events that disable it: by default `ball_will_end`, at line 0.
@@ -28,65 +57,51 @@ pub struct Rule<'a> {
     pub order: &'a [usize],
 }
 
-/// An entry of `flippers`.
-#[derive(Clone, Copy)]
-pub struct FlipperEntry<'a> {
-    /// The coil that lifts the flipper.
-    pub main_coil: NameAt<'a>,
-    /// The coil that holds it up, if there is another for that: by default there is none.
-    pub hold_coil: Option<NameAt<'a>>,
-    /// Its switch, `activation_switch`, is that of its button.
-    pub rule: Rule<'a>,
-}
+/// The form of the entries of `flippers`.
+const FLIPPER: RuleForm = RuleForm {
+    kind: RuleKind::Flipper,
+    coil: 0,
+    hold_coil: Some(1),
+    switch: Some(2),
+    enables: 3,
+    disables: 4,
+};
 
-/// An entry of `autofire_coils`.
-#[derive(Clone, Copy)]
-pub struct AutofireEntry<'a> {
-    pub coil: NameAt<'a>,
-    /// Its switch fires the coil.
-    pub rule: Rule<'a>,
-}
-
-/// A flipper or an autofire coil.
-#[derive(Clone, Copy)]
-pub enum CoilRule<'a> {
-    Flipper(FlipperEntry<'a>),
-    Autofire(AutofireEntry<'a>),
-}
-
-// The places of the settings in the two tables. The events that enable and disable a rule come after
-// its switch.
-
-/// The place of `main_coil` in the table of `flippers`.
-pub const MAIN_COIL: usize = 0;
-
-/// The place of `hold_coil` in the table of `flippers`.
-pub const HOLD_COIL: usize = 1;
-
-/// The place of `activation_switch` in the table of `flippers`.
-pub const ACTIVATION_SWITCH: usize = 2;
-
-/// The place of `coil` in the table of `autofire_coils`.
-pub const COIL: usize = 0;
-
-/// The place of `switch` in the table of `autofire_coils`.
-pub const SWITCH: usize = 1;
+/// The form of the entries of `autofire_coils`.
+const AUTOFIRE: RuleForm = RuleForm {
+    kind: RuleKind::Autofire,
+    coil: 0,
+    hold_coil: None,
+    switch: Some(1),
+    enables: 2,
+    disables: 3,
+};
 
 /// The sections whose entries are coil rules.
 pub const COIL_RULE_SECTIONS: [&[u8]; 2] = [FLIPPERS_NAME, AUTOFIRE_COILS_NAME];
 
+/// The form of the entries of the section of this name, if they are coil rules.
+fn form_of(section: &[u8]) -> Option<RuleForm>
+    ensures { result ≡ named_in section.now coil_rules }
+{
+    if section == FLIPPERS_NAME {
+        return Some(FLIPPER);
+    }
+    if section == AUTOFIRE_COILS_NAME {
+        return Some(AUTOFIRE);
+    }
+    None
+}
+
 /// The place, in the table of the section of this name, of the setting that names the switch which
-/// an entry makes quick: the entries of `flippers` and `autofire_coils` do so.
+/// an entry makes quick: coil rules with a switch do so.
 pub fn quick_switch(section: &[u8]) -> Option<usize>
     ensures { result ≡ quick_place section.now }
 {
-    if section == FLIPPERS_NAME {
-        return Some(ACTIVATION_SWITCH);
+    match form_of(section) {
+        Some(form) => form.switch,
+        None => None,
     }
-    if section == AUTOFIRE_COILS_NAME {
-        return Some(SWITCH);
-    }
-    None
 }
 
 /// The name at a place of an entry, where one has to be written; the entry's own in a row that no
@@ -103,53 +118,49 @@ pub fn needed_name(entry: &Entry, at: usize) -> NameAt<'_>
     }
 }
 
-// What all coil rules have, if the setting at this place names the switch.
-fn as_rule(entry: &Entry, switch: usize) -> Rule<'_>
-    requires { switch ≤ 2 }
-    ensures { IsRuleAt switch entry.now result }
+/// The name at a place of an entry, if there is a place for it, and one is written.
+fn name_at(entry: &Entry, at: Option<usize>) -> Option<NameAt<'_>>
+    ensures { option_map name_at_view result ≡ name_at at (entry_view entry.now) }
 {
-    Rule {
+    match at {
+        Some(at) => name_in(text(entry, at)),
+        None => None,
+    }
+}
+
+/// The name at a place of an entry, where one has to be written if there is a place for it.
+fn switch_at(entry: &Entry, at: Option<usize>) -> Option<NameAt<'_>>
+    ensures { option_map name_at_view result ≡ switch_at at (entry_view entry.now) }
+{
+    match at {
+        Some(at) => Some(needed_name(entry, at)),
+        None => None,
+    }
+}
+
+/// A coil rule, from an entry of this form.
+#[tactic(auto, unfolding(crate::specs::CoilRules::rule_by))]
+fn as_rule(entry: &Entry, form: RuleForm) -> CoilRule<'_>
+    ensures { coil_rule_view result ≡ rule_by form (entry_view entry.now) }
+{
+    CoilRule {
+        form,
         name: &entry.name,
-        switch: needed_name(entry, switch),
-        enables: handlers_at(entry, switch + 1),
-        disables: handlers_at(entry, switch + 2),
+        coil: needed_name(entry, form.coil),
+        hold_coil: name_at(entry, form.hold_coil),
+        switch: switch_at(entry, form.switch),
+        enables: handlers_at(entry, form.enables),
+        disables: handlers_at(entry, form.disables),
         order: entry.order(),
     }
 }
 
-/// An entry of `flippers`, by the names of its settings.
-#[tactic(auto, unfolding(crate::specs::TypedCoils::flipper_of))]
-pub fn as_flipper(entry: &Entry) -> FlipperEntry<'_>
-    ensures { IsFlipperOf entry.now result }
-{
-    FlipperEntry {
-        main_coil: needed_name(entry, MAIN_COIL),
-        hold_coil: name_in(text(entry, HOLD_COIL)),
-        rule: as_rule(entry, ACTIVATION_SWITCH),
-    }
-}
-
-/// An entry of `autofire_coils`, by the names of its settings.
-#[tactic(auto, unfolding(crate::specs::TypedCoils::autofire_of))]
-pub fn as_autofire(entry: &Entry) -> AutofireEntry<'_>
-    ensures { IsAutofireOf entry.now result }
-{
-    AutofireEntry {
-        coil: needed_name(entry, COIL),
-        rule: as_rule(entry, SWITCH),
-    }
-}
-
-/// The flipper or the autofire coil that an entry of the section of this name is; none if it is
-/// neither.
+/// The coil rule that an entry of the section of this name is; none if it is no coil rule.
 pub fn as_coil_rule<'a>(section: &[u8], entry: &'a Entry) -> Option<CoilRule<'a>>
     ensures { IsCoilRuleOf section.now entry.now result }
 {
-    if section == FLIPPERS_NAME {
-        return Some(CoilRule::Flipper(as_flipper(entry)));
+    match form_of(section) {
+        Some(form) => Some(as_rule(entry, form)),
+        None => None,
     }
-    if section == AUTOFIRE_COILS_NAME {
-        return Some(CoilRule::Autofire(as_autofire(entry)));
-    }
-    None
 }

@@ -2,10 +2,10 @@
 //!
 //! A [`Section`] has the entries that were read by its table. They are rows of values in the order
 //! of the table: [`as_switch`], [`as_event_player`], [`as_coil`], [`as_coil_player`],
-//! [`as_variable_player`], [`as_flipper`], [`as_autofire`], [`as_coil_rule`], [`as_counter`], [`as_step_block`],
-//! [`as_timer`], [`as_shot`], [`as_shot_group`], [`as_shot_profile`], [`as_ball_device`],
-//! [`as_ball_save`], [`as_multiball`], [`as_game`], [`min_balls`], [`as_mode_settings`] and
-//! [`mode_settings`] give each setting by its name.
+//! [`as_variable_player`], [`as_coil_rule`], [`as_counter`], [`as_step_block`], [`as_timer`],
+//! [`as_shot`], [`as_shot_group`], [`as_shot_profile`], [`as_ball_device`], [`as_ball_save`],
+//! [`as_multiball`], [`as_game`], [`min_balls`], [`as_mode_settings`] and [`mode_settings`] give
+//! each setting by its name.
 #![tactic(auto)]
 
 pub mod balls;
@@ -24,9 +24,7 @@ pub mod words;
 
 pub use balls::{BallDeviceEntry, as_ball_device};
 pub use blocks::{BlockEvents, CounterEntry, StepBlock, as_counter, as_step_block};
-pub use coil_rules::{
-    AutofireEntry, CoilRule, FlipperEntry, Rule, as_autofire, as_coil_rule, as_flipper,
-};
+pub use coil_rules::{CoilRule, RuleForm, RuleKind, as_coil_rule};
 pub use coils::{Coil, CoilItem, CoilPlayer, as_coil, as_coil_item, as_coil_player};
 pub use game::{
     GameSettings, VariableItem, VariablePlayer, as_game, as_variable_item, as_variable_player,

@@ -27,7 +27,7 @@ use Rattle.plan_rows.specs.Seats.{Seat, seat_of, ball_row_of, row_or_unknown, de
 use Rattle.plan_rows.specs.Rows.{Row, entry, alone, player, shot_row, group_row, ball_device_row, other_row, entry_row}
 use Rattle.plan_parts.specs.{Effects.{Effect, posts}, VariableEntries.item_change}
 use Rattle.plan_parts.{proofs.SeatFacts.ball_row_some, specs.BallEntries.{is_known, ball_device_from}}
-use Rattle.plan_parts.specs.CoilEntries.{item_effect, coil_rule_device, rule_device_of}
+use Rattle.plan_parts.specs.CoilEntries.{item_effect, named_switches, rule_device_of}
 use Rattle.plan_parts.specs.DeviceEntries.{texts, Device, events, always, device_of}
 use Rattle.plan_parts.specs.SaveEntries.{save_device_of, save_device, multiball_device}
 use Rattle.plan_parts.specs.Doing.{IsHeardOnce, IsShotGroupDoing, IsDoing, IsMachineDoing, AreDoing, Does}
@@ -92,13 +92,13 @@ machine_apart : (machine : List SectionRows) (whose : Whose) (section : List ℕ
     → ListensApart (machine_device machine whose section e)
 machine_apart machine whose section e = by (coil_rule_of section e) (entry_apart section e)
   where
-    rule : (r : CoilRule) → AreApart (coil_rule_device machine r).listens
-    rule r = search (rules, one_apart, none_apart)
+    rule : (o : Option WrittenName) → AreApart (named_switches o)
+    rule x1 = search (rules, one_apart, none_apart)
 
     by : (o : Option CoilRule) → ListensApart (device_of section e)
         → ListensApart (first_of (rule_device_of machine o) (device_of section e))
     by None is = is
-    by (Some r) is = rule r
+    by (Some r) is = rule r.switch
 
 -- ---- targets
 

@@ -126,21 +126,6 @@ device_acting {old} {new} settings event_acts lists head of known mentions liste
   lists = doing;
 }
 
--- effect lists more
-pub more_lists : {old mid : rows.RowParts} (d : Device) (lists more : List (List Effect)) → AddsDevice old mid d
-    → lists ≡ mid.lists ++ more
-    → AddsDevice old (record mid { lists = lists }) (record d { lists = d.lists ++ more })
-more_lists {old} {mid} d lists more a doing = record {
-  head = a.head;
-  of = a.of;
-  known = a.known;
-  mentions = a.mentions;
-  listens = a.listens;
-  event_acts = a.event_acts;
-  other_mentions = a.other_mentions;
-  lists = doing ∙ ap (λ l. l ++ more) a.lists ∙ append_assoc old.lists d.lists more;
-}
-
 -- ---- logic blocks
 
 -- a device that has what all kinds of blocks have, and handles these events before

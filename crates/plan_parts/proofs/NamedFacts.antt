@@ -4,10 +4,10 @@ use Rattle.std.specs.{Prelude.{Option, IfSome}, List.All, Str.bytes_eq}
 use Rattle.std.proofs.lemmas.List.Elements.{All-nil, All-cons, All-head, All-tail, All-append, All-map, All-weaker}
 use Rattle.mpf_values.specs.Events.{Event}
 use Rattle.mpf_sections.specs.Rows.{WrittenName, HandledEvent, Entry, Switch, EventPlayer, SectionRows}
-use Rattle.mpf_sections.specs.Rows.{Rule, BlockEvents, CounterEntry, StepBlock, BallSaveEntry, MultiballEntry}
+use Rattle.mpf_sections.specs.Rows.{BlockEvents, CounterEntry, StepBlock, BallSaveEntry, MultiballEntry}
 use Rattle.mpf_sections.specs.Rows.{ControlEvent as TimerControl, TimerEntry, Shot, ShotGroup, BallDeviceEntry}
 use Rattle.mpf_sections.specs.Named.{IsName, AllNames, IsNamedHandled, AllNamedEvents, IsNamedEntry, IsNamedSwitch}
-use Rattle.mpf_sections.specs.Named.{IsNamedEventPlayer, IsNamedRule, IsNamedCounter, IsNamedStepBlock, IsNamedTimer}
+use Rattle.mpf_sections.specs.Named.{IsNamedEventPlayer, IsNamedCounter, IsNamedStepBlock, IsNamedTimer}
 use Rattle.mpf_sections.specs.{Named.{IsNamedShot, IsNamedShotGroup}, Typed.{step_block_of, timer_of}}
 use Rattle.mpf_sections.specs.Named.{IsNamedBallDevice, IsNamedBallSave, IsNamedMultiball, IsNamedBlock}
 use Rattle.mpf_sections.specs.Typed.{counters_name, accruals_name, sequences_name, timers_name, counter_of}
@@ -20,9 +20,8 @@ use Rattle.plan_tables.specs.declared.devices.Settings.{Settings}
 use Rattle.plan_tables.specs.declared.devices.Settings.TheVariants as kinds
 use Rattle.plan_rows.specs.{declared.destination.Destination.Destination, Members.Members}
 use Rattle.plan_parts.specs.Effects.{Effect, posts, works, leaves, loses, arrives}
-use Rattle.plan_parts.specs.CoilEntries.{defaults_called, own_pulse, rule_device}
+use Rattle.plan_parts.specs.{CoilEntries.{defaults_called, own_pulse}, BallEntries.{drain_mentions, ball_device_from}}
 use Rattle.plan_parts.specs.BallEntries.{drains, ball_event, ball_endings, eject_pulse, attempt_effects}
-use Rattle.plan_parts.specs.BallEntries.{drain_mentions, ball_device_from}
 use Rattle.plan_parts.specs.ShotEntries.{shot_events, group_events, shot_acts, lone_device, group_device}
 use Rattle.plan_parts.specs.SaveEntries.{save_device, multiball_device, save_device_of}
 use Rattle.plan_parts.specs.DeviceEntries.{Device, texts, always, acts, block_acts, block_mentions, device_of}
@@ -164,7 +163,7 @@ module _ (P : List ℕ → Type 0) (of : IsOfNames P) where
   -- ---- ball saves and coil rules
 
   -- what enables and disables one of them
-  fit_rule : (enables disables : List HandledEvent) → AllNamedEvents enables → AllNamedEvents disables
+  pub fit_rule : (enables disables : List HandledEvent) → AllNamedEvents enables → AllNamedEvents disables
       → All (λ h. IsFitEvent P h.0) (acts Enable enables ++ acts Disable disables)
   fit_rule enables disables h k =
       All-append (λ (x : Event × Act). IsFitEvent P x.0) (acts Enable enables) (acts Disable disables)
@@ -184,15 +183,6 @@ module _ (P : List ℕ → Type 0) (of : IsOfNames P) where
     event_acts = all_acts Begin m.start_events h.start_events;
     other_mentions = All-nil P;
     lists = all_multiball_by (IsFitEffect P) m.name.text m.settings.balls (of.multiball m.name.text h.name) tt;
-  }
-
-  pub fit_rule_device : (settings : Settings) (r : Rule) (lists : List (List Effect)) → IsNamedRule r
-      → All (All (IsFitEffect P)) lists → Fit (rule_device settings r lists)
-  fit_rule_device settings r lists h all = record {
-    listens = All-cons IsName r.switch.text [] h.switch (All-nil IsName);
-    event_acts = fit_rule r.enables r.disables h.enables h.disables;
-    other_mentions = All-nil P;
-    lists = all;
   }
 
   -- ---- shots

@@ -1,9 +1,10 @@
--- What the entries of coils, coil players, flippers and autofire coils say. Here `machine` is the sections of the
--- machine text, which have the coils.
+-- What the entries of coils, coil players and coil rules say. Here `machine` is the sections of the machine text, which
+-- have the coils.
 use Rattle.std.specs.Prelude.{ℕ, Bool, if◌then◌else◌, List, [], ◌∷◌, ◌++◌, Option, None, Some, option_map, unwrap_or}
-use Rattle.mpf_sections.specs.{declared.words.CoilAction.CoilAction, CoilRules.{CoilRule, flipper, autofire}}
+use Rattle.mpf_sections.specs.{declared.words.CoilAction.CoilAction, CoilRules.CoilRule}
+use Rattle.mpf_sections.specs.declared.coil_rules.RuleKind.{RuleKind, TheVariants.{Flipper, Autofire}}
 use Rattle.mpf_sections.specs.declared.words.CoilAction.TheVariants as actions
-use Rattle.mpf_sections.specs.Rows.{WrittenName, Coil, CoilItem, Rule, FlipperEntry, AutofireEntry, SectionRows}
+use Rattle.mpf_sections.specs.Rows.{WrittenName, Coil, CoilItem, SectionRows}
 use Rattle.plan_tables.specs.declared.entries.CoilLimits.{CoilLimits}
 use Rattle.plan_tables.specs.declared.devices.{Settings.Settings, Act.TheVariants.{Enable, Disable}}
 use Rattle.plan_tables.specs.declared.devices.Settings.TheVariants as kinds
@@ -53,7 +54,7 @@ deed_by c item actions.Disable = disable
 abbrev pub item_effect : List SectionRows → CoilItem → Effect
 item_effect machine item = works item.coil.text (deed_by (defaults_called machine item.coil.text) item item.action)
 
--- ---- flippers and autofire coils
+-- ---- coil rules
 
 -- What lifts a flipper. If it has a hold coil, the main coil is pulsed, and the hold coil is enabled. If it has none,
 -- the main coil is enabled if it may be held, and else pulsed.
@@ -71,28 +72,38 @@ flipper_off machine main (Some hold) = works hold.text disable ∷ []
 flipper_off machine main None = if (defaults_called machine main.text).may_hold then works main.text disable
     ∷ [] else []
 
--- the device of a coil rule, with these settings and effect lists
-abbrev pub rule_device : Settings → Rule → List (List Effect) → Device
-rule_device settings r lists = record {
-  settings = settings;
-  listens = r.switch.text ∷ [];
+-- the effect lists of a flipper: on, and off
+abbrev pub flipper_lists : List SectionRows → WrittenName → Option WrittenName → List (List Effect)
+flipper_lists machine main hold = flipper_on machine main hold ∷ flipper_off machine main hold ∷ []
+
+-- the effect list of an autofire coil, which pulses its coil
+abbrev pub autofire_lists : List SectionRows → WrittenName → List (List Effect)
+autofire_lists machine coil = (works coil.text (own_pulse (defaults_called machine coil.text)) ∷ []) ∷ []
+
+-- the effect lists of a coil rule with this coil, and maybe a hold coil
+abbrev pub rule_lists : List SectionRows → WrittenName → Option WrittenName → RuleKind → List (List Effect)
+rule_lists machine coil hold Flipper = flipper_lists machine coil hold
+rule_lists machine coil hold Autofire = autofire_lists machine coil
+
+-- the settings of its device
+abbrev pub rule_settings : RuleKind → Settings
+rule_settings Flipper = kinds.Flipper
+rule_settings Autofire = kinds.Autofire
+
+-- the switch to which it listens, if it has one
+abbrev pub named_switches : Option WrittenName → List (List ℕ)
+named_switches None = []
+named_switches (Some w) = w.text ∷ []
+
+-- the device of a coil rule, and of an entry that may be one
+abbrev pub coil_rule_device : List SectionRows → CoilRule → Device
+coil_rule_device machine r = record {
+  settings = rule_settings r.form.kind;
+  listens = named_switches r.switch;
   event_acts = acts Enable r.enables ++ acts Disable r.disables;
   other_mentions = [];
-  lists = lists;
+  lists = rule_lists machine r.coil r.hold_coil r.form.kind;
 }
-
-abbrev pub flipper_device : List SectionRows → FlipperEntry → Device
-flipper_device machine f = rule_device kinds.Flipper f.rule
-    (flipper_on machine f.main_coil f.hold_coil ∷ flipper_off machine f.main_coil f.hold_coil ∷ [])
-
-abbrev pub autofire_device : List SectionRows → AutofireEntry → Device
-autofire_device machine a = rule_device kinds.Autofire a.rule
-    ((works a.coil.text (own_pulse (defaults_called machine a.coil.text)) ∷ []) ∷ [])
-
--- the device of a coil rule, whichever it is, and of an entry that may be one
-abbrev pub coil_rule_device : List SectionRows → CoilRule → Device
-coil_rule_device machine (flipper f) = flipper_device machine f
-coil_rule_device machine (autofire a) = autofire_device machine a
 
 abbrev pub rule_device_of : List SectionRows → Option CoilRule → Option Device
 rule_device_of machine rule = option_map (coil_rule_device machine) rule

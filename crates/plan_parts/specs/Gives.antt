@@ -11,9 +11,6 @@ use Rattle.mpf_sections.specs.declared.blocks.StepBlock as typed_steps
 use Rattle.mpf_sections.specs.declared.timers.TimerEntry as typed_timers
 use Rattle.mpf_sections.specs.declared.coils.Coil as typed_coils
 use Rattle.mpf_sections.specs.declared.coils.CoilPlayer as typed_coil_players
-use Rattle.mpf_sections.specs.declared.coil_rules.Rule as typed_rules
-use Rattle.mpf_sections.specs.declared.coil_rules.FlipperEntry as typed_flippers
-use Rattle.mpf_sections.specs.declared.coil_rules.AutofireEntry as typed_autofires
 use Rattle.mpf_sections.specs.declared.coil_rules.CoilRule as typed_coil_rules
 use Rattle.mpf_sections.specs.declared.game.VariablePlayer as typed_variable_players
 use Rattle.mpf_sections.specs.declared.game.GameSettings as typed_games
@@ -25,7 +22,7 @@ use Rattle.mpf_sections.specs.declared.saves.MultiballEntry as typed_multiballs
 use Rattle.mpf_sections.specs.{Rows.SectionRows, CoilRules.coil_rule_view}
 use Rattle.mpf_sections.specs.View.{entry_view, player_view, switch_view, event_player_view, mode_settings_view}
 use Rattle.mpf_sections.specs.View.{block_view, counter_view, step_block_view, timer_view, coil_view, coil_player_view}
-use Rattle.mpf_sections.specs.View.{rule_view, flipper_view, autofire_view, variable_player_view, game_view, shot_view}
+use Rattle.mpf_sections.specs.View.{variable_player_view, game_view, shot_view}
 use Rattle.mpf_sections.specs.View.{shot_group_view, ball_device_view, ball_save_view, multiball_view}
 use Rattle.machine_definitions.specs.declared.profile.Profile as profiles
 use Rattle.machine_definitions.specs.Found.{profile_view}
@@ -44,9 +41,9 @@ use Rattle.plan_parts.specs.DeviceEntries.{Device, texts, block_acts, block_ment
 use Rattle.plan_parts.specs.DeviceEntries.{step_settings, step_device, timer_device, device_of}
 use Rattle.plan_parts.specs.BallEntries.{ball_settings, is_known, ball_device_from}
 use Rattle.plan_parts.specs.SaveEntries.{save_device, multiball_device, save_device_of}
-use Rattle.plan_parts.specs.CoilEntries.{Defaults, item_effect, rule_device, flipper_device, autofire_device}
-use Rattle.plan_parts.specs.{CoilEntries.coil_rule_device, Parts.{player_parts, handler, run}}
-use Rattle.plan_parts.specs.{ShotEntries.{group_device, lone_device}, Effects.posts, VariableEntries.item_change}
+use Rattle.plan_parts.specs.CoilEntries.{Defaults, item_effect, coil_rule_device}
+use Rattle.plan_parts.specs.{Parts.{player_parts, handler, run}, ShotEntries.{group_device, lone_device}}
+use Rattle.plan_parts.specs.{Effects.posts, VariableEntries.item_change}
 use Rattle.plan_parts.specs.Parts.{Whose, Part, device, where_some, unknown_unless, with_seat, mention, switch_part}
 use Rattle.plan_parts.specs.Parts.{coil_part, game_part, mode_parts, machine_entry_parts, entry_parts, alone_parts}
 use Rattle.plan_parts.specs.RowViews.{AreNoParts, acts_view, bytes_view, names_view, parts_in}
@@ -155,16 +152,6 @@ ball_save_in s = save_device (ball_save_view s)
 
 abbrev pub multiball_in : typed_multiballs.MultiballEntry → Device
 multiball_in m = multiball_device (multiball_view m)
-
--- what all coil rules have; their lists are added after it
-abbrev pub rule_in : Settings → typed_rules.Rule → Device
-rule_in settings r = rule_device settings (rule_view r) []
-
-abbrev pub flipper_in : List SectionRows → typed_flippers.FlipperEntry → Device
-flipper_in machine f = flipper_device machine (flipper_view f)
-
-abbrev pub autofire_in : List SectionRows → typed_autofires.AutofireEntry → Device
-autofire_in machine a = autofire_device machine (autofire_view a)
 
 abbrev pub coil_rule_in : List SectionRows → typed_coil_rules.CoilRule → Device
 coil_rule_in machine r = coil_rule_device machine (coil_rule_view r)

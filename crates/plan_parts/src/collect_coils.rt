@@ -1,13 +1,15 @@
-//! What the entries of coils, coil players, flippers and autofire coils give to a plan.
+//! What the entries of coils, coil players and coil rules give to a plan.
 
-ghost use Rattle.std.specs.Prelude.{◌≡◌, ◌∷◌, ◌++◌, [], map, OnOk};
+ghost use Rattle.std.specs.Prelude.{◌≡◌, ◌∷◌, ◌++◌, [], map, option_map, OnOk};
 ghost use Rattle.mpf_sections.specs.TypedCoils.{coil_item_of};
 ghost use Rattle.mpf_sections.specs.View.{coil_view, coil_item_view, keyed_view, name_at_view};
 ghost use Rattle.plan_parts.specs.CoilEntries.{limits_of_coil, defaults_called, own_pulse, own_hold, deed_by};
-ghost use Rattle.plan_parts.specs.CoilEntries.{flipper_off, flipper_on, item_effect};
-ghost use Rattle.plan_parts.specs.Gives.{AddsDevice, Gives, autofire_in, coil_gives, coil_player_gives, coil_rule_in};
-ghost use Rattle.plan_parts.specs.Gives.{defaults_view, flipper_in, rule_in};
+ghost use Rattle.plan_parts.specs.CoilEntries.{autofire_lists, flipper_lists, item_effect, named_switches, rule_lists};
+ghost use Rattle.plan_parts.specs.CoilEntries.{rule_settings};
+ghost use Rattle.plan_parts.specs.Gives.{AddsDevice, Gives, coil_gives, coil_player_gives, coil_rule_in};
+ghost use Rattle.plan_parts.specs.Gives.{defaults_view};
 ghost use Rattle.plan_parts.specs.Lists.{with_last};
+ghost use Rattle.plan_parts.specs.RowViews.{bytes_view};
 ghost use Rattle.plan_parts.specs.View.{deed_view};
 
 use crate::collect_handled::collect_acts;
@@ -15,10 +17,8 @@ use crate::effects::{Deed, Effect, EffectLists, do_in_next};
 use crate::row_parts::{HandledName, RowHead, RowParts, add};
 use machine_definitions::Definitions;
 use mpf_config::{
-    AutofireEntry, Coil, CoilAction, CoilItem, CoilPlayer, FlipperEntry, KeyedValues, NameAt,
-    as_coil_item,
+    Coil, CoilAction, CoilItem, CoilPlayer, CoilRule, KeyedValues, NameAt, RuleKind, as_coil_item,
 };
-use mpf_sections::{CoilRule, Rule};
 use plan_tables::devices::{Act, Settings};
 use plan_tables::entries::CoilLimits;
 use std::alloc::AllocError;
@@ -123,20 +123,6 @@ fn collect_items<'a>(
 
 // ---- coil rules
 
-/// A coil rule, whichever it is.
-pub(crate) fn collect_coil_rule<'a>(
-    parts: &mut RowParts<'a>,
-    definitions: &Definitions<'_>,
-    rule: CoilRule<'a>,
-) -> Result<(), AllocError>
-    ensures { OnOk result (AddsDevice parts.old parts.new (coil_rule_in definitions.now.machine rule.entry)) }
-{
-    match rule {
-        CoilRule::Flipper(row) => collect_flipper(parts, definitions, row),
-        CoilRule::Autofire(row) => collect_autofire(parts, definitions, row),
-    }
-}
-
 pub(crate) fn own_pulse(coil: Defaults) -> Deed
     ensures { deed_view result ≡ own_pulse (defaults_view coil) }
 {
@@ -154,32 +140,71 @@ fn own_hold(coil: Defaults) -> Deed
     }
 }
 
-/// A device that is a coil rule: it listens to its switch, and events enable and disable it.
-fn collect_rule<'a>(
-    parts: &mut RowParts<'a>,
-    settings: Settings,
-    row: Rule<'a>,
-) -> Result<(), AllocError>
-    ensures { OnOk result (AddsDevice parts.old parts.new (rule_in settings row.entry)) }
-{
-    parts.head = RowHead::Device(settings);
-    add(&mut parts.listens, row.switch.text)?;
-    collect_acts(&mut parts.event_acts, Act::Enable, row.enables)?;
-    collect_acts(&mut parts.event_acts, Act::Disable, row.disables)
-}
-
-/// A flipper.
-fn collect_flipper<'a>(
+/// A coil rule is a device: it listens to its switch, if it has one, and events enable and disable it.
+pub(crate) fn collect_coil_rule<'a>(
     parts: &mut RowParts<'a>,
     definitions: &Definitions<'_>,
-    row: FlipperEntry<'a>,
+    row: CoilRule<'a>,
 ) -> Result<(), AllocError>
-    ensures { OnOk result (AddsDevice parts.old parts.new (flipper_in definitions.now.machine row.entry)) }
+    ensures { OnOk result (AddsDevice parts.old parts.new (coil_rule_in definitions.now.machine row.entry)) }
 {
-    collect_rule(parts, Settings::Flipper, row.rule)?;
-    match row.hold_coil {
-        Some(hold) => collect_two_coils(&mut parts.lists, definitions, row.main_coil, hold),
-        None => collect_main_coil(&mut parts.lists, definitions, row.main_coil),
+    let settings = settings_of_rule(row.form.kind);
+    parts.head = RowHead::Device(settings);
+    listen_to(&mut parts.listens, row.switch)?;
+    collect_acts(&mut parts.event_acts, Act::Enable, row.enables)?;
+    collect_acts(&mut parts.event_acts, Act::Disable, row.disables)?;
+    collect_lists(&mut parts.lists, definitions, row)
+}
+
+/// The settings of the device of a coil rule.
+fn settings_of_rule(kind: RuleKind) -> Settings
+    ensures { result ≡ rule_settings kind }
+{
+    match kind {
+        RuleKind::Flipper => Settings::Flipper,
+        RuleKind::Autofire => Settings::Autofire,
+    }
+}
+
+/// A device listens to this switch, if there is one.
+fn listen_to<'a>(listens: &mut Vec<&'a [u8]>, switch: Option<NameAt<'a>>) -> Result<(), AllocError>
+    ensures { OnOk result (bytes_view listens.new.items
+        ≡ bytes_view listens.old.items ++ named_switches (option_map name_at_view switch.entry)) }
+{
+    match switch {
+        Some(switch) => add(listens, switch.text),
+        None => Ok(()),
+    }
+}
+
+/// The effect lists of a coil rule.
+fn collect_lists<'a>(
+    lists: &mut EffectLists<'a>,
+    definitions: &Definitions<'_>,
+    row: CoilRule<'a>,
+) -> Result<(), AllocError>
+    ensures { OnOk result (lists.new ≡ lists.old ++ rule_lists definitions.now.machine (name_at_view row.entry.coil)
+        (option_map name_at_view row.entry.hold_coil) row.entry.form.kind) }
+{
+    match row.form.kind {
+        RuleKind::Flipper => collect_flipper(lists, definitions, row.coil, row.hold_coil),
+        RuleKind::Autofire => collect_autofire(lists, definitions, row.coil),
+    }
+}
+
+/// The effect lists of a flipper.
+fn collect_flipper<'a>(
+    lists: &mut EffectLists<'a>,
+    definitions: &Definitions<'_>,
+    main: NameAt<'a>,
+    hold: Option<NameAt<'a>>,
+) -> Result<(), AllocError>
+    ensures { OnOk result (lists.new ≡ lists.old
+        ++ flipper_lists definitions.now.machine (name_at_view main.entry) (option_map name_at_view hold.entry)) }
+{
+    match hold {
+        Some(hold) => collect_two_coils(lists, definitions, main, hold),
+        None => collect_main_coil(lists, definitions, main),
     }
 }
 
@@ -192,8 +217,7 @@ fn collect_two_coils<'a>(
     hold: NameAt<'a>,
 ) -> Result<(), AllocError>
     ensures { OnOk result (lists.new ≡ lists.old
-        ++ flipper_on definitions.now.machine (name_at_view main.entry) (Some (name_at_view hold.entry))
-        ∷ flipper_off definitions.now.machine (name_at_view main.entry) (Some (name_at_view hold.entry)) ∷ []) }
+        ++ flipper_lists definitions.now.machine (name_at_view main.entry) (Some (name_at_view hold.entry))) }
 {
     let pulse = own_pulse(defaults_of(definitions, main.text));
     let enable = own_hold(defaults_of(definitions, hold.text));
@@ -209,8 +233,8 @@ fn collect_main_coil<'a>(
     definitions: &Definitions<'_>,
     main: NameAt<'a>,
 ) -> Result<(), AllocError>
-    ensures { OnOk result (lists.new ≡ lists.old ++ flipper_on definitions.now.machine (name_at_view main.entry) None
-        ∷ flipper_off definitions.now.machine (name_at_view main.entry) None ∷ []) }
+    ensures { OnOk result (lists.new ≡ lists.old
+        ++ flipper_lists definitions.now.machine (name_at_view main.entry) None) }
 {
     let coil = defaults_of(definitions, main.text);
     if !coil.may_hold {
@@ -221,15 +245,15 @@ fn collect_main_coil<'a>(
     do_in_next(lists, Effect::Coil(main.text, Deed::Disable))
 }
 
-/// An autofire coil.
+/// The effect list of an autofire coil.
 fn collect_autofire<'a>(
-    parts: &mut RowParts<'a>,
+    lists: &mut EffectLists<'a>,
     definitions: &Definitions<'_>,
-    row: AutofireEntry<'a>,
+    coil: NameAt<'a>,
 ) -> Result<(), AllocError>
-    ensures { OnOk result (AddsDevice parts.old parts.new (autofire_in definitions.now.machine row.entry)) }
+    ensures { OnOk result (lists.new ≡ lists.old
+        ++ autofire_lists definitions.now.machine (name_at_view coil.entry)) }
 {
-    collect_rule(parts, Settings::Autofire, row.rule)?;
-    let pulse = own_pulse(defaults_of(definitions, row.coil.text));
-    do_in_next(&mut parts.lists, Effect::Coil(row.coil.text, pulse))
+    let pulse = own_pulse(defaults_of(definitions, coil.text));
+    do_in_next(lists, Effect::Coil(coil.text, pulse))
 }

@@ -2,10 +2,9 @@
 
 use crate::pen::Pen;
 use mpf_config::{
-    KeyedValues, Section, as_autofire, as_coil, as_coil_item, as_coil_player, as_flipper,
+    CoilRule, KeyedValues, RuleKind, Section, as_coil, as_coil_item, as_coil_player, as_coil_rule,
 };
-use mpf_sections::Rule;
-use mpf_tables::tables::{AUTOFIRE_COILS_NAME, COIL_PLAYER_NAME, COILS_NAME, FLIPPERS_NAME};
+use mpf_tables::tables::{COIL_PLAYER_NAME, COILS_NAME};
 
 /// Texts, and what is read of them. A coil is shown by its name, the length of its pulse and the greatest
 /// one, the power of its pulse and the greatest one, whether it may be held, the power with which it is held
@@ -61,29 +60,23 @@ fn show_coil_players(pen: &mut Pen, section: &Section) {
     }
 }
 
-fn show_rule(pen: &mut Pen, rule: Rule<'_>) {
-    pen.name_at(Some(rule.switch));
+fn show_rule(pen: &mut Pen, rule: CoilRule<'_>) {
+    pen.entry(rule.name);
+    pen.name_at(Some(rule.coil));
+    if let RuleKind::Flipper = rule.form.kind {
+        pen.name_at(rule.hold_coil);
+    }
+    pen.name_at(rule.switch);
     pen.events(rule.enables);
     pen.events(rule.disables);
     pen.put(";\n");
 }
 
-fn show_flippers(pen: &mut Pen, section: &Section) {
-    for entry in section.entries_of(FLIPPERS_NAME) {
-        let flipper = as_flipper(entry);
-        pen.entry(flipper.rule.name);
-        pen.name_at(Some(flipper.main_coil));
-        pen.name_at(flipper.hold_coil);
-        show_rule(pen, flipper.rule);
-    }
-}
-
-fn show_autofires(pen: &mut Pen, section: &Section) {
-    for entry in section.entries_of(AUTOFIRE_COILS_NAME) {
-        let autofire = as_autofire(entry);
-        pen.entry(autofire.rule.name);
-        pen.name_at(Some(autofire.coil));
-        show_rule(pen, autofire.rule);
+fn show_rules(pen: &mut Pen, section: &Section) {
+    for entry in section.content.entries() {
+        if let Some(rule) = as_coil_rule(&section.name, entry) {
+            show_rule(pen, rule);
+        }
     }
 }
 
@@ -91,6 +84,5 @@ fn show_autofires(pen: &mut Pen, section: &Section) {
 pub(crate) fn show_coil_sections(pen: &mut Pen, section: &Section) {
     show_coils(pen, section);
     show_coil_players(pen, section);
-    show_flippers(pen, section);
-    show_autofires(pen, section);
+    show_rules(pen, section);
 }

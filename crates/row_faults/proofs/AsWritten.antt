@@ -9,6 +9,15 @@ use Rattle.row_faults.specs.Reserved.{switch_posts, block_posts, counter_posts, 
 use Rattle.row_faults.proofs.{None.flat_map-none, ByLine.{ordered-all, ordered-seen}}
 use Rattle.yaml_bytes.proofs.Each.{All-from_flat_map, All-from_map}
 
+-- if what settings have is nothing in their order, each has nothing
+pub order-none : {X : Type 0} (order : List ℕ) (parts : List (ℕ × List X)) → in_order order parts ≡ []
+    → All (λ part. part.1 ≡ []) parts
+unfolding in_order
+order-none {X = X} order parts e =
+    let before : ℕ × List X → ℕ = λ part. written_before order part.0 in
+    let none : ℕ × List X → Type 0 = λ part. part.1 ≡ [] in
+    ordered-all before none parts (flat_map-none (λ (part : ℕ × List X). part.1) (ordered_by before parts) e)
+
 -- what is of each item of what settings have is of all that each has
 module _ {X : Type 0} (table : List Setting) (order : List ℕ) (parts : List (List ℕ × List X)) where
   abbrev placed : List ℕ × List X → ℕ × List X
@@ -18,11 +27,9 @@ module _ {X : Type 0} (table : List Setting) (order : List ℕ) (parts : List (L
   before part = written_before order part.0
 
   pub written-none : as_written table order parts ≡ [] → All (λ part. part.1 ≡ []) parts
-  unfolding in_order
   written-none e =
       let none : ℕ × List X → Type 0 = λ part. part.1 ≡ [] in
-      All-from_map none placed parts (ordered-all before none (map placed parts)
-      (flat_map-none (λ (part : ℕ × List X). part.1) (ordered_by before (map placed parts)) e))
+      All-from_map none placed parts (order-none order (map placed parts) e)
 
   pub written-all : (P : X → Type 0) → All P (as_written table order parts) → All (λ part. All P part.1) parts
   unfolding in_order

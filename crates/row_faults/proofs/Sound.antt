@@ -1,13 +1,13 @@
 -- Rows without faults are sound.
 use Rattle.std.proofs.Common.{rules, ◌≡◌, ℕ, get_or, Bool, true, false, not, ◌||◌, List, [], ◌∷◌, ◌++◌, map, filter}
-use Rattle.std.proofs.Common.{Option, Some, None, IfSome, is_some, codes, refl, arith}
+use Rattle.std.proofs.Common.{Option, Some, None, IfSome, is_some, unwrap_or, codes, refl, arith}
 use Rattle.std.specs.{Option.is_none, List.{All, flat_map}}
 use Rattle.std.proofs.lemmas.{Bool.{ltb-false, not-false, or_parts}, List.Elements.{All-nil, All-cons, All-weaker}}
 use Rattle.mpf_tables.specs.SectionTables as tables
-use Rattle.mpf_sections.specs.Rows.{WrittenName, Coil, CoilItem, CoilPlayer, FlipperEntry, AutofireEntry}
-use Rattle.mpf_sections.specs.Rows.{VariablePlayer, Shot, ShotGroup, BallDeviceEntry, SectionRows}
+use Rattle.mpf_sections.specs.Rows.{WrittenName, Coil, CoilItem, CoilPlayer, VariablePlayer, Shot, ShotGroup}
+use Rattle.mpf_sections.specs.{Rows.{BallDeviceEntry, SectionRows}, TypedShots.{shots_in, shot_groups_in}}
 use Rattle.mpf_sections.specs.{Typed.{entries_in, timers_in}, TypedBalls.ball_devices_in}
-use Rattle.mpf_sections.specs.{TypedCoils.{coils_in, coil_players_in}, TypedShots.{shots_in, shot_groups_in}}
+use Rattle.mpf_sections.specs.TypedCoils.{coils_in, coil_players_in}
 use Rattle.mpf_sections.specs.{CoilRules.{CoilRule, coil_rule_of}, TypedGame.variable_players_in}
 use Rattle.row_faults.specs.VariableFaults.{is_barred, variable_player_faults, variable_faults}
 use Rattle.mpf_sections.specs.Short.{IsCoilInRange, IsItemInRange, IsCoilPlayerInRange}
@@ -15,23 +15,23 @@ use Rattle.mpf_sections.proofs.CoilRows.{coils_in_range, coil_players_in_range}
 use Rattle.mpf_config.specs.{Rows.{ModeRows, Rows}, BundleText.{machine_name, mode_text_name}}
 use Rattle.machine_definitions.specs.Definitions.{coil_called, has_switch, ball_devices_of}
 use Rattle.machine_definitions.{specs.Shots.{shot_called, has_profile}, proofs.Called.called-such}
-use Rattle.row_faults.specs.{FaultView.RowFaultView, CoilFaults.{autofire_faults, rule_faults}}
-use Rattle.row_faults.specs.declared.fault.RowFaultKind.TheVariants.{Name}
+use Rattle.row_faults.specs.{FaultView.RowFaultView, declared.fault.RowFaultKind.TheVariants.Name}
+use Rattle.row_faults.specs.CoilFaults.{named_switch_faults, rule_faults}
 use Rattle.row_faults.specs.Reserved.{events_of_modes, mode_names, is_reserved_by, posts_in, posts_of, reserved_among}
 use Rattle.row_faults.specs.CoilFaults.{fault_if, coil_name_faults, switch_name_faults, coil_faults, item_faults_by}
-use Rattle.row_faults.specs.CoilFaults.{item_faults, coil_player_faults, hold_faults_by, hold_faults, flipper_faults}
+use Rattle.row_faults.specs.CoilFaults.{item_faults, coil_player_faults, hold_faults_by, hold_faults, coil_rule_faults}
 use Rattle.row_faults.specs.RowFaults.{name_fault, starts_at_end, timer_fault, coil_faults_in, section_faults}
 use Rattle.row_faults.specs.RowFaults.{written_faults, text_faults, mode_faults, is_none_taken, faults_by, row_faults}
 use Rattle.row_faults.specs.BallFaults.{is_place, eject_coil_faults, target_faults, ball_device_faults, route_faults}
-use Rattle.row_faults.specs.ShotFaults.{shot_switch_faults, profile_faults, shot_faults, ListedShot, first_shot}
+use Rattle.row_faults.specs.ShotFaults.{profile_faults, shot_faults, ListedShot, first_shot}
 use Rattle.row_faults.specs.ShotFaults.{listed_by, listed_in, listed_of, is_own_shot, are_of_two_profiles, is_misplaced}
 use Rattle.row_faults.specs.ShotFaults.{taken_with, taken_after, kept_if, faulty_shots}
 use Rattle.row_faults.specs.Sound.{ChangesNothingBarred, IsHoldWithin, IsCoilSound, IsCoilSuch, IsItemSound}
-use Rattle.row_faults.specs.Sound.{IsCoilPlayerSound, IsFlipperSound, IsAutofireSound, IsRuleSound, IsShotSound}
+use Rattle.row_faults.specs.Sound.{IsCoilPlayerSound, IsCoilRuleSound, IsShotSound}
 use Rattle.row_faults.specs.Sound.{IsShotGroupSound, IsBallDeviceSound, IsSectionSound, IsSound}
 use Rattle.row_faults.proofs.None.{fault_if-none, map-none, append-none, flat_map-none, filter-none, ordered-none}
-use Rattle.row_faults.proofs.{None.once-none, AsWritten.written-none}
-use Rattle.row_faults.proofs.{Called.{machine-called, mode-called}, Routed.route_faults-none}
+use Rattle.row_faults.proofs.{None.once-none, Routed.route_faults-none}
+use Rattle.row_faults.proofs.{AsWritten.{order-none, written-none}, Called.{machine-called, mode-called}}
 use Rattle.yaml_bytes.proofs.Each.{or_else, All-flat_map, All-from_flat_map, All-from_map}
 
 -- ---- settings
@@ -39,6 +39,16 @@ use Rattle.yaml_bytes.proofs.Each.{or_else, All-flat_map, All-from_flat_map, All
 -- a setting that is none
 abbrev no_part : List ℕ × List RowFaultView
 no_part = ([], [])
+
+-- ---- switches
+
+switch-sound : (machine : List SectionRows) (text : List ℕ) (w : WrittenName) → switch_name_faults machine text w ≡ []
+    → has_switch machine w.text ≡ true
+switch-sound machine text w e = not-false (has_switch machine w.text) (fault_if-none _ Name text w e)
+
+named_switch-sound : (machine : List SectionRows) (text : List ℕ) (o : Option WrittenName)
+    → named_switch_faults machine text o ≡ [] → IfSome o (λ w. has_switch machine w.text ≡ true)
+named_switch-sound machine text x1 e = search (rules, switch-sound)
 
 -- ---- coils
 
@@ -57,9 +67,6 @@ module _ (machine : List SectionRows) (all : All IsCoilSound (flat_map coils_in 
       by : (o : Option Coil) → coil_called machine w.text ≡ o → fault_if (is_none o) Name text w ≡ []
           → IsCoilSuch machine w.text IsCoilSound
       by x1 is e = search (rules, sound)
-
-  switch-sound : (w : WrittenName) → switch_name_faults machine text w ≡ [] → has_switch machine w.text ≡ true
-  switch-sound w e = not-false (has_switch machine w.text) (fault_if-none _ Name text w e)
 
   -- ---- coil players
 
@@ -86,30 +93,21 @@ module _ (machine : List SectionRows) (all : All IsCoilSound (flat_map coils_in 
           → IsCoilSuch machine w.text (λ c. IsHoldWithin c c.hold_power)
       by x1 is e = search (rules, not-false, fault_if-none, sound)
 
-  flipper-sound : (f : FlipperEntry) → flipper_faults machine text f ≡ [] → IsFlipperSound machine f
-  flipper-sound f e =
-      let parts = (codes "main_coil", coil_name_faults machine text f.main_coil)
-      ∷ (codes "hold_coil", hold_faults machine text f.rule.name.line f.hold_coil)
-      ∷ (codes "activation_switch", switch_name_faults machine text f.rule.switch) ∷ [] in
-      let none = written-none tables.flippers f.rule.order parts e in
+  coil_rule-sound : (r : CoilRule) → coil_rule_faults machine text r ≡ [] → IsCoilRuleSound machine r
+  coil_rule-sound r e =
+      let parts = (r.form.coil, coil_name_faults machine text r.coil)
+      ∷ (unwrap_or r.form.hold_coil 0, hold_faults machine text r.name.line r.hold_coil)
+      ∷ (unwrap_or r.form.switch 0, named_switch_faults machine text r.switch) ∷ [] in
+      let none = order-none r.order parts e in
       record {
-        main_coil = named-sound f.main_coil (none 0 no_part (omega arith));
-        hold_coil = hold-sound f.rule.name.line f.hold_coil (none 1 no_part (omega arith));
-        switch = switch-sound f.rule.switch (none 2 no_part (omega arith));
+        coil = named-sound r.coil (none 0 (0, []) (omega arith));
+        hold_coil = hold-sound r.name.line r.hold_coil (none 1 (0, []) (omega arith));
+        switch = named_switch-sound machine text r.switch (none 2 (0, []) (omega arith));
       }
 
-  autofire-sound : (a : AutofireEntry) → autofire_faults machine text a ≡ [] → IsAutofireSound machine a
-  autofire-sound a e =
-      let parts = (codes "coil", coil_name_faults machine text a.coil)
-      ∷ (codes "switch", switch_name_faults machine text a.rule.switch) ∷ [] in
-      let none = written-none tables.autofire_coils a.rule.order parts e in
-      record {
-        coil = named-sound a.coil (none 0 no_part (omega arith));
-        switch = switch-sound a.rule.switch (none 1 no_part (omega arith));
-      }
-
-  rule-sound : (o : Option CoilRule) → rule_faults machine text o ≡ [] → IsRuleSound machine o
-  rule-sound x1 e = search (rules, flipper-sound, autofire-sound)
+  rule-sound : (o : Option CoilRule) → rule_faults machine text o ≡ [] → IfSome o (IsCoilRuleSound machine)
+  rule-sound None e = tt
+  rule-sound (Some r) e = coil_rule-sound r e
 
   -- ---- ball devices
 
@@ -125,7 +123,7 @@ module _ (machine : List SectionRows) (all : All IsCoilSound (flat_map coils_in 
       let none = written-none tables.ball_devices d.order parts e in
       let each = flat_map-none (switch_name_faults machine text) d.switches (none 0 no_part (omega arith)) in
       record {
-        switches = λ i x within. switch-sound (get_or d.switches i x) (each i x within);
+        switches = λ i x within. switch-sound machine text (get_or d.switches i x) (each i x within);
         eject_coil = eject-sound d.eject_coil (none 1 no_part (omega arith));
         target = not-false (is_place machine d.target.text)
             (fault_if-none _ Name text d.target (none 2 no_part (omega arith)));
@@ -135,18 +133,14 @@ module _ (machine : List SectionRows) (all : All IsCoilSound (flat_map coils_in 
 
 shot-sound : (rows : Rows) (text : List ℕ) (s : Shot) → shot_faults rows text s ≡ [] → IsShotSound rows s
 shot-sound rows text s e =
-    let parts = (codes "switch", shot_switch_faults rows.machine text s.switch)
+    let parts = (codes "switch", named_switch_faults rows.machine text s.switch)
     ∷ (codes "profile", profile_faults rows text s.profile) ∷ [] in
     let none = written-none tables.shots s.order parts e in
     record {
-      switch = hit-sound s.switch (none 0 no_part (omega arith));
+      switch = named_switch-sound rows.machine text s.switch (none 0 no_part (omega arith));
       profile = not-false (has_profile rows s.profile.text)
           (fault_if-none _ Name text s.profile (none 1 no_part (omega arith)));
     }
-  where
-    hit-sound : (o : Option WrittenName) → shot_switch_faults rows.machine text o ≡ []
-        → IfSome o (λ w. has_switch rows.machine w.text ≡ true)
-    hit-sound x1 e = search rules
 
 kept-none : (b : Bool) (w : WrittenName) (ws : List WrittenName) → kept_if b w ws ≡ [] → (b ≡ false) × (ws ≡ [])
 kept-none x1 w ws e = search rules

@@ -1,13 +1,11 @@
 -- What is wrong with coils, and with what is said of them elsewhere. Here `machine` is the sections of the machine
 -- text, which define the coils and the switches, and `text` is the name of the text.
 use Rattle.std.specs.Prelude.{ℕ, nat_lt, Bool, true, false, not, ◌&&◌, ◌||◌, List, [], ◌∷◌, ◌++◌, Option, Some, None}
-use Rattle.std.specs.{Prelude.codes, List.flat_map, Option.is_none}
-use Rattle.mpf_tables.specs.SectionTables as tables
+use Rattle.std.specs.{Prelude.unwrap_or, List.flat_map, Option.is_none}
 use Rattle.mpf_sections.specs.declared.words.CoilAction.{CoilAction, TheVariants.{Pulse, Enable, Disable}}
-use Rattle.mpf_sections.specs.Rows.{WrittenName, Coil, CoilItem, CoilPlayer, FlipperEntry, AutofireEntry, SectionRows}
-use Rattle.mpf_sections.specs.CoilRules.{CoilRule, flipper, autofire}
+use Rattle.mpf_sections.specs.{Rows.{WrittenName, Coil, CoilItem, CoilPlayer, SectionRows}, CoilRules.CoilRule}
 use Rattle.machine_definitions.specs.Definitions.{coil_called, has_switch}
-use Rattle.row_faults.specs.{declared.fault.RowFaultKind.RowFaultKind, FaultView.RowFaultView, AsWritten.as_written}
+use Rattle.row_faults.specs.{declared.fault.RowFaultKind.RowFaultKind, FaultView.RowFaultView, AsWritten.in_order}
 use Rattle.row_faults.specs.declared.fault.RowFaultKind.TheVariants.{Name, PulseLimit, PowerLimit, HoldNotAllowed}
 
 -- a fault of this kind at a name
@@ -27,6 +25,11 @@ coil_name_faults machine text w = fault_if (is_none (coil_called machine w.text)
 
 abbrev pub switch_name_faults : List SectionRows → List ℕ → WrittenName → List RowFaultView
 switch_name_faults machine text w = fault_if (not (has_switch machine w.text)) Name text w
+
+-- the same of a switch, if one is named
+abbrev pub named_switch_faults : List SectionRows → List ℕ → Option WrittenName → List RowFaultView
+named_switch_faults machine text None = []
+named_switch_faults machine text (Some w) = switch_name_faults machine text w
 
 -- ---- entries of `coils`
 
@@ -76,23 +79,17 @@ abbrev pub hold_faults : List SectionRows → List ℕ → ℕ → Option Writte
 hold_faults machine text line None = []
 hold_faults machine text line (Some w) = hold_faults_by text line w (coil_called machine w.text)
 
--- what is wrong with the settings of an entry, in the order in which they are written
-abbrev pub flipper_faults : List SectionRows → List ℕ → FlipperEntry → List RowFaultView
-flipper_faults machine text f =
-    as_written tables.flippers f.rule.order
-    ((codes "main_coil", coil_name_faults machine text f.main_coil)
-    ∷ (codes "hold_coil", hold_faults machine text f.rule.name.line f.hold_coil)
-    ∷ (codes "activation_switch", switch_name_faults machine text f.rule.switch)
+-- What is wrong with the settings of a coil rule, in the order in which they are written: a coil or a switch that no
+-- entry defines, or a hold coil that may not be held. With what the rule has no place for nothing is wrong.
+abbrev pub coil_rule_faults : List SectionRows → List ℕ → CoilRule → List RowFaultView
+coil_rule_faults machine text r =
+    in_order r.order
+    ((r.form.coil, coil_name_faults machine text r.coil)
+    ∷ (unwrap_or r.form.hold_coil 0, hold_faults machine text r.name.line r.hold_coil)
+    ∷ (unwrap_or r.form.switch 0, named_switch_faults machine text r.switch)
     ∷ [])
 
-abbrev pub autofire_faults : List SectionRows → List ℕ → AutofireEntry → List RowFaultView
-autofire_faults machine text a =
-    as_written tables.autofire_coils a.rule.order
-    ((codes "coil", coil_name_faults machine text a.coil)
-    ∷ (codes "switch", switch_name_faults machine text a.rule.switch) ∷ [])
-
--- what is wrong with a coil rule, if the entry is one
+-- what is wrong with an entry that may be a coil rule
 abbrev pub rule_faults : List SectionRows → List ℕ → Option CoilRule → List RowFaultView
 rule_faults machine text None = []
-rule_faults machine text (Some (flipper f)) = flipper_faults machine text f
-rule_faults machine text (Some (autofire a)) = autofire_faults machine text a
+rule_faults machine text (Some r) = coil_rule_faults machine text r

@@ -10,33 +10,32 @@ use Rattle.setting_values.specs.declared.values.KeyedValues as keyed_rows
 use Rattle.mpf_sections.specs.declared.{section.Section.Section, typed.NameAt.NameAt}
 use Rattle.mpf_sections.specs.declared.coils.Coil as typed_coils
 use Rattle.mpf_sections.specs.declared.coils.CoilItem as typed_coil_items
-use Rattle.mpf_sections.specs.declared.coil_rules.FlipperEntry as typed_flippers
-use Rattle.mpf_sections.specs.declared.coil_rules.AutofireEntry as typed_autofires
+use Rattle.mpf_sections.specs.declared.coil_rules.CoilRule as typed_coil_rules
 use Rattle.mpf_sections.specs.declared.balls.BallDeviceEntry as typed_balls
 use Rattle.mpf_sections.specs.declared.game.VariableItem as typed_variable_items
 use Rattle.mpf_sections.specs.declared.shots.Shot as typed_shots
 use Rattle.mpf_sections.specs.declared.shots.ShotGroup as typed_groups
-use Rattle.mpf_sections.specs.{Rows.{WrittenName, BallDeviceEntry, ShotGroup}, TypedGame.variable_item_of}
+use Rattle.mpf_sections.specs.{Rows.{WrittenName, BallDeviceEntry, ShotGroup}, CoilRules.{coil_rule_of, coil_rule_view}}
+use Rattle.mpf_sections.specs.{TypedGame.variable_item_of, TypedBalls.ball_devices_in}
 use Rattle.mpf_sections.specs.TypedShots.{shot_of, shots_in, shot_groups_in}
 use Rattle.mpf_sections.specs.Typed.{step_block_of, entries_in, switches_in, event_players_in, counters_in, timers_in}
 use Rattle.mpf_sections.specs.TypedCoils.{coils_in, coil_item_of, coil_players_in}
-use Rattle.mpf_sections.specs.{CoilRules.coil_rule_of, TypedBalls.ball_devices_in}
 use Rattle.mpf_sections.specs.View.{name_view, name_at_view, entry_view, keyed_view, content_view, section_view}
-use Rattle.mpf_sections.specs.View.{coil_view, coil_item_view, flipper_view, autofire_view, ball_device_view}
+use Rattle.mpf_sections.specs.View.{coil_view, coil_item_view, ball_device_view}
 use Rattle.mpf_sections.specs.View.{variable_item_view, shot_view, shot_group_view}
 use Rattle.mpf_config.specs.{declared.config.ModeText.ModeText, Rows.Rows, View.mode_view}
 use Rattle.machine_definitions.specs.{Definitions.ball_devices_of, Found.{is_found, section_rows}}
 use Rattle.row_faults.specs.declared.fault.{RowFault.RowFault, RowFaultKind.RowFaultKind}
-use Rattle.row_faults.specs.{declared.as_written.NamedThing.NamedThing, FaultView.RowFaultView, Named.named_faults}
+use Rattle.row_faults.specs.{declared.as_written.NamedThing.NamedThing, RowFaults.{text_faults, mode_faults}}
+use Rattle.row_faults.specs.{FaultView.RowFaultView, Named.named_faults, CoilFaults.{named_switch_faults, rule_faults}}
 use Rattle.row_faults.specs.declared.fault.RowFaultKind.TheVariants.{Name as a_name, PulseLimit, PowerLimit}
 use Rattle.row_faults.specs.declared.fault.RowFaultKind.TheVariants.{HoldNotAllowed, TimerAtEnd, BallRoute}
 use Rattle.row_faults.specs.{FaultText.row_fault_line, AsWritten.{ordered_by, in_order}}
 use Rattle.row_faults.specs.Reserved.{events_of_modes, switch_posts, player_posts, counter_posts, step_posts, posts_in}
 use Rattle.row_faults.specs.VariableFaults.{variable_item_faults, variable_faults}
 use Rattle.row_faults.specs.CoilFaults.{fault_if, coil_name_faults, switch_name_faults, coil_faults, item_faults_by}
-use Rattle.row_faults.specs.CoilFaults.{item_faults, coil_player_faults, hold_faults_by, hold_faults, flipper_faults}
-use Rattle.row_faults.specs.{CoilFaults.{autofire_faults, rule_faults}, RowFaults.{text_faults, mode_faults}}
-use Rattle.row_faults.specs.ShotFaults.{shot_switch_faults, profile_faults, shot_faults, ListedShot, listed_with}
+use Rattle.row_faults.specs.CoilFaults.{item_faults, coil_player_faults, hold_faults_by, hold_faults, coil_rule_faults}
+use Rattle.row_faults.specs.ShotFaults.{profile_faults, shot_faults, ListedShot, listed_with}
 use Rattle.row_faults.specs.ShotFaults.{listed_by, listed_in, listed_of, is_own_shot, is_misplaced, taken_after}
 use Rattle.row_faults.specs.BallFaults.{eject_coil_faults, target_faults, ball_device_faults, route_faults}
 use Rattle.row_faults.specs.RowFaults.{starts_at_end, timer_fault, coil_faults_in, section_faults, written_faults}
@@ -82,8 +81,8 @@ faults_of_rules f s = flat_map (λ e. rule_faults f.rows.machine f.text (coil_ru
 abbrev pub faults_of_rule : FaultsView → List ℕ → entry_rows.Entry → List RowFaultView
 faults_of_rule f section entry = rule_faults f.rows.machine f.text (coil_rule_of section (entry_view entry))
 
-abbrev pub faults_of_flipper : FaultsView → typed_flippers.FlipperEntry → List RowFaultView
-faults_of_flipper f flipper = flipper_faults f.rows.machine f.text (flipper_view flipper)
+abbrev pub faults_of_coil_rule : FaultsView → typed_coil_rules.CoilRule → List RowFaultView
+faults_of_coil_rule f rule = coil_rule_faults f.rows.machine f.text (coil_rule_view rule)
 
 -- of the coil that an entry at this line holds, if it holds one; of the coil of this name
 abbrev pub faults_of_hold_coil : FaultsView → ℕ → Option NameAt → List RowFaultView
@@ -91,9 +90,6 @@ faults_of_hold_coil f line hold = hold_faults f.rows.machine f.text line (option
 
 abbrev pub faults_by_hold_limits : FaultsView → ℕ → NameAt → Option typed_coils.Coil → List RowFaultView
 faults_by_hold_limits f line hold c = hold_faults_by f.text line (name_at_view hold) (option_map coil_view c)
-
-abbrev pub faults_of_autofire : FaultsView → typed_autofires.AutofireEntry → List RowFaultView
-faults_of_autofire f a = autofire_faults f.rows.machine f.text (autofire_view a)
 
 -- ---- ball devices
 
@@ -154,7 +150,7 @@ abbrev pub faults_of_profile : FaultsView → NameAt → List RowFaultView
 faults_of_profile f name = profile_faults f.rows f.text (name_at_view name)
 
 abbrev pub faults_of_shot_switch : FaultsView → Option NameAt → List RowFaultView
-faults_of_shot_switch f switch = shot_switch_faults f.rows.machine f.text (option_map name_at_view switch)
+faults_of_shot_switch f switch = named_switch_faults f.rows.machine f.text (option_map name_at_view switch)
 
 -- what the groups of sections list, of one section, and one group; and these names, if a group lists this shot first
 abbrev pub listed_by_sections : Rows → List Section → List ListedShot

@@ -7,13 +7,9 @@ use Rattle.mpf_sections.specs.{Rows.{WrittenName, Shot, ShotGroup, SectionRows},
 use Rattle.mpf_config.specs.Rows.{Rows}
 use Rattle.machine_definitions.specs.Shots.{shot_called, has_profile}
 use Rattle.row_faults.specs.declared.fault.RowFaultKind.TheVariants.{Name}
-use Rattle.row_faults.specs.{FaultView.RowFaultView, AsWritten.as_written, CoilFaults.{fault_if, switch_name_faults}}
+use Rattle.row_faults.specs.{FaultView.RowFaultView, AsWritten.as_written, CoilFaults.{fault_if, named_switch_faults}}
 
 -- ---- entries of `shots`
-
-abbrev pub shot_switch_faults : List SectionRows → List ℕ → Option WrittenName → List RowFaultView
-shot_switch_faults machine text None = []
-shot_switch_faults machine text (Some w) = switch_name_faults machine text w
 
 abbrev pub profile_faults : Rows → List ℕ → WrittenName → List RowFaultView
 profile_faults rows text w = fault_if (not (has_profile rows w.text)) Name text w
@@ -21,7 +17,7 @@ profile_faults rows text w = fault_if (not (has_profile rows w.text)) Name text 
 -- a switch or a profile that no entry defines, as the settings are written
 abbrev pub shot_faults : Rows → List ℕ → Shot → List RowFaultView
 shot_faults rows text s =
-    as_written tables.shots s.order ((codes "switch", shot_switch_faults rows.machine text s.switch)
+    as_written tables.shots s.order ((codes "switch", named_switch_faults rows.machine text s.switch)
     ∷ (codes "profile", profile_faults rows text s.profile) ∷ [])
 
 -- ---- the shots that groups list

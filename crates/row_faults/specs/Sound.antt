@@ -1,14 +1,13 @@
 -- What holds of rows without faults: nothing that they say of a coil goes past its limits; the coils, switches, shots,
 -- profiles and ball devices of which they speak are defined; the balls of each ball device come to the playfield; and
 -- each ball switch is of one ball device, once. Here `machine` is the sections of the machine text.
-use Rattle.std.specs.Prelude.{◌≡◌, ◌≢◌, ℕ, ◌≤◌, true, false, ◌||◌, Option, None, Some, IfSome, IsSome, is_some, List}
-use Rattle.std.specs.{Prelude.unwrap_or, List.{All, AllPairs, flat_map}}
+use Rattle.std.specs.Prelude.{◌≡◌, ◌≢◌, ℕ, ◌≤◌, true, false, ◌||◌, Some, IfSome, IsSome, is_some, List, unwrap_or}
+use Rattle.std.specs.List.{All, AllPairs, flat_map}
 use Rattle.mpf_sections.specs.declared.words.CoilAction.{CoilAction, TheVariants.{Pulse, Enable, Disable}}
-use Rattle.mpf_sections.specs.Rows.{Coil, CoilItem, CoilPlayer, FlipperEntry, AutofireEntry, VariableItem, Shot}
-use Rattle.mpf_sections.specs.{Rows.{ShotGroup, BallDeviceEntry, SectionRows}, TypedBalls.{is_trough, ball_devices_in}}
-use Rattle.mpf_sections.specs.{Typed.entries_in, TypedGame.variable_players_in}
-use Rattle.mpf_sections.specs.{TypedCoils.{coils_in, coil_players_in}, TypedShots.{shots_in, shot_groups_in}}
-use Rattle.mpf_sections.specs.CoilRules.{CoilRule, flipper, autofire, coil_rule_of}
+use Rattle.mpf_sections.specs.Rows.{Coil, CoilItem, CoilPlayer, VariableItem, Shot, ShotGroup, BallDeviceEntry}
+use Rattle.mpf_sections.specs.{Rows.SectionRows, Typed.entries_in, TypedShots.{shots_in, shot_groups_in}}
+use Rattle.mpf_sections.specs.{TypedBalls.{is_trough, ball_devices_in}, TypedCoils.{coils_in, coil_players_in}}
+use Rattle.mpf_sections.specs.{TypedGame.variable_players_in, CoilRules.{CoilRule, coil_rule_of}}
 use Rattle.mpf_config.specs.Rows.{Rows}
 use Rattle.machine_definitions.specs.Definitions.{coil_called, has_switch, ball_devices_of}
 use Rattle.machine_definitions.specs.Shots.{shot_called, has_profile}
@@ -53,21 +52,11 @@ IsItemSound machine i = IsCoilSuch machine i.coil.text (λ c. IsActionWithin c i
 abbrev pub IsCoilPlayerSound : List SectionRows → CoilPlayer → Type 0
 IsCoilPlayerSound machine p = All (IsItemSound machine) p.items
 
--- A coil that holds the flipper up may be held. If there is none, the main coil is held if it may be, and else pulsed.
-pub record IsFlipperSound (machine : List SectionRows) (f : FlipperEntry) : Type 0 where
-  pub main_coil : IsCoilSuch machine f.main_coil.text IsCoilSound
-  pub hold_coil : IfSome f.hold_coil (λ w. IsCoilSuch machine w.text (λ c. IsHoldWithin c c.hold_power))
-  pub switch : has_switch machine f.rule.switch.text ≡ true
-
-pub record IsAutofireSound (machine : List SectionRows) (a : AutofireEntry) : Type 0 where
-  pub coil : IsCoilSuch machine a.coil.text IsCoilSound
-  pub switch : has_switch machine a.rule.switch.text ≡ true
-
--- so it is with an entry that may be either
-abbrev pub IsRuleSound : List SectionRows → Option CoilRule → Type 0
-IsRuleSound machine None = Unit {0}
-IsRuleSound machine (Some (flipper f)) = IsFlipperSound machine f
-IsRuleSound machine (Some (autofire a)) = IsAutofireSound machine a
+-- The coil of a coil rule is defined, and so is its switch, if it has one. Its hold coil, if it has one, may be held.
+pub record IsCoilRuleSound (machine : List SectionRows) (r : CoilRule) : Type 0 where
+  pub coil : IsCoilSuch machine r.coil.text IsCoilSound
+  pub hold_coil : IfSome r.hold_coil (λ w. IsCoilSuch machine w.text (λ c. IsHoldWithin c c.hold_power))
+  pub switch : IfSome r.switch (λ w. has_switch machine w.text ≡ true)
 
 -- the switch of a shot is defined, if it has one, and so is its profile
 pub record IsShotSound (rows : Rows) (s : Shot) : Type 0 where
@@ -88,7 +77,7 @@ pub record IsBallDeviceSound (machine : List SectionRows) (d : BallDeviceEntry) 
 pub record IsSectionSound (rows : Rows) (s : SectionRows) : Type 0 where
   pub coils : All IsCoilSound (coils_in s)
   pub coil_players : All (IsCoilPlayerSound rows.machine) (coil_players_in s)
-  pub rules : All (λ e. IsRuleSound rows.machine (coil_rule_of s.name e)) (entries_in s.content)
+  pub rules : All (λ e. IfSome (coil_rule_of s.name e) (IsCoilRuleSound rows.machine)) (entries_in s.content)
   pub shots : All (IsShotSound rows) (shots_in s)
   pub groups : All (IsShotGroupSound rows) (shot_groups_in s)
   pub ball_devices : All (IsBallDeviceSound rows.machine) (ball_devices_in s)

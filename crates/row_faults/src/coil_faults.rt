@@ -3,9 +3,9 @@
 ghost use Rattle.std.specs.Prelude.{◌≡◌, ◌||◌, ◌&&◌, not, nat_lt, OnOk};
 ghost use Rattle.row_faults.specs.CoilFaults.{is_above, is_enable};
 ghost use Rattle.row_faults.specs.Collected.{Gains};
-ghost use Rattle.row_faults.specs.FaultsOf.{faults_by_limits, faults_of_autofire, faults_of_coil, faults_of_coil_item};
+ghost use Rattle.row_faults.specs.FaultsOf.{faults_by_limits, faults_of_coil, faults_of_coil_item};
 ghost use Rattle.row_faults.specs.FaultsOf.{faults_of_coil_items, faults_of_coil_name, faults_of_coil_players};
-ghost use Rattle.row_faults.specs.FaultsOf.{faults_of_coils, faults_about_coils, faults_of_flipper, faults_of_rule};
+ghost use Rattle.row_faults.specs.FaultsOf.{faults_of_coil_rule, faults_of_coils, faults_about_coils, faults_of_rule};
 ghost use Rattle.row_faults.specs.FaultsOf.{faults_of_rules, faults_by_hold_limits, faults_of_hold_coil};
 ghost use Rattle.row_faults.specs.FaultsOf.{faults_of_switch_name};
 
@@ -13,11 +13,9 @@ use crate::as_written::{NamedThing, add_as_written};
 use crate::collector::{Faults, add_if, at};
 use crate::fault::RowFaultKind;
 use mpf_config::{
-    AutofireEntry, Coil, CoilAction, CoilItem, Entry, FlipperEntry, KeyedValues, NameAt, Section,
-    as_coil, as_coil_item, as_coil_player,
+    Coil, CoilAction, CoilItem, CoilRule, Entry, KeyedValues, NameAt, Section, as_coil,
+    as_coil_item, as_coil_player, as_coil_rule,
 };
-use mpf_sections::coil_rules::{ACTIVATION_SWITCH, COIL, HOLD_COIL, MAIN_COIL, SWITCH};
-use mpf_sections::{CoilRule, as_coil_rule};
 use mpf_tables::tables::{COIL_PLAYER_NAME, COILS_NAME};
 use std::alloc::AllocError;
 
@@ -199,28 +197,24 @@ fn add_rule(faults: &mut Faults<'_, '_>, section: &[u8], entry: &Entry) -> Resul
     ensures { OnOk result (Gains faults.old faults.new (faults_of_rule faults.old section.now entry.now)) }
 {
     match as_coil_rule(section, entry) {
-        Some(CoilRule::Flipper(flipper)) => add_flipper(faults, flipper),
-        Some(CoilRule::Autofire(autofire)) => add_autofire(faults, autofire),
+        Some(rule) => add_coil_rule(faults, rule),
         None => Ok(()),
     }
 }
 
-/// Adds the faults of a flipper.
-fn add_flipper(faults: &mut Faults<'_, '_>, flipper: FlipperEntry<'_>) -> Result<(), AllocError>
-    ensures { OnOk result (Gains faults.old faults.new (faults_of_flipper faults.old flipper.entry)) }
+/// Adds the faults of a coil rule. What it has no place for is not at fault, at whatever place.
+fn add_coil_rule(faults: &mut Faults<'_, '_>, rule: CoilRule<'_>) -> Result<(), AllocError>
+    ensures { OnOk result (Gains faults.old faults.new (faults_of_coil_rule faults.old rule.entry)) }
 {
+    let hold_place = rule.form.hold_coil.unwrap_or(0);
+    let switch_place = rule.form.switch.unwrap_or(0);
+    let hold_coil = NamedThing::HoldCoil(rule.name.line, rule.hold_coil);
     let parts = [
-        (MAIN_COIL, NamedThing::Coil(Some(flipper.main_coil))),
-        (
-            HOLD_COIL,
-            NamedThing::HoldCoil(flipper.rule.name.line, flipper.hold_coil),
-        ),
-        (
-            ACTIVATION_SWITCH,
-            NamedThing::Switch(Some(flipper.rule.switch)),
-        ),
+        (rule.form.coil, NamedThing::Coil(Some(rule.coil))),
+        (hold_place, hold_coil),
+        (switch_place, NamedThing::Switch(rule.switch)),
     ];
-    add_as_written(faults, flipper.rule.order, &parts)
+    add_as_written(faults, rule.order, &parts)
 }
 
 /// Adds the fault of the coil that an entry at this line holds, if it holds one.
@@ -260,15 +254,4 @@ fn add_hold(
         }
         None => add_if(faults, true, RowFaultKind::Name, hold),
     }
-}
-
-/// Adds the faults of an autofire coil.
-fn add_autofire(faults: &mut Faults<'_, '_>, autofire: AutofireEntry<'_>) -> Result<(), AllocError>
-    ensures { OnOk result (Gains faults.old faults.new (faults_of_autofire faults.old autofire.entry)) }
-{
-    let parts = [
-        (COIL, NamedThing::Coil(Some(autofire.coil))),
-        (SWITCH, NamedThing::Switch(Some(autofire.rule.switch))),
-    ];
-    add_as_written(faults, autofire.rule.order, &parts)
 }

@@ -1,5 +1,5 @@
 use Rattle.std.{proofs.Common.{◌≡◌, ◌||◌, ℕ, List, map, drop}, specs.{List.{list_any, flat_map}, Str.bytes_eq}}
-use Rattle.mpf_sections.specs.{TypedCoils.quick_switches, View.section_view}
+use Rattle.mpf_sections.specs.{CoilRules.quick_switches, View.section_view}
 use Rattle.machine_definitions.specs.{Definitions.makes_quick, Found.is_found}
 use Rattle.machine_definitions.proofs.definitions.quick_of.Given as goal
 
