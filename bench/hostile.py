@@ -26,8 +26,8 @@ WEIGHED = MIB
 PARTS = (4, 2, 1)
 LOGS = (8 * MIB, 16 * MIB)
 RUNS = 3
-# The bars. Those of instructions are so many times what the ordinary text took when they were set, for each byte: if it
-# takes fewer now, they stay.
+# The bars. Those of instructions are so many times what the ordinary text took in version 1.0.0, for each byte: it takes
+# fewer now, and the bars stay.
 ORDINARY = 92
 TIMES_ORDINARY = 5
 TIMES_FOUND = 6  # of the texts that were found later
