@@ -24,8 +24,8 @@ use Rattle.machine_definitions.specs.Definitions.{has_switch, ball_devices_of, l
 use Rattle.plan_parts.specs.Effects.{Effect, posts, works, changes, enters, leaves, loses, arrives}
 use Rattle.plan_parts.specs.DeviceEntries.{texts, Device, counter_device, step_device, step_settings, timer_device}
 use Rattle.plan_parts.specs.DeviceEntries.{device_of, block_event, or_own, block_lists, timer_lists}
-use Rattle.plan_parts.specs.CoilEntries.{item_effect, rule_lists, named_switches, rule_device_of}
-use Rattle.plan_parts.proofs.SaveFacts.{all_save, all_multiball}
+use Rattle.plan_parts.specs.CoilEntries.{item_effect, rule_lists, rule_device_of}
+use Rattle.plan_parts.proofs.{RuleFacts.all_switches, SaveFacts.{all_save, all_multiball}}
 use Rattle.plan_parts.specs.{Parts.tag_event, Doing.{IsMachineDoing, AreDoing}}
 use Rattle.plan_parts.specs.BallEntries.{drains, ball_event, eject_pulse, ball_lists}
 use Rattle.plan_parts.specs.SaveEntries.{save_device, multiball_device, save_device_of}
@@ -212,16 +212,12 @@ module _ (rows : Rows) where
           λ i d within. record { lists = timer-all (timer_of (get_or es i d)).name.text; listens = All-nil IsThere }
       by false false false false hc ha hq = λ i d within. saves-doing s.name (get_or es i d)
 
-  -- what coil rules do with their coils, and their switches
+  -- what a coil rule does with its coils
   coils-doing : (coil : WrittenName) (hold : Option WrittenName) (kind : RuleKind)
       → IsCoilSuch rows.machine coil.text IsCoilSound
       → IfSome hold (λ w. IsCoilSuch rows.machine w.text (λ c. IsHoldWithin c c.hold_power))
       → All (All IsFine) (rule_lists rows.machine coil hold kind)
   coils-doing coil x1 x2 h k = search (rules, All-cons, All-nil, one)
-
-  listens-there : (o : Option WrittenName) → IfSome o (λ w. has_switch rows.machine w.text ≡ true)
-      → All IsThere (named_switches o)
-  listens-there x1 h = search (rules, All-cons, All-nil)
 
   rules-doing : (o : Option CoilRule) → IfSome o (IsCoilRuleSound rows.machine)
       → IsEntryDoing IsFine IsUnreserved IsThere (rule_device_of rows.machine o)
@@ -229,7 +225,7 @@ module _ (rows : Rows) where
   rules-doing (Some r) h =
       record {
         lists = coils-doing r.coil r.hold_coil r.form.kind h.coil h.hold_coil;
-        listens = listens-there r.switch h.switch;
+        listens = all_switches IsThere r.switch h.switch;
       }
 
   -- ---- ball devices

@@ -23,6 +23,10 @@ module _ (Q : Effect → Type 0) (machine : List SectionRows) where
       → IfSome hold (λ w. Q (works w.text disable)) → All (All Q) (rule_lists machine coil hold kind)
   all_of_rule coil x1 x2 own held disabled = search rules
 
+-- what holds of its switch, if it has one, holds of all to which it listens
+pub all_switches : (P : List ℕ → Type 0) (o : Option WrittenName) → IfSome o (λ w. P w.text) → All P (named_switches o)
+all_switches P x1 h = search (rules, All-cons, All-nil)
+
 -- the device of a coil rule has nothing to do with balls
 plain_rule : (machine : List SectionRows) (r : CoilRule) → IsPlain (coil_rule_device machine r)
 plain_rule machine r =
@@ -89,15 +93,12 @@ module _ (P : List ℕ → Type 0) (of : IsOfNames P) where
       → IsFitDevice P (coil_rule_device machine r)
   fit_coil_rule machine r h =
       record {
-        listens = names r.switch h.switch;
+        listens = all_switches IsName r.switch h.switch;
         event_acts = fit_rule P of r.enables r.disables h.enables h.disables;
         other_mentions = All-nil P;
         lists = all_of_rule (IsFitEffect P) machine r.coil r.hold_coil r.form.kind (h.coil, h.coil, h.coil) h.hold_coil
             h.hold_coil;
       }
-    where
-      names : (o : Option WrittenName) → IfSome o (λ w. IsName w.text) → All IsName (named_switches o)
-      names x1 h = search (rules, All-cons, All-nil)
 
   fit_if : (machine : List SectionRows) (rule : Option CoilRule) → IfSome rule IsNamedCoilRule
       → IfSome rule (λ r. IsFitDevice P (coil_rule_device machine r))

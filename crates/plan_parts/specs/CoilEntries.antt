@@ -72,11 +72,13 @@ flipper_off machine main (Some hold) = works hold.text disable ∷ []
 flipper_off machine main None = if (defaults_called machine main.text).may_hold then works main.text disable
     ∷ [] else []
 
--- the effect lists of a flipper: on, and off
+-- The effect lists of a flipper. 0 is on: with a hold coil, it pulses the main coil and enables the hold coil; else it
+-- enables the main coil where that may be held, and else pulses it. 1 is off: it disables the hold coil, or the main coil
+-- where that may be held; else it is empty.
 abbrev pub flipper_lists : List SectionRows → WrittenName → Option WrittenName → List (List Effect)
 flipper_lists machine main hold = flipper_on machine main hold ∷ flipper_off machine main hold ∷ []
 
--- the effect list of an autofire coil, which pulses its coil
+-- the effect list of an autofire coil: 0 pulses its coil; pulses are by the coil's own entry
 abbrev pub autofire_lists : List SectionRows → WrittenName → List (List Effect)
 autofire_lists machine coil = (works coil.text (own_pulse (defaults_called machine coil.text)) ∷ []) ∷ []
 

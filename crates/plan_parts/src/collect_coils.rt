@@ -1,6 +1,6 @@
 //! What the entries of coils, coil players and coil rules give to a plan.
 
-ghost use Rattle.std.specs.Prelude.{◌≡◌, ◌∷◌, ◌++◌, [], map, option_map, OnOk};
+ghost use Rattle.std.specs.Prelude.{◌≡◌, ◌++◌, map, option_map, OnOk};
 ghost use Rattle.mpf_sections.specs.TypedCoils.{coil_item_of};
 ghost use Rattle.mpf_sections.specs.View.{coil_view, coil_item_view, keyed_view, name_at_view};
 ghost use Rattle.plan_parts.specs.CoilEntries.{limits_of_coil, defaults_called, own_pulse, own_hold, deed_by};
