@@ -9,14 +9,14 @@ use Rattle.mpf_sections.specs.{Rows.{WrittenName, Entry}, TypedBalls.ball_device
 use Rattle.mpf_sections.specs.View.{name_view, entry_view, player_view, section_view}
 use Rattle.mpf_config.specs.{declared.config.ModeText.ModeText, Rows.Rows, View.mode_view}
 use Rattle.machine_definitions.specs.Found.{is_found, section_rows}
-use Rattle.plan_rows.specs.declared.seats.Seats.{Seats}
+use Rattle.plan_rows.specs.{declared.seats.Seats.Seats, Rows.{text_rows, mode_rows}}
 use Rattle.mpf_tables.specs.declared.tables.TextKind.{TextKind, TheVariants.Mode}
 use Rattle.plan_rows.specs.declared.rows.Row as rows
 use Rattle.plan_rows.specs.declared.seats.Seat as seats
 use Rattle.plan_rows.specs.Seats.{section_entries, text_entries, lists_shot, is_grouped, given_from, latest, Seat}
 use Rattle.plan_rows.specs.Seats.{seats_at, entry_seats, seat_of, entry_ball_row, destination_of, rows_after_text}
 use Rattle.plan_rows.specs.Rows.{Row, player, shot_row, ball_device_row, other_row, entry_row, rows_from, rows_in}
-use Rattle.plan_rows.specs.{Rows.{text_rows, mode_rows}, View.{found_seat, found_row, found_destination, row_list_view}}
+use Rattle.plan_rows.specs.View.{found_seat, found_row, found_destination, row_list_view}
 
 -- a list of rows has grown by these
 abbrev pub Gains : (old new : Vec rows.Row) → List Row → Type 0
