@@ -1,4 +1,5 @@
 pub mod FirstPlace
+pub mod NamedSwitches
 pub mod ShortNumbers
 pub mod TextLines
 pub mod LineWords

@@ -9,6 +9,7 @@ pub mod log_player;
 pub mod play;
 mod refusal;
 mod reply;
+mod switch_guesses;
 pub mod text;
 
 pub use check::{

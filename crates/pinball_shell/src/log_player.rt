@@ -5,6 +5,7 @@ ghost use Rattle.std.specs.Prelude.{◌≡◌};
 use crate::fault::{ShellFault, Verdict};
 use crate::play::{Stop, play_line};
 use crate::refusal::{LogRefusal, put_refused};
+use crate::switch_guesses::SwitchGuesses;
 use coil_guard::Board;
 use config_checker::Checked;
 use device_objects::Device;
@@ -19,6 +20,7 @@ use trace_lines::{Page, PrintedPlan, WriteFailed, write_off};
 #[derive(Drop)]
 pub struct LogPlayer<'c, D: Device, B: Board> {
     plan: PrintedPlan<'c>,
+    guesses: SwitchGuesses,
     rig: Rig<'c, D, B>,
     page: Page,
     /// Whether a line could not be played to its end. Then no other is played.
@@ -75,10 +77,12 @@ impl<'c, D: Device, B: Board> LogPlayer<'c, D, B> {
             → ¬ (IsFit checked.now.plan (map D.row_of devices.items) (map D.state_of devices.items)) }
     {
         let names = PrintedPlan::new(alloc, checked.plan())?;
+        let guesses = SwitchGuesses::new(alloc, checked.plan())?;
         let page = Page::new(alloc)?;
         let rig = Rig::new(alloc, checked, devices, board)?;
         Ok(LogPlayer {
             plan: names,
+            guesses,
             rig,
             page,
             has_stopped: false,
@@ -121,6 +125,7 @@ impl<'c, D: Device, B: Board> LogPlayer<'c, D, B> {
         }
         let answer = play_line(
             &self.plan,
+            &self.guesses,
             &mut self.rig,
             number,
             line,

@@ -21,6 +21,7 @@ use crate::fault::{ShellFault, Verdict};
 use crate::log_line::{LogLine, first_line, read_line};
 use crate::log_player::LogPlayer;
 use crate::refusal::{LogRefusal, put_refused};
+use crate::switch_guesses::SwitchGuesses;
 use crate::text::read_all;
 use coil_guard::Board;
 use config_checker::Checked;
@@ -183,6 +184,7 @@ pub fn worse(before: Verdict, line: Verdict) -> Verdict
 /// Plays a line that has this number, unless it is refused.
 pub(crate) fn play_line<D: Device, B: Board, W: Write>(
     plan: &PrintedPlan<'_>,
+    guesses: &SwitchGuesses,
     rig: &mut Rig<'_, D, B>,
     number: usize,
     line: &[u8],
@@ -193,7 +195,7 @@ pub(crate) fn play_line<D: Device, B: Board, W: Write>(
     ensures { PlaysLine plan.now number line.now rig.old rig.new (append_known (W.contents writer.old) page.old)
         (append_known (W.contents writer.new) page.new) result }
 {
-    match given_by(plan, rig.now(), read_line(line)) {
+    match given_by(plan, guesses, rig.now(), read_line(line)) {
         Ok(None) => Ok(Verdict::Yes),
         Ok(Some((at, stimulus))) => {
             play_alarms(plan, rig, at, page, writer)?;
@@ -211,6 +213,7 @@ pub(crate) fn play_line<D: Device, B: Board, W: Write>(
 /// why it is refused. Once the alarms due by its moment have come, the rig takes it as it is.
 fn given_by(
     plan: &PrintedPlan<'_>,
+    guesses: &SwitchGuesses,
     now: u64,
     line: LogLine<'_>,
 ) -> Result<Option<(u64, Stimulus)>, LogRefusal>
@@ -220,7 +223,7 @@ fn given_by(
         LogLine::Nothing => Ok(None),
         LogLine::Unreadable => Err(LogRefusal::BadLine),
         LogLine::Wait(at) => given_at(now, at, Stimulus::Wait(at)),
-        LogLine::Change(at, name, level) => match plan.tables().find_switch(name) {
+        LogLine::Change(at, name, level) => match guesses.find(plan.tables(), name) {
             None => Err(LogRefusal::Step(StepFault::NoSuchSwitch)),
             Some(switch) => given_at(now, at, Stimulus::SwitchChange(at, switch, level)),
         },

@@ -25,6 +25,15 @@ pub puts-on-page : (written : Option (List ℕ)) (page more text : List ℕ) →
 puts-on-page None page more text is = tt
 puts-on-page (Some xs) page more text is = ap (λ l. xs ++ l) is ∙ sym (append_assoc xs page text)
 
+-- if room was made on the page, and then it alone has grown by the text
+pub puts-in-room : (written made : Option (List ℕ)) (page roomy more text : List ℕ) → Puts written page made roomy []
+    → more ≡ roomy ++ text → Puts written page made more text
+puts-in-room None made page roomy more text room is = tt
+puts-in-room (Some xs) None page roomy more text room is = absurd room
+puts-in-room (Some xs) (Some ys) page roomy more text room is =
+    ap (λ (l : List ℕ). ys ++ l) is ∙ sym (append_assoc ys roomy text)
+    ∙ ap (λ (l : List ℕ). l ++ text) (room ∙ append-nil (xs ++ page))
+
 -- If a page that was empty at first has grown, and is written in the end, the text that was put on it is written.
 pub written-out : (first grown last : Option (List ℕ)) (empty page text : List ℕ) → empty ≡ [] → Appends grown last page
     → Puts first empty grown page text → Appends first last text

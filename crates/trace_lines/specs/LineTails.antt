@@ -1,8 +1,12 @@
--- What the lines of events and switches say after their owner, and those of variables before their value.
+-- What the lines of events and switches say after their owner, those of modes as their owner, and those of variables
+-- before their value.
 use Rattle.std.specs.Prelude.{ℕ, Bool, true, false, List, ◌++◌, codes}
-use Rattle.plan_tables.specs.PlanView.{PlanView, PlanSwitch, name_of_event, name_of_variable, switch_at}
+use Rattle.plan_tables.specs.PlanView.{PlanView, PlanMode, PlanSwitch, name_of_event, name_of_variable, switch_at}
 use Rattle.plan_tables.specs.declared.entries.{EventId.EventId, SwitchId.SwitchId, VariableId.VariableId}
 use Rattle.trace_lines.specs.{declared.printed_plan.SwitchTails.SwitchTails, LineText.{event_text, switch_text}}
+
+abbrev pub name_of_mode : PlanMode → List ℕ
+name_of_mode m = m.name
 
 -- ` event NAME`, and LF
 abbrev pub event_tail_named : List ℕ → List ℕ

@@ -13,7 +13,7 @@ use std::simd::Simd;
 const PAGE: usize = 4096;
 
 /// How many bytes of a phrase are copied if it has no more, as most have.
-const SHORT: usize = 32;
+pub const SHORT: usize = 32;
 
 /// The writer failed.
 #[derive(Clone, Copy)]
@@ -42,7 +42,7 @@ impl Model for Page {
 }
 
 impl Page {
-    ghost use Rattle.std.specs.Prelude.{◌≡◌, ◌≤◌, [], IfOk, OnOk, length, take};
+    ghost use Rattle.std.specs.Prelude.{◌≡◌, ◌+◌, ◌≤◌, ◌++◌, [], IfOk, OnOk, length, take};
     ghost use Rattle.std.specs.Io.KnownBytes.{Appends};
     ghost use Rattle.trace_lines.specs.Pages.{Puts};
 
@@ -108,9 +108,57 @@ impl Page {
         if self.len > PAGE - N {
             return self.put_after_all(&text[..len], writer);
         }
+        self.add_start::<N>(text, len);
+        Ok(())
+    }
+
+    /// Makes room for `N` bytes more: if the page has none, what is on it is written.
+    #[inline(always)]
+    pub(crate) fn make_room<const N: usize, W: Write>(
+        &mut self,
+        writer: &mut W,
+    ) -> Result<(), WriteFailed>
+        requires { N ≤ 4096 }
+        ensures keeps { OnOk result (Puts (W.contents writer.old) self.old (W.contents writer.new) self.new []) }
+        ensures room { OnOk result (length self.new + N ≤ 4096) }
+    {
+        if self.len > PAGE - N {
+            return self.write_full(writer);
+        }
+        Ok(())
+    }
+
+    /// Adds the first `len` bytes of a text, as `put_start` does, where the page has room for `N` bytes.
+    #[inline(always)]
+    pub(crate) fn add_start<const N: usize>(&mut self, text: &[u8], len: usize)
+        requires few { len ≤ N }
+        requires long { N ≤ length text.now }
+        requires room { length self.old + N ≤ 4096 }
+        ensures { self.new ≡ self.old ++ take len text.now }
+    {
         place_start::<N>(&mut self.bytes, self.len, text);
         self.len += len;
-        Ok(())
+    }
+
+    /// Adds a phrase, where the page has room for its start and `LEFT` bytes more. It has room for as
+    /// many after it.
+    #[inline(always)]
+    pub(crate) fn add_phrase<const LEFT: usize, W: Write>(
+        &mut self,
+        phrase: &Phrase,
+        writer: &mut W,
+    ) -> Result<(), WriteFailed>
+        requires { length self.old + 32 + LEFT ≤ 4096 }
+        ensures puts { OnOk result (Puts (W.contents writer.old) self.old (W.contents writer.new) self.new phrase.now) }
+        ensures room { OnOk result (length self.new + LEFT ≤ 4096) }
+    {
+        let (start, len, _) = phrase.parts();
+        if len <= SHORT {
+            self.add_start::<SHORT>(start, len);
+            return Ok(());
+        }
+        self.put_phrase(phrase, writer)?;
+        self.make_room::<LEFT, W>(writer)
     }
 
     /// Writes what is on the page, and then a text.
@@ -121,6 +169,16 @@ impl Page {
     {
         self.write_out(writer)?;
         writer.write_all(text).map_err(|_| WriteFailed)
+    }
+
+    /// As `write_out`, where the page is too full.
+    #[cold]
+    #[inline(never)]
+    fn write_full<W: Write>(&mut self, writer: &mut W) -> Result<(), WriteFailed>
+        ensures empty { self.new ≡ [] }
+        ensures keeps { OnOk result (Puts (W.contents writer.old) self.old (W.contents writer.new) self.new []) }
+    {
+        self.write_out(writer)
     }
 
     /// Writes what is on the page, which is empty then.

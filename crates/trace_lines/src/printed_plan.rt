@@ -1,11 +1,12 @@
-//! A plan, with what lines say of its events, switches and variables.
+//! A plan, with what lines say of its modes, events, switches and variables.
 
 ghost use Rattle.std.specs.Prelude.{◌≡◌, ◌++◌, [], map, IfOk, MatchOption};
+ghost use Rattle.plan_tables.specs.PlanView.{mode_at};
 ghost use Rattle.trace_lines.specs.LineTails.{event_tail, switch_tail, variable_word, event_tail_named};
-ghost use Rattle.trace_lines.specs.LineTails.{switch_tail_named, switch_tails_of, variable_word_named};
+ghost use Rattle.trace_lines.specs.LineTails.{switch_tail_named, switch_tails_of, variable_word_named, name_of_mode};
 
 use crate::phrase::Phrase;
-use plan_tables::{EventId, Plan, SwitchId, VariableId};
+use plan_tables::{EventId, ModeId, Plan, SwitchId, VariableId};
 use std::alloc::{AllocError, Global};
 use std::marker::Model;
 
@@ -18,11 +19,13 @@ pub struct SwitchTails {
     pub active: Phrase,
 }
 
-/// A plan whose trace is printed. What lines say of an event, a switch or a variable is put together
-/// once, when this is made.
+/// A plan whose trace is printed. What lines say of a mode, an event, a switch or a variable is put
+/// together once, when this is made.
 #[derive(Drop)]
 pub struct PrintedPlan<'p> {
     plan: &'p Plan,
+    /// The name of each mode.
+    mode_names: Vec<Phrase>,
     /// Of each event ` event NAME`, and LF.
     event_tails: Vec<Phrase>,
     switch_tails: Vec<SwitchTails>,
@@ -33,13 +36,14 @@ pub struct PrintedPlan<'p> {
 impl<'p> Model for PrintedPlan<'p> {
     ghost use Rattle.std.specs.Prelude.{◌≡◌, map};
     ghost use Rattle.plan_tables.specs.PlanView.{PlanView};
-    ghost use Rattle.trace_lines.specs.LineTails.{event_tail_named, switch_tails_of, variable_word_named};
+    ghost use Rattle.trace_lines.specs.LineTails.{name_of_mode, event_tail_named, switch_tails_of, variable_word_named};
 
     ghost Value = { PlanView };
 
     ghost view = { λ t. t.plan.now };
 
-    ghost invariant = { λ t. (t.event_tails.items ≡ map event_tail_named t.plan.now.events)
+    ghost invariant = { λ t. (t.mode_names.items ≡ map name_of_mode t.plan.now.modes)
+        × (t.event_tails.items ≡ map event_tail_named t.plan.now.events)
         × (t.switch_tails.items ≡ map switch_tails_of t.plan.now.switches)
         × (t.variable_words.items ≡ map variable_word_named t.plan.now.variables) };
 }
@@ -53,11 +57,13 @@ impl<'p> PrintedPlan<'p> {
     pub fn new(alloc: Global, plan: &'p Plan) -> Result<PrintedPlan<'p>, AllocError>
         ensures { IfOk result (λ printed. printed ≡ plan.now) }
     {
+        let mode_names = mode_names(alloc, plan)?;
         let event_tails = event_tails(alloc, plan)?;
         let switch_tails = switch_tails(alloc, plan)?;
         let variable_words = variable_words(alloc, plan)?;
         Ok(PrintedPlan {
             plan,
+            mode_names,
             event_tails,
             switch_tails,
             variable_words,
@@ -69,6 +75,14 @@ impl<'p> PrintedPlan<'p> {
         ensures { result.now ≡ self.now }
     {
         self.plan
+    }
+
+    /// The name of a mode: none if the plan lacks the mode.
+    pub(crate) fn mode_name(&self, mode: ModeId) -> Option<&Phrase>
+        ensures { MatchOption result ((mode_at self.now mode).name ≡ [])
+            (λ name. name.now ≡ (mode_at self.now mode).name) }
+    {
+        self.mode_names.get(mode.0 as usize)
     }
 
     /// ` event NAME`, and LF: none if the plan lacks the event.
@@ -99,6 +113,18 @@ impl<'p> PrintedPlan<'p> {
     {
         self.variable_words.get(variable.0 as usize)
     }
+}
+
+/// The name of each mode.
+fn mode_names(alloc: Global, plan: &Plan) -> Result<Vec<Phrase>, AllocError>
+    ensures { IfOk result (λ names. names.items ≡ map name_of_mode plan.now.modes) }
+{
+    let mut names = Vec::with_capacity(alloc, plan.mode_count())?;
+    for number in 0..plan.mode_count() {
+        let name = Phrase::new(alloc, plan.mode_name(ModeId(number as u16)))?;
+        names.push(name)?;
+    }
+    Ok(names)
 }
 
 /// What the lines of each event say after their owner.

@@ -1,6 +1,6 @@
 //! The lines of a trace, as text.
 
-ghost use Rattle.std.specs.Prelude.{◌≡◌, OnOk, [], ◌∷◌, ◌++◌, codes};
+ghost use Rattle.std.specs.Prelude.{◌≡◌, ◌+◌, ◌≤◌, OnOk, [], ◌∷◌, ◌++◌, codes, length};
 ghost use Rattle.std.specs.List.{flat_map};
 ghost use Rattle.std.specs.Fmt.{decimal, signed_decimal};
 ghost use Rattle.std.specs.Io.KnownBytes.{Appends};
@@ -12,7 +12,7 @@ ghost use Rattle.trace_lines.specs.LineTails.{variable_word};
 ghost use Rattle.trace_lines.specs.Pages.{Puts};
 
 use crate::front::{DIGITS, Front, MACHINE_LENGTH, START};
-use crate::page::{Page, WriteFailed};
+use crate::page::{Page, SHORT, WriteFailed};
 use crate::printed_plan::PrintedPlan;
 use coil_guard::Command;
 use itoa::write_digits;
@@ -20,6 +20,17 @@ use plan_tables::{CoilId, ModeId, Owner, Plan, VariableId};
 use std::io::{self, Write};
 use written_machine::line::BallCounts;
 use written_machine::{Happening, Line};
+
+/// Room for what most lines have after their owner.
+const TAIL: usize = SHORT;
+
+/// Room for what most lines of a mode have after their front.
+const NAME_AND_TAIL: usize = SHORT + TAIL;
+
+/// Room for most lines of the machine, and for most lines of a mode.
+const MACHINE_LINE: usize = START + TAIL;
+
+const MODE_LINE: usize = START + NAME_AND_TAIL;
 
 /// Puts the lines of a stimulus on the page.
 pub fn put_trace<W: Write>(
@@ -51,7 +62,7 @@ fn put_lines<W: Write>(
 {
     for line in lines {
         front.turn_to(line.moment);
-        put_owner(plan.tables(), line.owner, &front, page, writer)?;
+        put_owner(plan, line.owner, &front, page, writer)?;
         put_tail(plan, &line.happening, page, writer)?;
     }
     Ok(())
@@ -86,26 +97,48 @@ fn write_coil_off<W: Write>(
     writer.write_all(b"\n")
 }
 
-/// Puts the moment and the owner on the page.
+/// Puts the moment and the owner on the page, and makes room there for what most lines have after them.
 fn put_owner<W: Write>(
-    plan: &Plan,
+    plan: &PrintedPlan<'_>,
     owner: Owner,
     front: &Front,
     page: &mut Page,
     writer: &mut W,
 ) -> Result<(), WriteFailed>
-    ensures { OnOk result (Puts (W.contents writer.old) page.old (W.contents writer.new) page.new
+    ensures puts { OnOk result (Puts (W.contents writer.old) page.old (W.contents writer.new) page.new
         (decimal front.now ++ codes " " ++ owner_text plan.now owner)) }
+    ensures room { OnOk result (length page.new + 32 ≤ 4096) }
 {
     match owner {
         Owner::Machine => {
-            page.put_start::<START, W>(front.text(), front.digits() + MACHINE_LENGTH, writer)
+            page.make_room::<MACHINE_LINE, W>(writer)?;
+            page.add_start::<START>(front.text(), front.digits() + MACHINE_LENGTH);
+            Ok(())
         }
         Owner::Mode(mode) => {
+            page.make_room::<MODE_LINE, W>(writer)?;
             // The digits, and the blank after them.
-            page.put_start::<START, W>(front.text(), front.digits() + 1, writer)?;
-            page.put(mode_name(plan, mode), writer)
+            page.add_start::<START>(front.text(), front.digits() + 1);
+            put_mode_name(plan, mode, page, writer)
         }
+    }
+}
+
+/// Puts the name of a mode on the page: nothing if the plan lacks it.
+fn put_mode_name<W: Write>(
+    plan: &PrintedPlan<'_>,
+    mode: ModeId,
+    page: &mut Page,
+    writer: &mut W,
+) -> Result<(), WriteFailed>
+    requires { length page.old + 64 ≤ 4096 }
+    ensures puts { OnOk result (Puts (W.contents writer.old) page.old (W.contents writer.new) page.new
+        (mode_at plan.now mode).name) }
+    ensures room { OnOk result (length page.new + 32 ≤ 4096) }
+{
+    match plan.mode_name(mode) {
+        Some(name) => page.add_phrase::<TAIL, W>(name, writer),
+        None => page.make_room::<TAIL, W>(writer),
     }
 }
 
@@ -117,16 +150,17 @@ fn put_tail<W: Write>(
     page: &mut Page,
     writer: &mut W,
 ) -> Result<(), WriteFailed>
+    requires { length page.old + 32 ≤ 4096 }
     ensures { OnOk result (Puts (W.contents writer.old) page.old (W.contents writer.new) page.new
         (codes " " ++ word_text happening.now ++ rest_text plan.now happening.now)) }
 {
     match *happening {
         Happening::Event(event) => match plan.event_tail(event) {
-            Some(tail) => page.put_phrase(tail, writer),
+            Some(tail) => page.add_phrase::<0, W>(tail, writer),
             None => page.put(b" event \n", writer),
         },
         Happening::Switch(switch, active) => match plan.switch_tail(switch, active) {
-            Some(tail) => page.put_phrase(tail, writer),
+            Some(tail) => page.add_phrase::<0, W>(tail, writer),
             None if active => page.put(b" switch  active\n", writer),
             None => page.put(b" switch  inactive\n", writer),
         },
@@ -284,17 +318,6 @@ fn put_number<W: Write>(
     let mut room = [end; DIGITS + START];
     let start = write_digits(number, &mut room, DIGITS);
     page.put_start::<START, W>(&room[start..], DIGITS + 1 - start, writer)
-}
-
-/// The name of a mode: nothing if the plan lacks it.
-fn mode_name(plan: &Plan, mode: ModeId) -> &[u8]
-    ensures { result.now ≡ (mode_at plan.now mode).name }
-{
-    if (mode.0 as usize) < plan.mode_count() {
-        plan.mode_name(mode)
-    } else {
-        &[]
-    }
 }
 
 /// The name of the coil of a command.
