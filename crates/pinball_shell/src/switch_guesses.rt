@@ -60,8 +60,8 @@ fn place_of(name: &[u8]) -> usize
         return 0;
     };
     let length = (name.len() % 256) as u8;
-    let mixed = u32::from_le_bytes([*last, *second, *third, length]).wrapping_mul(0x9E37_79B1);
-    (mixed >> 16) as usize % GUESSES
+    let product = u32::from_le_bytes([*last, *second, *third, length]).wrapping_mul(0x9E37_79B1);
+    (product >> 16) as usize % GUESSES
 }
 
 /// Whether the plan has this switch, and it has this name. No other switch has the name then.

@@ -19,12 +19,6 @@ placed-less at less text a b within few placed =
     sym (take-take (at + less) (at + length text) b (omega arith)) ∙ ap (take (at + less)) placed.text_is
     ∙ take-after at less text a within
 
--- if the page alone grows by the text
-pub puts-on-page : (written : Option (List ℕ)) (page more text : List ℕ) → more ≡ page ++ text
-    → Puts written page written more text
-puts-on-page None page more text is = tt
-puts-on-page (Some xs) page more text is = ap (λ l. xs ++ l) is ∙ sym (append_assoc xs page text)
-
 -- if room was made on the page, and then it alone has grown by the text
 pub puts-in-room : (written made : Option (List ℕ)) (page roomy more text : List ℕ) → Puts written page made roomy []
     → more ≡ roomy ++ text → Puts written page made more text

@@ -140,17 +140,17 @@ impl Page {
         self.len += len;
     }
 
-    /// Adds a phrase, where the page has room for its start and `LEFT` bytes more. It has room for as
+    /// Adds a phrase, where the page has room for its start and `MORE` bytes more. It has room for as
     /// many after it.
     #[inline(always)]
-    pub(crate) fn add_phrase<const LEFT: usize, W: Write>(
+    pub(crate) fn add_phrase<const MORE: usize, W: Write>(
         &mut self,
         phrase: &Phrase,
         writer: &mut W,
     ) -> Result<(), WriteFailed>
-        requires { length self.old + 32 + LEFT ≤ 4096 }
+        requires { length self.old + 32 + MORE ≤ 4096 }
         ensures puts { OnOk result (Puts (W.contents writer.old) self.old (W.contents writer.new) self.new phrase.now) }
-        ensures room { OnOk result (length self.new + LEFT ≤ 4096) }
+        ensures room { OnOk result (length self.new + MORE ≤ 4096) }
     {
         let (start, len, _) = phrase.parts();
         if len <= SHORT {
@@ -158,7 +158,7 @@ impl Page {
             return Ok(());
         }
         self.put_phrase(phrase, writer)?;
-        self.make_room::<LEFT, W>(writer)
+        self.make_room::<MORE, W>(writer)
     }
 
     /// Writes what is on the page, and then a text.
