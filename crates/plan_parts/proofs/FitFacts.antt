@@ -17,7 +17,7 @@ use Rattle.mpf_sections.proofs.{GameRows.variable_player_named, BallRows.ball_de
 use Rattle.machine_definitions.specs.Shots.{profile_of_name}
 use Rattle.plan_tables.specs.declared.{devices.Act.Act, entries.ModeId.ModeId}
 use Rattle.plan_rows.specs.{Members.members_of, Seats.destination_of}
-use Rattle.mpf_tables.specs.declared.tables.TextKind.TextKind
+use Rattle.mpf_tables.specs.declared.tables.TextKind.{TextKind}
 use Rattle.plan_parts.specs.{VariableEntries.item_change, CoilEntries.item_effect, ShotEntries.shot_acts}
 use Rattle.plan_parts.specs.Parts.{Whose, Device, events, always, device_of, Reaction, start, stop}
 use Rattle.plan_parts.specs.Parts.{act_on, switch, mode, handler, device, where_true, control, stops_at_ball_end}

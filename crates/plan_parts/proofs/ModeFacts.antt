@@ -8,7 +8,7 @@ use Rattle.mpf_config.specs.Rows.{ModeRows, Rows}
 use Rattle.mpf_sections.specs.Rows.{Entry, PlayerEntry, ModeSettings, Content, entries, players}
 use Rattle.mpf_sections.specs.{Rows.{entry as single, name_list, SectionRows}, Typed.mode_settings, TypedShots.shot_of}
 use Rattle.plan_tables.specs.declared.entries.ModeId.{ModeId}
-use Rattle.plan_rows.specs.Seats.rows_after_text
+use Rattle.plan_rows.specs.Seats.{rows_after_text}
 use Rattle.mpf_tables.specs.declared.tables.TextKind.{TextKind, TheVariants.{Machine, Mode}}
 use Rattle.plan_parts.specs.{ShotEntries.shot_acts, PartKinds.IsNoMode}
 use Rattle.plan_parts.specs.Parts.{Whose, Device, events, always, device_of, start, stop, act_on, Part, mode, handler}

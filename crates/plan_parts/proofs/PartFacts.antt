@@ -7,7 +7,7 @@ use Rattle.std.proofs.lemmas.List.Elements.{All-nil, All-head, All-tail, All-app
 use Rattle.mpf_values.specs.Events.{Event}
 use Rattle.mpf_config.specs.Rows.{ModeRows, Rows}
 use Rattle.mpf_sections.specs.{Rows.{ModeSettings, SectionRows}, Typed.mode_settings}
-use Rattle.plan_rows.specs.Seats.rows_after_text
+use Rattle.plan_rows.specs.Seats.{rows_after_text}
 use Rattle.mpf_tables.specs.declared.tables.TextKind.{TextKind, TheVariants.{Machine, Mode}}
 use Rattle.plan_tables.specs.declared.entries.ModeId.{ModeId}
 use Rattle.plan_tables.specs.declared.entries.Owner.TheVariants as owners

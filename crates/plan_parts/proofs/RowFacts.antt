@@ -23,7 +23,7 @@ use Rattle.machine_definitions.proofs.States.{sections_have_states}
 use Rattle.plan_tables.specs.{BallRows.IsNoBallDevice, Valid.IsTargetThere}
 use Rattle.plan_tables.specs.declared.{entries.{ModeId.ModeId, Owner.Owner}, devices.Settings.Settings}
 use Rattle.plan_tables.specs.declared.entries.Owner.TheVariants as owners
-use Rattle.plan_rows.specs.declared.destination.Destination.Destination
+use Rattle.plan_rows.specs.declared.destination.Destination.{Destination}
 use Rattle.mpf_tables.specs.declared.tables.TextKind.{TextKind, TheVariants.Machine}
 use Rattle.plan_rows.specs.declared.destination.Destination.TheVariants as destinations
 use Rattle.plan_rows.specs.{Members.{members_of, first_profile}, Rows.{Row, alone, rows_in, rows_from}}

@@ -9,7 +9,7 @@ use Rattle.mpf_sections.specs.View.{name_view, entry_view, section_view}
 use Rattle.yaml_subset.specs.Keys.{is_among}
 use Rattle.machine_definitions.proofs.Finding.{next-is}
 use Rattle.plan_rows.specs.Seats.{Seat, seats_at, given_from, latest}
-use Rattle.mpf_tables.specs.declared.tables.TextKind.TextKind
+use Rattle.mpf_tables.specs.declared.tables.TextKind.{TextKind}
 use Rattle.plan_rows.specs.Seats.{section_entries, text_entries, row_sections, has_row, rows_after, rows_after_all}
 
 -- what is found under a name after these, if this was found before

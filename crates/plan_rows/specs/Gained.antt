@@ -9,7 +9,7 @@ use Rattle.mpf_sections.specs.{Rows.{WrittenName, Entry}, TypedBalls.ball_device
 use Rattle.mpf_sections.specs.View.{name_view, entry_view, player_view, section_view}
 use Rattle.mpf_config.specs.{declared.config.ModeText.ModeText, Rows.Rows, View.mode_view}
 use Rattle.machine_definitions.specs.Found.{is_found, section_rows}
-use Rattle.plan_rows.specs.declared.seats.Seats.Seats
+use Rattle.plan_rows.specs.declared.seats.Seats.{Seats}
 use Rattle.mpf_tables.specs.declared.tables.TextKind.{TextKind, TheVariants.Mode}
 use Rattle.plan_rows.specs.declared.rows.Row as rows
 use Rattle.plan_rows.specs.declared.seats.Seat as seats
