@@ -11,11 +11,10 @@ use Rattle.mpf_sections.specs.TypedGame.{game_name, variable_player_name, game_o
 use Rattle.machine_definitions.specs.Shots.{Profile, has_profile, profile_of_name}
 use Rattle.plan_tables.specs.declared.table.Table.TheVariants.{Switches}
 use Rattle.mpf_config.specs.Rows.{Rows}
-use Rattle.plan_rows.specs.declared.destination.Destination.{Destination}
+use Rattle.plan_rows.specs.{declared.destination.Destination.Destination, Rows.{entry_row, rows_from, text_rows}}
 use Rattle.mpf_tables.specs.declared.tables.TextKind.{TextKind, TheVariants.Machine}
 use Rattle.plan_rows.specs.{Members.members_of, Seats.{Seat, seat_of, destination_of}}
 use Rattle.plan_rows.specs.Rows.{Row, entry, alone, player, shot_row, group_row, ball_device_row, other_row}
-use Rattle.plan_rows.specs.Rows.{entry_row, rows_from, text_rows}
 use Rattle.plan_parts.specs.{Effects.posts, CoilEntries.item_effect, BallEntries.{ball_device_from, is_known}}
 use Rattle.plan_parts.specs.{VariableEntries.item_change, Parts.{unknown, text_parts}}
 use Rattle.plan_parts.specs.ShotEntries.{shot_acts, lone_device, group_device}

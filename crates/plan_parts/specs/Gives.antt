@@ -26,11 +26,10 @@ use Rattle.mpf_sections.specs.View.{variable_player_view, game_view, shot_view}
 use Rattle.mpf_sections.specs.View.{shot_group_view, ball_device_view, ball_save_view, multiball_view}
 use Rattle.machine_definitions.specs.declared.profile.Profile as profiles
 use Rattle.machine_definitions.specs.Found.{profile_view}
-use Rattle.plan_rows.specs.declared.destination.Destination.{Destination}
+use Rattle.plan_rows.specs.{declared.destination.Destination.Destination, View.{seat_view, members_view}}
 use Rattle.mpf_tables.specs.declared.tables.TextKind.{TextKind}
 use Rattle.plan_rows.specs.declared.seats.Seat as seats
 use Rattle.plan_rows.specs.declared.members.Members as members
-use Rattle.plan_rows.specs.View.{seat_view, members_view}
 use Rattle.plan_tables.specs.declared.{devices.Settings.Settings, entries.ModeId.ModeId}
 use Rattle.machine_settings.specs.declared.settings.StepSettings.{StepSettings}
 use Rattle.plan_parts.specs.declared.row_parts.RowParts as rows

@@ -1,5 +1,5 @@
-use Rattle.std.proofs.{Common.{◌++◌, [], ◌∷◌, ap, sym, ◌∙◌}, lemmas.{Result.on_ok_weaker, List.{append-nil, map-append}}}
-use Rattle.std.specs.Prelude.{option_map}
+use Rattle.std.{proofs.Common.{◌++◌, [], ◌∷◌, ap, sym, ◌∙◌}, specs.Prelude.option_map}
+use Rattle.std.proofs.lemmas.{Result.on_ok_weaker, List.{append-nil, map-append}}
 use Rattle.mpf_sections.specs.View.{name_at_view}
 use Rattle.plan_parts.specs.{CoilEntries.named_switches, RowViews.bytes_view}
 use Rattle.plan_parts.proofs.collect_coils.listen_to.Goals as goal
