@@ -73,8 +73,8 @@ flipper_off machine main None = if (defaults_called machine main.text).may_hold 
     ∷ [] else []
 
 -- The effect lists of a flipper. 0 is on: with a hold coil, it pulses the main coil and enables the hold coil; else it
--- enables the main coil where that may be held, and else pulses it. 1 is off: it disables the hold coil, or the main coil
--- where that may be held; else it is empty.
+-- enables the main coil where that may be held, and else pulses it. 1 is off: it disables the hold coil, or the main
+-- coil where that may be held; else it is empty.
 abbrev pub flipper_lists : List SectionRows → WrittenName → Option WrittenName → List (List Effect)
 flipper_lists machine main hold = flipper_on machine main hold ∷ flipper_off machine main hold ∷ []
 
