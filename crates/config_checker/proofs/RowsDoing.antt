@@ -7,8 +7,8 @@ use Rattle.std.specs.Prelude.{Option, Some, None, IfSome, is_some}
 use Rattle.std.proofs.lemmas.{List.{get_or_append_left, Elements.All-from_recursion}, Bool.or_parts}
 use Rattle.std.specs.{Str.bytes_eq, List.{All, AllPairs, flat_map, list_any}}
 use Rattle.std.proofs.lemmas.List.Elements.{All-nil, All-cons, All-append, All-map, All-weaker, All-from_get_or}
-use Rattle.mpf_sections.specs.{declared.coil_rules.RuleKind.RuleKind, Rows.{ShotGroup, BallDeviceEntry, SectionRows}}
 use Rattle.mpf_sections.specs.Rows.{WrittenName, Entry, Switch, CoilPlayer, VariablePlayer, BlockEvents, Shot}
+use Rattle.mpf_sections.specs.Rows.{ShotGroup, BallDeviceEntry, SectionRows}
 use Rattle.mpf_sections.specs.{TypedGame.variable_players_in, Typed.{accruals_in, sequences_in}}
 use Rattle.mpf_sections.specs.{CoilRules.{CoilRule, coil_rule_of}, TypedShots.{shots_in, shot_groups_in}}
 use Rattle.mpf_sections.specs.{TypedBalls.ball_devices_in, TypedCoils.coil_players_in}
@@ -24,8 +24,7 @@ use Rattle.machine_definitions.specs.Definitions.{has_switch, ball_devices_of, l
 use Rattle.plan_parts.specs.Effects.{Effect, posts, works, changes, enters, leaves, loses, arrives}
 use Rattle.plan_parts.specs.DeviceEntries.{texts, Device, counter_device, step_device, step_settings, timer_device}
 use Rattle.plan_parts.specs.DeviceEntries.{device_of, block_event, or_own, block_lists, timer_lists}
-use Rattle.plan_parts.specs.CoilEntries.{item_effect, rule_lists, rule_device_of}
-use Rattle.plan_parts.proofs.{RuleFacts.all_switches, SaveFacts.{all_save, all_multiball}}
+use Rattle.plan_parts.{specs.CoilEntries.{item_effect, rule_device_of}, proofs.SaveFacts.{all_save, all_multiball}}
 use Rattle.plan_parts.specs.{Parts.tag_event, Doing.{IsMachineDoing, AreDoing}}
 use Rattle.plan_parts.specs.BallEntries.{drains, ball_event, eject_pulse, ball_lists}
 use Rattle.plan_parts.specs.SaveEntries.{save_device, multiball_device, save_device_of}
@@ -34,10 +33,10 @@ use Rattle.plan_rows.specs.Members.{members_of}
 use Rattle.plan_parts.specs.Doing.{IsSwitchDoing, IsPlayerDoing, IsEntryDoing, IsCoilPlayerDoing, IsVariablePlayerDoing}
 use Rattle.plan_parts.specs.Doing.{IsShotDoing, IsShotGroupDoing, has_target, IsBallDeviceDoing, IsDoing}
 use Rattle.row_faults.specs.Reserved.{is_reserved, switch_posts, player_posts, counter_posts, step_posts, posts_in}
-use Rattle.row_faults.specs.{Reserved.posts_of, BallFaults.is_place, Routes.switch_names}
+use Rattle.row_faults.specs.{Reserved.posts_of, BallFaults.is_place}
 use Rattle.row_faults.specs.Sound.{ChangesNothingBarred, IsChangeFree, IsItemSound, IsCoilSound, IsCoilSuch}
-use Rattle.row_faults.specs.Sound.{IsHoldWithin, IsCoilPlayerSound, IsCoilRuleSound, IsShotSound, IsShotGroupSound}
-use Rattle.row_faults.specs.Sound.{IsBallDeviceSound, IsSectionSound, IsSound}
+use Rattle.row_faults.specs.Sound.{IsCoilPlayerSound, IsCoilRuleSound, IsShotSound, IsShotGroupSound}
+use Rattle.row_faults.specs.{Sound.{IsBallDeviceSound, IsSectionSound, IsSound}, Routes.switch_names}
 use Rattle.row_faults.proofs.AsWritten.{switch-posts, counter-posts, step-posts}
 use Rattle.config_checker.proofs.FreeNames.{active-free, inactive-free, tag-free, block-free, timer-free, ball-free}
 use Rattle.config_checker.proofs.FreeNames.{save-free, multiball-free, shot-free, group_hit-free, group_complete-free}
@@ -212,21 +211,9 @@ module _ (rows : Rows) where
           λ i d within. record { lists = timer-all (timer_of (get_or es i d)).name.text; listens = All-nil IsThere }
       by false false false false hc ha hq = λ i d within. saves-doing s.name (get_or es i d)
 
-  -- what a coil rule does with its coils
-  coils-doing : (coil : WrittenName) (hold : Option WrittenName) (kind : RuleKind)
-      → IsCoilSuch rows.machine coil.text IsCoilSound
-      → IfSome hold (λ w. IsCoilSuch rows.machine w.text (λ c. IsHoldWithin c c.hold_power))
-      → All (All IsFine) (rule_lists rows.machine coil hold kind)
-  coils-doing coil x1 x2 h k = search (rules, All-cons, All-nil, one)
-
   rules-doing : (o : Option CoilRule) → IfSome o (IsCoilRuleSound rows.machine)
       → IsEntryDoing IsFine IsUnreserved IsThere (rule_device_of rows.machine o)
-  rules-doing None h = tt
-  rules-doing (Some r) h =
-      record {
-        lists = coils-doing r.coil r.hold_coil r.form.kind h.coil h.hold_coil;
-        listens = all_switches IsThere r.switch h.switch;
-      }
+  rules-doing x1 h = search (rules, All-cons, All-nil, one)
 
   -- ---- ball devices
 
