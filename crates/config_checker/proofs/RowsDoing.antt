@@ -33,10 +33,10 @@ use Rattle.plan_rows.specs.Members.{members_of}
 use Rattle.plan_parts.specs.Doing.{IsSwitchDoing, IsPlayerDoing, IsEntryDoing, IsCoilPlayerDoing, IsVariablePlayerDoing}
 use Rattle.plan_parts.specs.Doing.{IsShotDoing, IsShotGroupDoing, has_target, IsBallDeviceDoing, IsDoing}
 use Rattle.row_faults.specs.Reserved.{is_reserved, switch_posts, player_posts, counter_posts, step_posts, posts_in}
-use Rattle.row_faults.specs.{Reserved.posts_of, BallFaults.is_place}
+use Rattle.row_faults.specs.{Reserved.posts_of, BallFaults.is_place, Routes.switch_names}
 use Rattle.row_faults.specs.Sound.{ChangesNothingBarred, IsChangeFree, IsItemSound, IsCoilSound, IsCoilSuch}
 use Rattle.row_faults.specs.Sound.{IsCoilPlayerSound, IsCoilRuleSound, IsShotSound, IsShotGroupSound}
-use Rattle.row_faults.specs.{Sound.{IsBallDeviceSound, IsSectionSound, IsSound}, Routes.switch_names}
+use Rattle.row_faults.specs.Sound.{IsBallDeviceSound, IsSectionSound, IsSound}
 use Rattle.row_faults.proofs.AsWritten.{switch-posts, counter-posts, step-posts}
 use Rattle.config_checker.proofs.FreeNames.{active-free, inactive-free, tag-free, block-free, timer-free, ball-free}
 use Rattle.config_checker.proofs.FreeNames.{save-free, multiball-free, shot-free, group_hit-free, group_complete-free}
