@@ -11,7 +11,8 @@ A fault is `FILE:LINE: KIND NAME`, or `FILE: wide N lines`:
   participle  a participle that is the whole name of a type, a function, a field, a variable or a definition, in src/ or
               specs/. Such are the words below, and words in `-ed` but those below. A word in `-ing` is a noun
   label       a participle that is the name of a clause, `ensures taken { .. }`
-  by_place    a fact that is given by its place, `(tt, tt)`, or that is taken by three or more, `x.1.0.1`
+  by_place    facts that are given by their places, such as `(tt, tt)`, which has the name `tt`, and one that is taken
+              by three or more, `x.1.0.1`
   for_facts   a call or a read whose value has no use, `let _x = ..;`
   wide        lines above 120 characters, in .rt and .antt. The tests are left out, in which a row is one line, and so
               are attributes, which `rt fmt` puts on one line
@@ -40,7 +41,7 @@ LABEL = re.compile(r"^ *(?:requires|ensures)\*? (\w+) \{", re.M)
 NUMBER = re.compile(r"^ +(?:pub )?(first|second|third|fourth|fifth|sixth|seventh|eighth) ?: ", re.M)
 # A struct, or a record, with its fields.
 FIELDS = re.compile(r"^(?:pub )?(?:abbrev )?(?:struct|record) (\w+).*\n((?: +.*\n)*)", re.M)
-BY_PLACE = re.compile(r"\(tt, tt\)|[\w-]+(?:\.[01]){3,}\b")
+BY_PLACE = re.compile(r"\b(tt)(?:,\s+tt)+\)|[\w-]+(?:\.[01]){3,}\b")
 FOR_FACTS = re.compile(r"\blet (_\w+) = ")
 # What declares names in code: functions and types, variables, fields and arguments, and arguments of closures.
 IN_CODE = re.compile(
@@ -148,7 +149,7 @@ def in_texts(crate: str, file: Path) -> Iterator[Fault]:
         yield from (fault("participle", *it) for it in first.items())
         yield from (fault("numbered", it[1], it.start()) for it in FIELDS.finditer(text)
                     if len(NUMBER.findall(it[2])) > 1)
-    yield from (fault("by_place", it[0], it.start()) for it in BY_PLACE.finditer(text))
+    yield from (fault("by_place", it[1] or it[0], it.start()) for it in BY_PLACE.finditer(text))
     if room == "src":
         yield from (fault("for_facts", it[1], it.start()) for it in FOR_FACTS.finditer(text))
         yield from (fault("label", it[1], it.start(1)) for it in LABEL.finditer(text) if is_participle(it[1]))
