@@ -12,4 +12,5 @@ pub mod Routed
 pub mod Apart
 pub mod Plain
 mod Short
+mod NoRules
 mod Ungrouped

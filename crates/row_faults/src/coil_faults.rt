@@ -1,6 +1,8 @@
 //! What is wrong with coils, and with what is said of them elsewhere.
 
 ghost use Rattle.std.specs.Prelude.{◌≡◌, ◌||◌, ◌&&◌, not, nat_lt, OnOk};
+ghost use Rattle.yaml_subset.specs.Keys.{is_among};
+ghost use Rattle.mpf_sections.specs.CoilRules.{coil_rule_sections};
 ghost use Rattle.row_faults.specs.CoilFaults.{is_above, is_enable};
 ghost use Rattle.row_faults.specs.Collected.{Gains};
 ghost use Rattle.row_faults.specs.FaultsOf.{faults_by_limits, faults_of_coil, faults_of_coil_item};
@@ -16,7 +18,9 @@ use mpf_config::{
     Coil, CoilAction, CoilItem, CoilRule, Entry, KeyedValues, NameAt, Section, as_coil,
     as_coil_item, as_coil_player, as_coil_rule,
 };
+use mpf_sections::coil_rules::COIL_RULE_SECTIONS;
 use mpf_tables::tables::{COIL_PLAYER_NAME, COILS_NAME};
+use section_tables::is_one_of;
 use std::alloc::AllocError;
 
 /// Adds the faults of what a section says of coils, as written.
@@ -181,8 +185,25 @@ fn may_not_hold(action: CoilAction, coil: Coil<'_>) -> bool
 
 // ---- coil rules
 
-/// Adds the faults of the coil rules of a section.
+/// Adds the faults of the coil rules of a section. Of other sections no entry is looked at.
 fn add_rules(faults: &mut Faults<'_, '_>, section: &Section) -> Result<(), AllocError>
+    ensures { OnOk result (Gains faults.old faults.new (faults_of_rules faults.old section.now)) }
+{
+    if has_coil_rules(&section.name) {
+        return add_all_rules(faults, section);
+    }
+    Ok(())
+}
+
+/// Whether the entries of a section of this name are coil rules.
+fn has_coil_rules(section: &[u8]) -> bool
+    ensures { result ≡ is_among coil_rule_sections section.now }
+{
+    is_one_of(&COIL_RULE_SECTIONS, section)
+}
+
+/// Adds the faults of all entries of a section that are coil rules.
+fn add_all_rules(faults: &mut Faults<'_, '_>, section: &Section) -> Result<(), AllocError>
     ensures { OnOk result (Gains faults.old faults.new (faults_of_rules faults.old section.now)) }
 {
     let entries = section.content.entries();

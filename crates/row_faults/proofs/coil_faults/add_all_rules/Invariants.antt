@@ -1,7 +1,7 @@
 use Rattle.std.{proofs.Common.{◌≡◌, map, drop}, specs.List.flat_map}
 use Rattle.mpf_sections.specs.{CoilRules.coil_rule_of, View.entry_view}
 use Rattle.row_faults.specs.{CoilFaults.rule_faults, Collected.with_faults}
-use Rattle.row_faults.proofs.coil_faults.add_rules.Given as goal
+use Rattle.row_faults.proofs.coil_faults.add_all_rules.Given as goal
 
 abbrev pub invariant-loop-entry : goal.invariant-loop-entry
 invariant-loop-entry l =
