@@ -52,7 +52,7 @@ exit_list = 2
 abbrev pub loss_list : ℕ
 loss_list = 3
 
--- the ball that it has ejected is where it should be
+-- the ball that it has ejected counts as being where it should be
 abbrev pub success_list : ℕ
 success_list = 4
 

@@ -40,12 +40,13 @@ are_all_in b state states = list_all (λ s. s == state) (take b.shots states)
 abbrev pub hit_lists : BankSettings → ℕ → ℕ → List ℕ
 hit_lists b i state = shot_hit b i state ∷ (if b.group then group_hit b state ∷ [] else [])
 
--- a group completes if the hit has moved the shot to another state, and all its shots are in that state now
+-- Whether a hit of a shot that was in `state` completes the group, where `states` are those after the hit: it has moved
+-- the shot to another state, and all shots are in that state.
 abbrev pub is_complete : BankSettings → ℕ → List ℕ → Bool
 is_complete b state states =
     b.group && (not (next_state b state == state) && are_all_in b (next_state b state) states)
 
--- the group's list for this, if a hit from this state that left the states so completes it
+-- the list that it then runs: that of the group for the new state
 abbrev pub complete_lists : BankSettings → ℕ → List ℕ → List ℕ
 complete_lists b state states = if is_complete b state states then group_complete b (next_state b state) ∷ [] else []
 

@@ -23,7 +23,7 @@ abbrev pub going_on : List ℕ
 going_on = update ∷ hit ∷ []
 
 -- What the acts that all blocks have do to a slot, by how a slot is enabled or disabled, and how it is reset. A restart
--- resets and enables it. Only these two run a list, the first.
+-- resets the slot and enables it. Of these acts only a reset and a restart run a list: the first.
 abbrev pub block_step : {S : Type 0} → (Bool → S → S) → (S → S) → Act → S → S × List ℕ
 block_step enable reset acts.Enable slot = (enable true slot, [])
 block_step enable reset acts.Disable slot = (enable false slot, [])

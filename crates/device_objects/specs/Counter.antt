@@ -14,7 +14,7 @@ use Rattle.device_objects.specs.Blocks.{update, hit, complete, completing, going
 abbrev pub first_slot : CounterSettings → ℕ → CounterSlot
 first_slot c game = record { game = game; enabled = c.block.enabled; value = c.start; last_hit = None }
 
--- whether a hit comes too early after the last one
+-- whether a hit comes too early after the last one that counted
 abbrev pub is_early : ℕ → Option ℕ → ℕ → Bool
 is_early window None now = false
 is_early window (Some last) now = nat_lt now (last + window)

@@ -14,8 +14,8 @@ pub struct World {
 /// What a counter remembers for one player.
 #[derive(Clone, Copy)]
 pub struct CounterSlot {
-    /// The game to which it belongs, as [`World::games`] counts it; 0 if players have no slots of
-    /// their own.
+    /// The game to which it belongs, as [`World::games`] counts it; 0 if it is of no game, or if no
+    /// game has used it yet.
     pub game: u64,
     pub enabled: bool,
     /// Within plus or minus 999,999,999,999,999.
@@ -27,8 +27,8 @@ pub struct CounterSlot {
 /// What an accrual remembers for one player.
 #[derive(Clone, Copy)]
 pub struct AccrualSlot {
-    /// The game to which it belongs, as [`World::games`] counts it; 0 if players have no slots of
-    /// their own.
+    /// The game to which it belongs, as [`World::games`] counts it; 0 if it is of no game, or if no
+    /// game has used it yet.
     pub game: u64,
     pub enabled: bool,
     /// Which steps are done.
@@ -38,8 +38,8 @@ pub struct AccrualSlot {
 /// What a sequence remembers for one player.
 #[derive(Clone, Copy)]
 pub struct SequenceSlot {
-    /// The game to which it belongs, as [`World::games`] counts it; 0 if players have no slots of
-    /// their own.
+    /// The game to which it belongs, as [`World::games`] counts it; 0 if it is of no game, or if no
+    /// game has used it yet.
     pub game: u64,
     pub enabled: bool,
     /// How many steps are done: the number of the next one.
@@ -58,7 +58,7 @@ pub struct TimerState {
 /// What a bank of shots remembers for one player.
 #[derive(Clone, Copy)]
 pub struct BankSlot {
-    /// The game to which it belongs, as [`World::games`] counts it.
+    /// The game to which it belongs, as [`World::games`] counts it; 0 if no game has used it yet.
     pub game: u64,
     /// Which shots are enabled, by their numbers.
     pub enabled: [bool; 16],
@@ -108,7 +108,7 @@ pub struct Attempt {
 pub enum Eject {
     /// It ejects none.
     Idle,
-    /// Its coil was pulsed, and the ball has not left yet.
+    /// It attempts to eject a ball, which has not left yet.
     Pulsing(Attempt),
     /// The ball has left, and has not arrived yet.
     Away(Attempt),
@@ -120,7 +120,7 @@ pub struct BallState {
     /// Its ball switches, by their numbers. Those that it does not have stay empty.
     pub switches: [BallSwitch; 16],
     pub eject: Eject,
-    /// How many balls a trough is still to eject.
+    /// How many balls a trough owes, with the one that it is ejecting or that is on its way.
     pub wanted: u8,
 }
 

@@ -63,7 +63,7 @@ pub struct EjectSettings {
     pub exit_delay: u32,
     /// An attempt to eject a ball is over after this many milliseconds: at least 1.
     pub timeout: u32,
-    /// How many attempts it makes to eject a ball; none: until the ball has left.
+    /// How many attempts it makes at most to eject one ball; none: there is no limit.
     pub max_attempts: Option<u16>,
     /// Whether a ball that leaves while none is ejected counts as ejected, as from a plunger that is pulled by
     /// hand.

@@ -189,7 +189,7 @@ pub struct DeviceRow {
 }
 
 /// What a device is asked to do. It ignores acts of other kinds, and the numbers of steps, shots or
-/// switches that it does not have.
+/// switches that it does not have; but these too make a slot of an earlier game one of this game.
 #[derive(Clone, Copy, Debug)]
 pub enum Act {
     /// A counter counts a hit.
@@ -201,7 +201,7 @@ pub enum Act {
     /// The device is disabled.
     Disable,
     /// A counter or a timer goes back to its start value, an accrual or a sequence to no step done, and each shot of a
-    /// bank to its first state. It stays enabled or disabled, as it was.
+    /// bank to its first state. A block and each shot stay enabled or disabled; a running timer goes on.
     Reset,
     /// A logic block is reset, and is enabled. A timer runs anew from its start value.
     Restart,

@@ -12,7 +12,7 @@ use plan_tables::{Act, BankSettings, DeviceRow, Settings};
 use slotted_devices::{SlotDevice, SlotKind};
 
 /// A bank of shots: each hit of a shot runs the lists of its state, and can move the shot on. A group
-/// is complete when a hit brings its last shot to the state that the others have.
+/// is complete when a hit moves one of its shots to the state that all the others have.
 ///
 /// `new` gives none for a row with more than 16 shots or 16 states. No plan has one.
 pub type ShotBank = SlotDevice<BankKind>;
