@@ -1,6 +1,7 @@
 -- What settings have, in the order in which they are written.
-use Rattle.std.proofs.Common.{◌≡◌, ◌==◌, ℕ, true, List, length, [], ◌∷◌, ◌++◌, map, codes, refl, ap, sym, ◌∙◌, arith}
-use Rattle.std.{specs.List.{All, flat_map}, proofs.lemmas.{Bool.eqb-true, List.append-nil}}
+use Rattle.std.proofs.Common.{◌≡◌, ◌==◌, ℕ, nat_lt, Bool, true, false, if◌then◌else◌, List, length, [], ◌∷◌, ◌++◌, map}
+use Rattle.std.{proofs.Common.{codes, refl, ap, sym, ◌∙◌, arith}, specs.List.{All, flat_map}}
+use Rattle.std.proofs.lemmas.{Bool.{eqb-true, ltb-true, ltb-false}, List.append-nil}
 use Rattle.section_tables.specs.Shapes.{Setting}
 use Rattle.mpf_tables.specs.SectionTables as tables
 use Rattle.mpf_sections.specs.{Rows.{WrittenName, Switch, BlockEvents, CounterEntry, StepBlock}, Typed.place_of}
@@ -113,3 +114,51 @@ pub two-unwritten : {X : Type 0} (order : List ℕ) (p q : ℕ) (xs ys : List X)
 two-unwritten {X = X} order p q xs ys none =
     sym (seen-unwritten (λ (zs : List X). zs) order ((p, xs) ∷ (q, ys) ∷ []) none)
     ∙ ap (λ (zs : List X). xs ++ zs) (append-nil ys)
+
+-- what has nothing is as if it were left out, between two others
+module _ {X : Type 0} (order : List ℕ) (a k b : ℕ) (xs zs : List X) where
+  abbrev at : ℕ × List X → ℕ
+  at part = written_before order part.0
+
+  abbrev all_of : List (ℕ × List X) → List X
+  all_of parts = flat_map (λ (part : ℕ × List X). part.1) parts
+
+  abbrev two : Bool → List (ℕ × List X)
+  two ba = if ba then (b, zs) ∷ (a, xs) ∷ [] else (a, xs) ∷ (b, zs) ∷ []
+
+  abbrev three : Bool → Bool → Bool → List (ℕ × List X)
+  three true ka ba =
+      if ba then (b, zs) ∷ (if ka then (k, []) ∷ (a, xs) ∷ [] else (a, xs) ∷ (k, []) ∷ [])
+      else (a, xs) ∷ (b, zs) ∷ (k, []) ∷ []
+  three false ka ba = if ka then (k, []) ∷ two ba else (a, xs) ∷ (k, []) ∷ (b, zs) ∷ []
+
+  three-is : (bk : Bool) → put_by at (a, xs) (if bk then (b, zs) ∷ (k, []) ∷ [] else (k, []) ∷ (b, zs) ∷ [])
+      ≡ three bk (nat_lt (written_before order k) (written_before order a))
+      (nat_lt (written_before order b) (written_before order a))
+  three-is true = refl
+  three-is false = refl
+
+  same-parts : (bk ka ba : Bool) → nat_lt (written_before order b) (written_before order k) ≡ bk
+      → nat_lt (written_before order k) (written_before order a) ≡ ka
+      → nat_lt (written_before order b) (written_before order a) ≡ ba
+      → all_of (three bk ka ba) ≡ all_of (two ba)
+  same-parts true true true h i j = refl
+  same-parts true false true h i j = refl
+  same-parts true ka false h i j = refl
+  same-parts false true ba h i j = refl
+  same-parts false false false h i j = refl
+  same-parts false false true h i j =
+      absurd (omega (
+        arith,
+        ltb-false (written_before order b) (written_before order k) h,
+        ltb-false (written_before order k) (written_before order a) i,
+        ltb-true (written_before order b) (written_before order a) j,
+      ))
+
+  pub middle-none : in_order order ((a, xs) ∷ (b, zs) ∷ []) ≡ in_order order ((a, xs) ∷ (k, []) ∷ (b, zs) ∷ [])
+  unfolding in_order
+  middle-none =
+      let bk = nat_lt (written_before order b) (written_before order k) in
+      let ka = nat_lt (written_before order k) (written_before order a) in
+      let ba = nat_lt (written_before order b) (written_before order a) in
+      sym (ap all_of (three-is bk) ∙ same-parts bk ka ba refl refl refl)

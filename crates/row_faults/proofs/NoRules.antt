@@ -1,14 +1,17 @@
--- The entries of a section that has no coil rules have no faults as such.
+-- What has no faults: sections without coil rules, and a coil that a rule does not hold.
 use Rattle.std.proofs.Common.{◌≡◌, ℕ, Bool, true, false, List, [], ◌∷◌, ◌++◌, map, Option, None, Some, option_map, refl}
 use Rattle.std.proofs.{Common.{sym, ap, ◌∙◌}, lemmas.{Bool.{false≢true, or_parts}, Slice.Eq.bytes_eq-Decides}}
-use Rattle.std.specs.{List.flat_map, Str.bytes_eq}
+use Rattle.std.specs.{List.flat_map, Str.bytes_eq, Option.is_none, Prelude.unwrap_or}
 use Rattle.section_tables.specs.Rows.{Entry}
 use Rattle.yaml_subset.specs.Keys.{is_among}
 use Rattle.mpf_tables.specs.SectionTables.{named_in}
-use Rattle.mpf_sections.specs.{declared.coil_rules.RuleForm.RuleForm, Rows.SectionRows}
-use Rattle.mpf_sections.specs.CoilRules.{coil_rules, coil_rule_sections, rule_by, coil_rule_of}
-use Rattle.row_faults.specs.{CoilFaults.rule_faults, FaultView.RowFaultView, Collected.{FaultsView, with_faults}}
-use Rattle.row_faults.proofs.Collected.{with-none}
+use Rattle.mpf_sections.specs.declared.{coil_rules.RuleForm.RuleForm, typed.NameAt.NameAt}
+use Rattle.mpf_sections.specs.{Rows.{SectionRows, WrittenName}, View.name_at_view}
+use Rattle.mpf_sections.specs.CoilRules.{CoilRule, coil_rules, coil_rule_sections, rule_by, coil_rule_of}
+use Rattle.row_faults.specs.{AsWritten.in_order, FaultView.RowFaultView}
+use Rattle.row_faults.specs.{Collected.{FaultsView, with_faults}, CoilFaults.named_switch_faults}
+use Rattle.row_faults.specs.CoilFaults.{rule_faults, coil_rule_faults, coil_name_faults, hold_faults}
+use Rattle.row_faults.proofs.{Collected.with-none, AsWritten.middle-none}
 
 differ : (x y : List ℕ) → bytes_eq x y ≡ false → bytes_eq y x ≡ false
 differ x y is = by (bytes_eq y x) refl
@@ -37,3 +40,17 @@ pub not_rules : (f : FaultsView) (section : List ℕ) (es : List Entry) → is_a
     → f ≡ with_faults f (flat_map (λ e. rule_faults f.rows.machine f.text (coil_rule_of section e)) es)
 not_rules f section es is =
     sym (ap (with_faults f) (no_faults f.rows.machine f.text section es (no_form section coil_rules is)) ∙ with-none f)
+
+-- a rule that holds no coil has the faults of its coil and of its switch
+pub no_hold : (machine : List SectionRows) (text : List ℕ) (r : CoilRule) (hold : Option NameAt)
+    → r.hold_coil ≡ option_map name_at_view hold → is_none hold ≡ true
+    → in_order r.order ((r.form.coil, coil_name_faults machine text r.coil)
+    ∷ (unwrap_or r.form.switch 0, named_switch_faults machine text r.switch) ∷ [])
+    ≡ coil_rule_faults machine text r
+no_hold machine text r None is none =
+    middle-none r.order r.form.coil (unwrap_or r.form.hold_coil 0) (unwrap_or r.form.switch 0)
+    (coil_name_faults machine text r.coil) (named_switch_faults machine text r.switch)
+    ∙ ap (λ (hold : Option WrittenName). in_order r.order ((r.form.coil, coil_name_faults machine text r.coil)
+    ∷ (unwrap_or r.form.hold_coil 0, hold_faults machine text r.name.line hold)
+    ∷ (unwrap_or r.form.switch 0, named_switch_faults machine text r.switch) ∷ [])) (sym is)
+no_hold machine text r (Some w) is none = absurd (false≢true none)

@@ -223,19 +223,22 @@ fn add_rule(faults: &mut Faults<'_, '_>, section: &[u8], entry: &Entry) -> Resul
     }
 }
 
-/// Adds the faults of a coil rule. What it has no place for is not at fault, at whatever place.
+/// Adds the faults of a coil rule. What it has no place for is not at fault, at whatever place. Most
+/// rules hold no coil: then there are only two settings to put in order.
 fn add_coil_rule(faults: &mut Faults<'_, '_>, rule: CoilRule<'_>) -> Result<(), AllocError>
     ensures { OnOk result (Gains faults.old faults.new (faults_of_coil_rule faults.old rule.entry)) }
 {
-    let hold_place = rule.form.hold_coil.unwrap_or(0);
+    let coil = (rule.form.coil, NamedThing::Coil(Some(rule.coil)));
     let switch_place = rule.form.switch.unwrap_or(0);
+    let switch = (switch_place, NamedThing::Switch(rule.switch));
+    if rule.hold_coil.is_none() {
+        add_as_written(faults, rule.order, &[coil, switch])?;
+        return Ok(());
+    }
+    let hold_place = rule.form.hold_coil.unwrap_or(0);
     let hold_coil = NamedThing::HoldCoil(rule.name.line, rule.hold_coil);
-    let parts = [
-        (rule.form.coil, NamedThing::Coil(Some(rule.coil))),
-        (hold_place, hold_coil),
-        (switch_place, NamedThing::Switch(rule.switch)),
-    ];
-    add_as_written(faults, rule.order, &parts)
+    add_as_written(faults, rule.order, &[coil, (hold_place, hold_coil), switch])?;
+    Ok(())
 }
 
 /// Adds the fault of the coil that an entry at this line holds, if it holds one.
