@@ -1,7 +1,8 @@
 -- What has no faults: sections without coil rules, and a coil that a rule does not hold.
-use Rattle.std.proofs.Common.{◌≡◌, ℕ, Bool, true, false, List, [], ◌∷◌, ◌++◌, map, Option, None, Some, option_map, refl}
-use Rattle.std.proofs.{Common.{sym, ap, ◌∙◌}, lemmas.{Bool.{false≢true, or_parts}, Slice.Eq.bytes_eq-Decides}}
-use Rattle.std.specs.{List.flat_map, Str.bytes_eq, Option.is_none, Prelude.unwrap_or}
+use Rattle.std.proofs.Common.{◌≡◌, ℕ, Bool, true, false, if◌then◌else◌, List, [], ◌∷◌, ◌++◌, map, Option, None, Some}
+use Rattle.std.proofs.Common.{not, is_some, option_map, refl, sym, ap, ◌∙◌}
+use Rattle.std.specs.{List.flat_map, Str.bytes_eq, Prelude.unwrap_or}
+use Rattle.std.proofs.lemmas.{Slice.Eq.bytes_eq-Decides, Bool.{false≢true, or_parts}}
 use Rattle.section_tables.specs.Rows.{Entry}
 use Rattle.yaml_subset.specs.Keys.{is_among}
 use Rattle.mpf_tables.specs.SectionTables.{named_in}
@@ -43,14 +44,14 @@ not_rules f section es is =
 
 -- a rule that holds no coil has the faults of its coil and of its switch
 pub no_hold : (machine : List SectionRows) (text : List ℕ) (r : CoilRule) (hold : Option NameAt)
-    → r.hold_coil ≡ option_map name_at_view hold → is_none hold ≡ true
+    → r.hold_coil ≡ option_map name_at_view hold → (none : Bool) → is_some hold ≡ not none → none ≡ true
     → in_order r.order ((r.form.coil, coil_name_faults machine text r.coil)
     ∷ (unwrap_or r.form.switch 0, named_switch_faults machine text r.switch) ∷ [])
     ≡ coil_rule_faults machine text r
-no_hold machine text r None is none =
+no_hold machine text r None is none says holds =
     middle-none r.order r.form.coil (unwrap_or r.form.hold_coil 0) (unwrap_or r.form.switch 0)
     (coil_name_faults machine text r.coil) (named_switch_faults machine text r.switch)
     ∙ ap (λ (hold : Option WrittenName). in_order r.order ((r.form.coil, coil_name_faults machine text r.coil)
     ∷ (unwrap_or r.form.hold_coil 0, hold_faults machine text r.name.line hold)
     ∷ (unwrap_or r.form.switch 0, named_switch_faults machine text r.switch) ∷ [])) (sym is)
-no_hold machine text r (Some w) is none = absurd (false≢true none)
+no_hold machine text r (Some w) is none says holds = absurd (false≢true (sym (says ∙ ap not holds)))
