@@ -18,3 +18,4 @@ pub mod Following
 pub mod Callable
 pub mod Releasing
 pub mod Stopping
+pub mod Marking

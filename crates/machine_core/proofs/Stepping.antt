@@ -1,14 +1,14 @@
 -- What is done at an event that was taken: the machine's work before its handlers, they, and the work after them.
-use Rattle.std.proofs.Common.{rules, ◌≡◌, Bool, Some, None, List, refl, ap, sym, ◌∙◌, subst}
+use Rattle.std.proofs.Common.{rules, ◌≡◌, Bool, false, Some, None, List, filter, refl, ap, sym, ◌∙◌, subst}
 use Rattle.plan_tables.specs.declared.entries.{BindingId.BindingId, EventId.EventId, Work.{Work, TheVariants.Nothing}}
 use Rattle.plan_tables.specs.PlanView.{PlanView, work_of}
 use Rattle.mode_stack.specs.Modes.{running_of}
-use Rattle.event_queue.specs.PlanOrder.{in_order}
+use Rattle.event_queue.specs.{Handlers.runs_at, PlanOrder.{by_priority, in_order}}
 use Rattle.written_machine.specs.{Machine.{Machine, all_do, do_handler}, EventStep.{is_kept, do_before, do_after}}
 use Rattle.written_machine.proofs.{Does.grows-does, Growth.{all_do-grows, handler-grows}, Silence.handlers-still}
 use Rattle.written_machine.proofs.Parts.{does-handlers, does-before, does-after}
 use Rattle.machine_core.specs.Core.{CoreView, CanCall, HasHandlers, IsWithin, after, follow, after_taken}
-use Rattle.machine_core.specs.RareActions.{kept_at}
+use Rattle.machine_core.specs.{Idle.IsIdle, RareActions.kept_at}
 use Rattle.machine_core.proofs.{Following.follow-nothing, Room.room-before, Callable.can-does}
 
 -- ---- whether the machine has work at an event
@@ -108,3 +108,13 @@ module _ (event : EventId) where
         pub none-is : work ≡ Nothing → then ≡ follow (after_taken old.plan event) old
         none-is none = work-is then (follow-nothing then then-handles
             ∙ ap (λ (w : Work). follow (do_after then.plan kept w) then) (sym none))
+
+  -- at an idle event nothing is done
+  pub idle-is : (core : CoreView) → HasHandlers core → IsWithin core.room (after_taken core.plan event core.machine)
+      → IsIdle core.plan event → core ≡ follow (after_taken core.plan event) core
+  idle-is core handles room idle =
+      let plan = core.plan in
+      let running : List Bool = running_of core.machine.modes in
+      none-is core room Nothing (sym idle.no_work) core (follow-nothing core handles) false refl core
+      (ap (λ (places : List BindingId). after (all_do (do_handler plan) (by_priority plan
+      (filter (runs_at plan running) places))) core) (sym idle.unbound)) refl

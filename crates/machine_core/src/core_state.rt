@@ -1,7 +1,7 @@
 //! The state of a machine, with room for the events that wait and the lines.
 
 ghost use Rattle.std.specs.Prelude.{◌≡◌, ◌^◌, ◌<◌, ◌≤◌, ℕ, [], None, Some, true, false, IfOk, IfSome, IsSome, is_some};
-ghost use Rattle.std.specs.Prelude.{length, map, option_map, replicate, slice_get, slice_set, vec_capacity};
+ghost use Rattle.std.specs.Prelude.{IsTrue, length, map, option_map, replicate, slice_get, slice_set, vec_capacity};
 ghost use Rattle.event_queue.specs.Handlers.{none_running};
 ghost use Rattle.event_queue.specs.Queue.{empty};
 ghost use Rattle.event_queue.specs.Alarms.{least_of};
@@ -31,6 +31,7 @@ ghost use Rattle.machine_core.specs.Core.{play_event, IsWorkOfGame};
 ghost use Rattle.written_machine.specs.NextAlarm.{next_alarm, is_due_by, first_of};
 ghost use Rattle.written_machine.specs.Run.{switch as of_switch, device as of_device};
 ghost use Rattle.machine_core.specs.Core.{IsWithin, IsWhole, TakesFirst, after};
+ghost use Rattle.machine_core.specs.Idle.{AreIdle, IsIdle};
 ghost use Rattle.machine_core.specs.Stimuli.{alarm_view};
 ghost use Rattle.machine_core.specs.Stopping.{stopped_state};
 
@@ -38,6 +39,7 @@ use crate::balls::{BallCall, book, counts_of, home};
 use crate::exchange::put_in_place;
 use crate::fault::CoreFault;
 use crate::fit::first_wrong;
+use crate::idle::idle_events;
 use crate::stimulus::Source;
 use ball_devices::BallLedger;
 use coil_guard::{Answer, Coils, Command};
@@ -79,6 +81,8 @@ pub struct Core<'p, D: Device> {
     queue: Queue,
     handlers: Handlers<'p>,
     lines: Vec<Line>,
+    /// For each event of the plan whether it is idle.
+    idle: Vec<bool>,
 }
 
 impl<'p, D: Device> Model for Core<'p, D> {
@@ -113,7 +117,7 @@ impl<'p, D: Device> Model for Core<'p, D> {
     ghost invariant = { λ c.
         FitTogether c.plan.now c.modes c.handlers c.players c.game c.ledger (map D.row_of c.devices.items)
         (map D.state_of c.devices.items)
-        c.alarms c.queue (vec_capacity c.lines) };
+        c.alarms c.queue (vec_capacity c.lines) c.idle.items };
 }
 
 /// The switches, the modes, the coils, the ledger and the players of a plan, at first.
@@ -154,10 +158,11 @@ struct WaitingParts<'p> {
     queue: Queue,
     handlers: Handlers<'p>,
     lines: Vec<Line>,
+    idle: Vec<bool>,
 }
 
 /// Nothing is due and no event waits, and the machine alone handles events. There is room for so
-/// many events that wait, and so many lines.
+/// many events that wait, and so many lines. The idle events are marked.
 fn waiting_parts<'p>(
     alloc: Global,
     plan: &'p Plan,
@@ -168,16 +173,19 @@ fn waiting_parts<'p>(
     ensures handlers { IfOk result (λ w. w.handlers ≡ record { plan = plan.now; running = none_running plan.now }) }
     ensures lines { IfOk result (λ w. w.lines.items ≡ []) }
     ensures room { IfOk result (λ w. room ≤ vec_capacity w.lines) }
+    ensures idle { IfOk result (λ w. AreIdle plan.now w.idle.items) }
 {
     let lines = room_for_lines(alloc, room)?;
     let queue = Queue::new(alloc, room)?;
     let alarms = Alarms::new(alloc, plan.rows().len() as u16)?;
     let handlers = Handlers::new(alloc, plan)?;
+    let idle = idle_events(alloc, plan)?;
     Ok(WaitingParts {
         alarms,
         queue,
         handlers,
         lines,
+        idle,
     })
 }
 
@@ -247,6 +255,7 @@ impl<'p, D: Device> Core<'p, D> {
             queue: waiting.queue,
             handlers: waiting.handlers,
             lines: waiting.lines,
+            idle: waiting.idle,
         })
     }
 
@@ -338,6 +347,13 @@ impl<'p, D: Device> Core<'p, D> {
         ensures { TakesFirst result self.old self.new }
     {
         self.queue.take()
+    }
+
+    /// Whether it is known that nothing is done at an event, whatever modes run.
+    pub(crate) fn is_idle(&self, event: EventId) -> bool
+        ensures { IsTrue result → IsIdle self.now.plan event }
+    {
+        self.idle.get(event.0 as usize).copied().unwrap_or(false)
     }
 
     /// The place of the `k`-th handler of an event, counted from 0, in plan order. None if the

@@ -10,6 +10,7 @@ mod exchange;
 pub mod fault;
 mod fit;
 mod game_steps;
+mod idle;
 mod lists;
 pub mod parts;
 pub mod stimulus;

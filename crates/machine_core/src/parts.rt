@@ -174,10 +174,26 @@ pub fn advance<D: Device>(core: &mut Core<'_, D>) -> bool
     }
 }
 
-/// What is done at an event that was taken: the machine's work before its handlers, its handlers,
-/// and the work after them. At most events the machine has none: then little is kept while the
-/// handlers run.
+/// What is done at an event that was taken: nothing if it is idle, as many are.
+// Inlined, so that an idle event takes no call.
+#[inline(always)]
 fn take_step<D: Device>(core: &mut Core<'_, D>, event: EventId)
+    requires handlers { HasHandlers core.old }
+    requires calls { CanCall core.old }
+    requires room { IsWithin core.old.room (after_taken core.old.plan event core.old.machine) }
+    ensures { core.new ≡ follow (after_taken core.old.plan event) core.old }
+{
+    if core.is_idle(event) {
+        return;
+    }
+    run_step(core, event);
+}
+
+/// What is done at an event, whether it is idle or not: the machine's work before its handlers, its
+/// handlers, and the work after them. At most events the machine has none: then little is kept while
+/// the handlers run.
+#[inline(never)]
+fn run_step<D: Device>(core: &mut Core<'_, D>, event: EventId)
     requires handlers { HasHandlers core.old }
     requires calls { CanCall core.old }
     requires room { IsWithin core.old.room (after_taken core.old.plan event core.old.machine) }

@@ -33,6 +33,7 @@ invariant_of-self g c =
           ∙ sym (ap (map due_of) (map-set state items r.0 device)
           ∙ map-set due_of (map state items) r.0 (state device));
       lines_fit = was.lines_fit;
+      idle_are = was.idle_are;
     }
 
 pub returns-clause-state : goal.returns-clause-state
