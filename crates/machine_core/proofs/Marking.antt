@@ -6,9 +6,6 @@ use Rattle.plan_tables.specs.PlanView.{PlanView}
 use Rattle.machine_core.specs.Idle.{AreIdle, IsIdle}
 
 module _ (plan : PlanView) where
-  pub none-marked : AreIdle plan []
-  none-marked e marked = absurd (false≢true marked)
-
   -- the next event is marked or not
   pub one-marked : (marks : List Bool) (n : ℕ) (mark : Bool) → length marks ≡ n → AreIdle plan marks
       → (mark ≡ true → IsIdle plan (record { 0 = n })) → AreIdle plan (marks ++ mark ∷ [])
