@@ -16,15 +16,15 @@ module _ (old new : List BallSwitch) (i : ℕ) (b : BallSwitch) (within : i < le
 
   same-here : get_or new i b ≡ get_or old i b
   same-here =
-      ap (λ (k : ℕ). get_or new k b) (omega arith) ∙ sym (get_or-drop i new 0 b)
-      ∙ ap (λ (bs : List BallSwitch). get_or bs 0 b) is.left
-      ∙ get_or-drop i old 0 b ∙ ap (λ (k : ℕ). get_or old k b) (omega arith)
+      ap (λ k. get_or new k b) (omega arith) ∙ sym (get_or-drop i new 0 b)
+      ∙ ap (λ bs. get_or bs 0 b) is.left
+      ∙ get_or-drop i old 0 b ∙ ap (λ k. get_or old k b) (omega arith)
 
   pub calm-more : IsCalmBelow old (slice_set new i (not_due (get_or new i b))) (i + 1)
   calm-more = record {
     before =
         take_more_set new i (not_due (get_or new i b)) within
-        ∙ ap₂ (λ (bs : List BallSwitch) (c : BallSwitch). bs ++ not_due c ∷ []) is.before same-here
+        ∙ ap₂ (λ bs c. bs ++ not_due c ∷ []) is.before same-here
         ∙ sym (map_more not_due old i b within-old);
     left = drop-set-lt (i + 1) new i (not_due (get_or new i b)) (omega arith) ∙ drop_more_same new old i is.left;
   }

@@ -16,7 +16,7 @@ use Rattle.device_objects.specs.BallDevice.{count, count_due, fire, fire_part, r
 use Rattle.device_objects.specs.{BallDevice.{ball_step, moments}, Laws.{IsDoneIn, IsFirstPartOf, FiresFirstPartOf}}
 use Rattle.device_objects.proofs.BallDue.{not_due-none, first_due-none, first_due-is_due, first_due-is_first}
 use Rattle.device_objects.proofs.BallDue.{first_due-is_lowest, due-inside, part-of_switch, part-of_attempt, part-past}
-use Rattle.device_objects.proofs.BallDue.{switch-is_part, which_part}
+use Rattle.device_objects.proofs.{BallDue.{switch-is_part, which_part}, Parts.IsDueWithItsParts}
 
 -- ---- what a step arms
 
@@ -150,7 +150,7 @@ part-one s (Some a) (Some t) at over =
       | inr after ↦ (a.1, first-is_part s a at ∙ ap Some (omega (arith, after)))
     ]
 
-pub ball-parts_one : (s : BallState) → IfSome (due_of s) (λ due. (k : ℕ) × (part_due s k ≡ Some due))
+ball-parts_one : (s : BallState) → IfSome (due_of s) (λ due. (k : ℕ) × (part_due s k ≡ Some due))
 ball-parts_one s = part-one s (first_due s) (timeout_of s.eject) refl refl
 
 -- ---- what is done when it fires
@@ -250,6 +250,9 @@ first-is_least first timeout = search rules
 pub ball-parts_first : (s : BallState)
     → IfSome (due_of s) (λ due. (k other : ℕ) → part_due s k ≡ Some other → due ≤ other)
 ball-parts_first s = search (rules, IfSome_then, first-is_least, part-is)
+
+pub ball_moments-lawful : (s : BallState) → IsDueWithItsParts (moments s)
+ball_moments-lawful s = record { none = ball-parts_none s; one = ball-parts_one s; first = ball-parts_first s }
 
 pub ball-parts_few : (s : BallState) (k : ℕ) → length s.switches ≡ 16 → 17 ≤ k → part_due s k ≡ None
 ball-parts_few s k long past = part-past s.switches (timeout_of s.eject) k (omega (arith, long, past))

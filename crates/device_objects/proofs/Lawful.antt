@@ -1,18 +1,18 @@
 -- Every kind is lawful, and so are devices.
-use Rattle.std.{proofs.Common.{rules, ◌≡◌, ℕ, ◌<◌, ◌≤◌, None, Some, IfSome}, specs.List.All}
+use Rattle.std.{proofs.Common.{rules, ℕ, ◌<◌}, specs.List.All}
 use Rattle.plan_tables.specs.{declared.devices.Settings.Settings, Devices.{IsWithinLimits, list_count}}
 use Rattle.plan_tables.specs.declared.devices.Settings.TheVariants as kinds
 use Rattle.device_objects.specs.declared.{device.Call.Call, state.{DeviceState.DeviceState, World.World}}
-use Rattle.device_objects.specs.{Kinds.{kind_of, moments_of}, DeviceStep.{device_step, due_of, part_due}}
+use Rattle.device_objects.specs.{Kinds.{kind_of, moments_of}, DeviceStep.device_step}
 use Rattle.device_objects.specs.Laws.{AnswersAreOutcomes, ArmsLaterMoments, DevicesAreDueWithTheirParts, FirstPartsFire}
 use Rattle.device_objects.specs.Laws.{IsLawful, NothingIsDue, OutcomesAreOfTheRow, OutcomesComeAbout}
 use Rattle.device_objects.specs.Laws.{StatesKeepTheirShape, StopsAreSilent}
 use Rattle.device_objects.proofs.{Counters.counters-lawful, Flippers.flippers-lawful}
 use Rattle.device_objects.proofs.{Accruals.accruals-lawful, Saves.ball_saves-lawful}
 use Rattle.device_objects.proofs.{Sequences.sequences-lawful, Multiballs.multiballs-lawful}
-use Rattle.device_objects.proofs.{Timers.timers-lawful, Banks.banks-lawful}
+use Rattle.device_objects.proofs.{Timers.timers-lawful, Banks.banks-lawful, BallMoments.ball_moments-lawful}
 use Rattle.device_objects.proofs.{Autofires.autofires-lawful, Balls.ball_devices-lawful}
-use Rattle.device_objects.proofs.BallMoments.{ball-parts_none, ball-parts_one, ball-parts_first}
+use Rattle.device_objects.proofs.Parts.{IsDueWithItsParts, never-lawful, one_part-lawful}
 use Rattle.device_objects.specs.declared.state.DeviceState.TheVariants as states
 
 pub kinds_are_lawful : (settings : Settings)
@@ -63,19 +63,15 @@ nothing_is_due = record { first = λ s. (kinds_are_lawful s).quiet; stop = λ s.
 
 -- ---- moments
 
--- while a device is not due, none of its parts is; while it is, one is due at the same moment, and none before
-pub parts-none : (state : DeviceState) → due_of state ≡ None → (k : ℕ) → part_due state k ≡ None
-parts-none state is k = search (rules, ball-parts_none)
-
-pub parts-one : (state : DeviceState) → IfSome (due_of state) (λ due. (k : ℕ) × (part_due state k ≡ Some due))
-parts-one (states.BallDevice s) = ball-parts_one s
-parts-one state = search rules
-
-pub parts-first : (state : DeviceState)
-    → IfSome (due_of state) (λ due. (k other : ℕ) → part_due state k ≡ Some other → due ≤ other)
-parts-first (states.BallDevice s) = ball-parts_first s
-parts-first state = search rules
+-- the device is due with its parts, whatever its state
+moments_are_lawful : (state : DeviceState) → IsDueWithItsParts (moments_of state)
+moments_are_lawful (states.BallDevice s) = ball_moments-lawful s
+moments_are_lawful state = search (rules, one_part-lawful, never-lawful)
 
 pub devices_are_due_with_their_parts : DevicesAreDueWithTheirParts
-devices_are_due_with_their_parts =
-    record { none = parts-none; one = parts-one; first = parts-first; few = λ s. (kinds_are_lawful s).few }
+devices_are_due_with_their_parts = record {
+  none = λ state. (moments_are_lawful state).none;
+  one = λ state. (moments_are_lawful state).one;
+  first = λ state. (moments_are_lawful state).first;
+  few = λ s. (kinds_are_lawful s).few;
+}

@@ -18,6 +18,7 @@ pub mod BallDue
 pub mod BallShapes
 pub mod BallAnswers
 pub mod BallAttained
+pub mod Parts
 pub mod BallMoments
 pub mod Balls
 pub mod Saves

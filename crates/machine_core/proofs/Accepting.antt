@@ -15,8 +15,11 @@ module _ (a : Change) (now : CoreView) (room : IsWithin now.room (do_accepted no
   abbrev plan : PlanView
   plan = now.plan
 
+  abbrev begin : Machine → Machine
+  begin = write owners.Machine (lines.Switch a.switch a.active)
+
   abbrev begun : Machine
-  begun = write owners.Machine (lines.Switch a.switch a.active) now.machine
+  begun = begin now.machine
 
   abbrev told : Machine
   told = tell_listeners plan a begun
@@ -50,8 +53,7 @@ module _ (a : Change) (now : CoreView) (room : IsWithin now.room (do_accepted no
             { moment = s.moment; owner = owners.Machine; happening = lines.Switch a.switch a.active } ∷ []),
       )
 
-  module _ (written : CoreView) (written_is : written
-      ≡ after (write owners.Machine (lines.Switch a.switch a.active)) now) (listeners : List Listener)
+  module _ (written : CoreView) (written_is : written ≡ after begin now) (listeners : List Listener)
       (listeners_are : listeners ≡ listeners_of plan a.switch) where
     -- and for what the devices that listen to it are told
     pub told-room : IsWithin written.room (all_do (tell_listener written.plan a.active) listeners written.machine)

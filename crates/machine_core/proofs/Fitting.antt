@@ -19,6 +19,20 @@ same-items (x ∷ xs) (y ∷ ys) count each =
     let rest : xs ≡ ys = same-items xs ys (omega (arith, count)) (λ i within. each (suc i) (omega (arith, within))) in
     λ i. first i ∷ rest i
 
+-- the first state of each row
+abbrev firsts : PlanView → List DeviceState
+firsts plan = map (λ (r : DeviceRow). first_state r.settings) plan.rows
+
+firsts-count : (plan : PlanView) → length (firsts plan) ≡ length plan.rows
+firsts-count plan = length-map plan.rows (λ (r : DeviceRow). first_state r.settings)
+
+firsts-at : (plan : PlanView) (i : ℕ) → i < length plan.rows
+    → slice_get (firsts plan) i ≡ Some (first_state (row_at plan (record { 0 = i })).settings)
+firsts-at plan i there =
+    slice_get-get_or (firsts plan) i (first_state no_row.settings) (omega (arith, there, firsts-count plan))
+    ∙ ap Some (get_or-map (λ (r : DeviceRow). first_state r.settings) plan.rows i no_row
+    (first_state no_row.settings) there)
+
 module _ {A : Type 0} (row : A → DeviceRow) (state : A → DeviceState) (plan : PlanView) (devices : List A) where
   abbrev rows : List DeviceRow
   rows = map row devices
@@ -26,35 +40,29 @@ module _ {A : Type 0} (row : A → DeviceRow) (state : A → DeviceState) (plan 
   abbrev states : List DeviceState
   states = map state devices
 
+  -- the row that the device at a number must have
+  abbrev wanted : ℕ → DeviceRow
+  wanted i = row_at plan (record { 0 = i })
+
+  -- what the device at a number has
+  found : {X : Type 0} (f : A → X) (i : ℕ) (d : A) → i < length devices → d ≡ get_or devices i d
+      → slice_get (map f devices) i ≡ Some (f d)
+  found f i d within read =
+      slice_get-get_or (map f devices) i (f d) (omega (arith, within, length-map devices f))
+      ∙ ap Some (get_or-map f devices i d (f d) within ∙ ap f (sym read))
+
   -- the device at a number is right
   pub right-at : (i : ℕ) (d : A) → i < length plan.rows → i < length devices → d ≡ get_or devices i d
-      → row d ≡ row_at plan (record { 0 = i }) → state d ≡ first_state (row_at plan (record { 0 = i })).settings
+      → row d ≡ wanted i → state d ≡ first_state (wanted i).settings
       → IsRight plan rows states i
   right-at i d there within read row_is state_is = record {
     there = there;
-    row = slice_get-get_or rows i (row d) (omega (arith, within, length-map devices row))
-        ∙ ap Some (get_or-map row devices i d (row d) within ∙ ap row (sym read) ∙ row_is);
-    state = slice_get-get_or states i (state d) (omega (arith, within, length-map devices state))
-        ∙ ap Some (get_or-map state devices i d (state d) within ∙ ap state (sym read) ∙ state_is);
+    row = found row i d within read ∙ ap Some row_is;
+    state = found state i d within read ∙ ap Some state_is;
   }
 
-  -- only such a device is right
-  right-row : (i : ℕ) (d : A) → i < length devices → d ≡ get_or devices i d → IsRight plan rows states i
-      → row d ≡ row_at plan (record { 0 = i })
-  right-row i d within read right =
-      same_Some (row d) (row_at plan (record { 0 = i }))
-      (sym (slice_get-get_or rows i (row d) (omega (arith, within, length-map devices row))
-      ∙ ap Some (get_or-map row devices i d (row d) within ∙ ap row (sym read))) ∙ right.row)
-
-  right-state : (i : ℕ) (d : A) → i < length devices → d ≡ get_or devices i d → IsRight plan rows states i
-      → state d ≡ first_state (row_at plan (record { 0 = i })).settings
-  right-state i d within read right =
-      same_Some (state d) (first_state (row_at plan (record { 0 = i })).settings)
-      (sym (slice_get-get_or states i (state d) (omega (arith, within, length-map devices state))
-      ∙ ap Some (get_or-map state devices i d (state d) within ∙ ap state (sym read))) ∙ right.state)
-
   right-there : (i : ℕ) → IsRight plan rows states i → i < length devices
-  right-there i right = let inside = slice_get_within rows i (row_at plan (record { 0 = i })) right.row
+  right-there i right = let inside = slice_get_within rows i (wanted i) right.row
       in omega (arith, inside, length-map devices row)
 
   -- devices that fit are right
@@ -62,12 +70,7 @@ module _ {A : Type 0} (row : A → DeviceRow) (state : A → DeviceState) (plan 
   fit-right fit i there = record {
     there = there;
     row = ap (λ (rs : List DeviceRow). slice_get rs i) fit.rows_are ∙ slice_get-get_or plan.rows i no_row there;
-    state =
-        ap (λ (ss : List DeviceState). slice_get ss i) fit.states_are
-        ∙ slice_get-get_or (map (λ (r : DeviceRow). first_state r.settings) plan.rows) i (first_state no_row.settings)
-        (omega (arith, there, length-map plan.rows (λ (r : DeviceRow). first_state r.settings)))
-        ∙ ap Some (get_or-map (λ (r : DeviceRow). first_state r.settings) plan.rows i no_row
-        (first_state no_row.settings) there);
+    state = ap (λ (ss : List DeviceState). slice_get ss i) fit.states_are ∙ firsts-at plan i there;
   }
 
   -- the first that is not right
@@ -80,9 +83,13 @@ module _ {A : Type 0} (row : A → DeviceRow) (state : A → DeviceState) (plan 
   too-few i past right = let inside = right-there i right in absurd (omega (arith, inside, past))
 
   pub not-right : (i : ℕ) (d : A) → i < length devices → d ≡ get_or devices i d
-      → ¬ ((row d ≡ row_at plan (record { 0 = i })) × (state d ≡ first_state (row_at plan (record { 0 = i })).settings))
+      → ¬ ((row d ≡ wanted i) × (state d ≡ first_state (wanted i).settings))
       → ¬ (IsRight plan rows states i)
-  not-right i d within read other right = other (right-row i d within read right, right-state i d within read right)
+  not-right i d within read other right = other (
+    same_Some (row d) (wanted i) (sym (found row i d within read) ∙ right.row),
+    same_Some (state d) (first_state (wanted i).settings)
+        (sym (found state i d within read) ∙ right.state),
+  )
 
   -- if each row has its device, and there are no more devices, they fit
   module _ (all : (i : ℕ) → i < length plan.rows → IsRight plan rows states i)
@@ -96,20 +103,14 @@ module _ {A : Type 0} (row : A → DeviceRow) (state : A → DeviceState) (plan 
         ]
 
     pub all-fit : IsFit plan rows states
-    all-fit =
-        let first : List DeviceState = map (λ (r : DeviceRow). first_state r.settings) plan.rows in
-        let firsts : length first ≡ length plan.rows = length-map plan.rows (λ (r : DeviceRow). first_state r.settings)
-        in
-        record {
-          rows_are = same-items rows plan.rows (omega (arith, count, length-map devices row))
-              (λ i there. (all i there).row ∙ sym (slice_get-get_or plan.rows i no_row there));
-          states_are = same-items states first (omega (arith, count, firsts, length-map devices state)) (λ i there.
-              let inside : i < length plan.rows = omega (arith, there, firsts) in
-              (all i inside).state
-              ∙ sym (slice_get-get_or first i (first_state no_row.settings) there
-              ∙ ap Some (get_or-map (λ (r : DeviceRow). first_state r.settings) plan.rows i no_row
-              (first_state no_row.settings) inside)));
-        }
+    all-fit = record {
+      rows_are = same-items rows plan.rows (omega (arith, count, length-map devices row))
+          (λ i there. (all i there).row ∙ sym (slice_get-get_or plan.rows i no_row there));
+      states_are =
+          same-items states (firsts plan) (omega (arith, count, firsts-count plan, length-map devices state))
+          (λ i there. let inside : i < length plan.rows = omega (arith, there, firsts-count plan) in
+          (all i inside).state ∙ sym (firsts-at plan i inside));
+    }
 
 -- at first no device is due
 pub first-dues : (rows : List DeviceRow) → map due_of (map (λ (r : DeviceRow). first_state r.settings) rows)

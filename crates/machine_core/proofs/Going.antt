@@ -14,13 +14,14 @@ use Rattle.coil_guard.specs.declared.command.Command.{Command}
 use Rattle.coil_guard.specs.declared.command.Command.TheVariants as commands
 use Rattle.device_objects.specs.declared.device.Call.{Call}
 use Rattle.device_objects.specs.declared.device.Call.TheVariants as calls
-use Rattle.player_game.specs.Players.{PlayersState}
+use Rattle.player_game.specs.{GameStep.GameState, Players.PlayersState}
 use Rattle.switch_core.specs.declared.change.Change.{Change}
-use Rattle.written_machine.specs.{declared.line.Happening.Happening, Moves.{Booked, Turned, Does, one_move, Grows}}
-use Rattle.written_machine.specs.Machine.{Machine, write, post, set_device, set_players, all_do, ask_coil, tell_change}
-use Rattle.written_machine.specs.Machine.{book, drain_if, after_entry, enter_ball, add_balls, do_action_by, do_list_by}
-use Rattle.written_machine.specs.Machine.{do_answer_by, call_row, call_device_by, tell_nobody, told_device, tell_device}
-use Rattle.written_machine.specs.Machine.{tell_first, call_device, ask_ball, end_multiballs, confirm_on_playfield}
+use Rattle.written_machine.specs.{declared.line.Happening.Happening, Machine.confirm_on_playfield}
+use Rattle.written_machine.specs.Moves.{Booked, Turned, Does, one_move, Grows}
+use Rattle.written_machine.specs.Machine.{Machine, write, post, set_device, set_players, set_game, all_do, ask_coil}
+use Rattle.written_machine.specs.Machine.{tell_change, book, drain_if, after_entry, enter_ball, add_balls, do_action_by}
+use Rattle.written_machine.specs.Machine.{do_list_by, do_answer_by, call_row, call_device_by, tell_nobody, told_device}
+use Rattle.written_machine.specs.Machine.{tell_device, tell_first, call_device, ask_ball, end_multiballs}
 use Rattle.written_machine.proofs.Does.{book-by, grows-does, has_devices-does, none-grows, then-grows}
 use Rattle.written_machine.proofs.{Held.asked-count, Growth.{post-grows, asked-grows, told-grows}}
 use Rattle.machine_core.specs.{Core.{CoreView, CanCall, after}, Goes.Goes}
@@ -55,10 +56,10 @@ module _ (plan : PlanView) where
   goes-asked : (owner : Owner) (command : Command) (s : Machine) → Goes plan s (ask_coil owner command s)
   goes-asked owner command s = search (rules, asked-grows, asked-count)
 
-  goes-told : (owner : Owner) (player : ℕ) (v : VariableId) (e : EventId) (value : Option ℤ) (players : PlayersState)
-      (s : Machine)
-      → Goes plan s (tell_change owner player v e value (set_players players s))
-  goes-told owner player v e None players s =
+  -- the players and the game change
+  pub goes-set : (players : PlayersState) (game : GameState) (s : Machine)
+      → Goes plan s (set_players players (set_game game s))
+  goes-set players game s =
       record {
         grows = record {
           lines = omega arith;
@@ -71,6 +72,11 @@ module _ (plan : PlanView) where
         coils = refl;
         devices = λ h. h;
       }
+
+  goes-told : (owner : Owner) (player : ℕ) (v : VariableId) (e : EventId) (value : Option ℤ) (players : PlayersState)
+      (s : Machine)
+      → Goes plan s (tell_change owner player v e value (set_players players s))
+  goes-told owner player v e None players s = goes-set players s.game s
   goes-told owner player v e (Some value) players s =
       let g = told-grows owner player v e (Some value) (set_players players s) in
       record {

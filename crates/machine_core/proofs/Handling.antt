@@ -16,6 +16,9 @@ module _ (running : List Bool) (start now : CoreView) (kept : start.running ≡ 
   abbrev order : List BindingId
   order = in_order start.plan running event
 
+  abbrev all : CoreView
+  all = after (all_do (do_handler start.plan) order) start
+
   pub plan-now : now.plan ≡ start.plan
   plan-now = ap (λ (c : CoreView). c.plan) left
 
@@ -53,21 +56,19 @@ module _ (running : List Bool) (start now : CoreView) (kept : start.running ≡ 
           → IsWithin now.room (do_binding now.plan b now.machine)
       handler-room room =
           subst (λ (c : Binding). IsWithin now.room (do_binding now.plan c now.machine)) binding-is
-          (room-first do_handler handler-grows now (after (all_do (do_handler start.plan) order) start) place
-          (drop (k + 1) order) (drop k order) rest left room)
+          (room-first do_handler handler-grows now all place (drop (k + 1) order) (drop k order) rest left room)
 
       module _ (then : CoreView) (then_is : then ≡ after (do_binding now.plan b) now) where
         pub handler-done : then ≡ after (do_handler now.plan place) now
         handler-done = then_is ∙ ap (λ (c : Binding). after (do_binding now.plan c) now) (sym binding-is)
 
-        pub handler-run : after (all_do (do_handler then.plan) (drop (k + 1) order)) then
-            ≡ after (all_do (do_handler start.plan) order) start
-        handler-run = all_do-first do_handler now then (after (all_do (do_handler start.plan) order) start) place
-            (drop (k + 1) order) (drop k order) rest left handler-done
+        pub handler-run : after (all_do (do_handler then.plan) (drop (k + 1) order)) then ≡ all
+        handler-run = all_do-first do_handler now then all place (drop (k + 1) order) (drop k order) rest left
+            handler-done
 
   -- none is found any more
   pub handlers-end : None ≡ slice_get (in_order now.plan now.running event) k
-      → now ≡ after (all_do (do_handler start.plan) order) start
+      → now ≡ all
   handlers-end none =
       let past : length order ≤ k =
       elim (cases_lt k (length order)) [
@@ -75,8 +76,7 @@ module _ (running : List Bool) (start now : CoreView) (kept : start.running ≡ 
             (sym (found-now None none) ∙ slice_get-get_or order k (record { 0 = 0 }) within))
         | inr past ↦ past
       ] in
-      subst (λ (ps : List BindingId). after (all_do (do_handler now.plan) ps) now
-      ≡ after (all_do (do_handler start.plan) order) start) (drop_all k order past) left
+      subst (λ (ps : List BindingId). after (all_do (do_handler now.plan) ps) now ≡ all) (drop_all k order past) left
 
 -- what a binding of the plan names is in the plan
 pub binding-within : (plan : PlanView) → HasEntries plan → (place : BindingId) (b : Binding)

@@ -19,20 +19,23 @@ module _ (plan : PlanView) where
 
   -- ---- rows, one after another
 
+  abbrev nth : ℕ → RowId
+  nth i = record { 0 = i }
+
   -- those from a number on: the row of the number, and those after it
   rows-more : (i : ℕ) → i < length plan.rows
-      → drop i (row_numbers plan) ≡ record { 0 = i } ∷ drop (i + 1) (row_numbers plan)
+      → drop i (row_numbers plan) ≡ nth i ∷ drop (i + 1) (row_numbers plan)
   rows-more i there =
-      let first : RowId = record { 0 = i } in
+      let first : RowId = nth i in
       drop_more (row_numbers plan) i first (omega (arith, there, length-rows plan))
       ∙ ap (λ (r : RowId). r ∷ drop (i + 1) (row_numbers plan)) (row_of plan i first there)
 
   -- those of them that are meant
-  pub row-first : (test : RowId → Bool) (i : ℕ) → i < length plan.rows → test (record { 0 = i }) ≡ true
-      → filter test (drop i (row_numbers plan)) ≡ record { 0 = i } ∷ filter test (drop (i + 1) (row_numbers plan))
+  pub row-first : (test : RowId → Bool) (i : ℕ) → i < length plan.rows → test (nth i) ≡ true
+      → filter test (drop i (row_numbers plan)) ≡ nth i ∷ filter test (drop (i + 1) (row_numbers plan))
   row-first test i there meant = search (rules, rows-more)
 
-  pub row-other : (test : RowId → Bool) (i : ℕ) → i < length plan.rows → test (record { 0 = i }) ≡ false
+  pub row-other : (test : RowId → Bool) (i : ℕ) → i < length plan.rows → test (nth i) ≡ false
       → filter test (drop i (row_numbers plan)) ≡ filter test (drop (i + 1) (row_numbers plan))
   row-other test i there other = search (rules, rows-more)
 
@@ -44,15 +47,15 @@ module _ (plan : PlanView) where
     abbrev pub first_from : ℕ → Option RowId
     first_from i = find meets (filter meant (drop i (row_numbers plan)))
 
-    pub first-here : (i : ℕ) → i < length plan.rows → (meant (record { 0 = i }) && meets (record { 0 = i })) ≡ true
-        → first_from i ≡ Some (record { 0 = i })
+    pub first-here : (i : ℕ) → i < length plan.rows → (meant (nth i) && meets (nth i)) ≡ true
+        → first_from i ≡ Some (nth i)
     first-here i there both = search (rules, and_parts, row-first)
 
-    pub first-later : (i : ℕ) → i < length plan.rows → (meant (record { 0 = i }) && meets (record { 0 = i })) ≡ false
+    pub first-later : (i : ℕ) → i < length plan.rows → (meant (nth i) && meets (nth i)) ≡ false
         → first_from i ≡ first_from (i + 1)
-    first-later i there neither = by (meant (record { 0 = i })) (meets (record { 0 = i })) refl refl neither
+    first-later i there neither = by (meant (nth i)) (meets (nth i)) refl refl neither
       where
-        by : (m t : Bool) → meant (record { 0 = i }) ≡ m → meets (record { 0 = i }) ≡ t → (m && t) ≡ false
+        by : (m t : Bool) → meant (nth i) ≡ m → meets (nth i) ≡ t → (m && t) ≡ false
             → first_from i ≡ first_from (i + 1)
         by x1 x2 is of h = search (rules, row-first, row-other)
 

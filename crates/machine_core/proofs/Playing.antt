@@ -12,7 +12,7 @@ use Rattle.written_machine.specs.Machine.{Machine, all_do, ask_ball, do_game, dr
 use Rattle.written_machine.specs.Machine.{first_active_save, post_game, step_game, write_finals}
 use Rattle.machine_core.specs.{Core.{CoreView, CanCall, IsWithin, IsWorkOfGame, after, play_event, step_at}, Goes.Goes}
 use Rattle.machine_core.proofs.Going.{goes-none, goes-then, goes-can, goes-all, goes-post, goes-write, goes-call}
-use Rattle.machine_core.proofs.{Going.{goes-ask, goes-end}, Room.room-before}
+use Rattle.machine_core.proofs.{Going.{goes-ask, goes-end, goes-set}, Room.room-before}
 
 -- ---- what is told, asked and posted
 
@@ -25,22 +25,6 @@ module _ (plan : PlanView) where
   goes-events events s = goes-all plan (post_game plan) (λ e t. goes-post plan owners.Machine (game_event plan e) t)
       events s
 
-  -- the game goes on
-  goes-gone : (which : GameEvent) (s : Machine) → Goes plan s (play_event plan which s)
-  goes-gone which s =
-      record {
-        grows = record {
-          lines = omega arith;
-          waiting = omega arith;
-          known = omega arith;
-          bookings = omega arith;
-        };
-        modes = refl;
-        moment = refl;
-        coils = refl;
-        devices = λ h. h;
-      }
-
   pub goes-step : (which : GameEvent) (s : Machine) → Goes plan s (step_game plan which s)
   goes-step which s =
       let step = step_at plan which s in
@@ -48,7 +32,8 @@ module _ (plan : PlanView) where
       let told = write_finals plan step.finals gone in
       let asked = ask_ball plan step.requests told in
       goes-then plan s asked (step_game plan which s)
-      (goes-then plan s told asked (goes-then plan s gone told (goes-gone which s) (goes-finals step.finals gone))
+      (goes-then plan s told asked
+      (goes-then plan s gone told (goes-set plan step.players step.game s) (goes-finals step.finals gone))
       (goes-ask plan step.requests told))
       (goes-events step.posts asked)
 

@@ -25,6 +25,9 @@ all_do-append f [] ys s = refl
 all_do-append f (x ∷ xs) ys s = all_do-append f xs ys (f x s)
 
 module _ (plan : PlanView) (owner : Owner) where
+  abbrev all_off : Machine → Machine
+  all_off = release_coils plan owner
+
   -- ---- coils that it does not hold stay
 
   not-released : (c : CoilId) (s : Machine) → is_held_by owner (coil_at s.coils c) ≡ false → release_coil owner c s ≡ s
@@ -56,23 +59,22 @@ module _ (plan : PlanView) (owner : Owner) where
   -- ---- the lowest that it holds
 
   module _ (s : Machine) (all : length s.coils ≡ length plan.coils) where
+    abbrev is_held : CoilId → Bool
+    is_held c = is_held_by owner (coil_at s.coils c)
+
+    lowest : (o : Option CoilId) → o ≡ next_held owner s.coils → IsLowest is_held (length s.coils) o
+    lowest o first = subst (IsLowest is_held (length s.coils)) (sym first) (lowest-is is_held (length s.coils))
+
     -- if there is none, nothing is turned off
-    pub released-end : None ≡ next_held owner s.coils → release_coils plan owner s ≡ s
+    pub released-end : None ≡ next_held owner s.coils → all_off s ≡ s
     released-end none =
-        let test = λ (c : CoilId). is_held_by owner (coil_at s.coils c) in
-        let not : IsLowest test (length s.coils) None =
-        subst (IsLowest test (length s.coils)) (sym none) (lowest-is test (length s.coils)) in
         ap (λ cs. all_do (release_coil owner) cs s)
         (sym (take_all (length plan.coils) (coil_numbers plan) (omega (arith, count))))
-        ∙ none-below (length plan.coils) s (omega arith) (λ c below. not c (omega (arith, below, all)))
+        ∙ none-below (length plan.coils) s (omega arith) (λ c below. lowest None none c (omega (arith, below, all)))
 
     module _ (coil : CoilId) (first : Some coil ≡ next_held owner s.coils) where
-      test : CoilId → Bool
-      test c = is_held_by owner (coil_at s.coils c)
-
-      is : IsLowest (λ c. is_held_by owner (coil_at s.coils c)) (length s.coils) (Some coil)
-      is = subst (IsLowest (λ c. is_held_by owner (coil_at s.coils c)) (length s.coils)) (sym first)
-          (lowest-is (λ c. is_held_by owner (coil_at s.coils c)) (length s.coils))
+      is : IsLowest is_held (length s.coils) (Some coil)
+      is = lowest (Some coil) first
 
       there : coil.0 < length plan.coils
       there = let h = is.0 in omega (arith, h, all)
@@ -104,12 +106,12 @@ module _ (plan : PlanView) (owner : Owner) where
           ∙ ap (λ (c : CoilId). c ∷ drop (coil.0 + 1) ns) (number-at coil.0 coil there))
 
       -- it is turned off first, and then the others
-      pub released-first : release_coils plan owner s ≡ release_coils plan owner let_go
+      pub released-first : all_off s ≡ all_off let_go
       released-first =
           search
           (rules, coil, split, all_do-append, none-below, there, is, cond-true, asked-is, not-released, own, others)
 
-  release-grows : (s : Machine) → Grows s (release_coils plan owner s)
+  release-grows : (s : Machine) → Grows s (all_off s)
   release-grows s = all_do-grows (release_coil owner) (λ c t. by c t (is_held_by owner (coil_at t.coils c)))
       (coil_numbers plan) s
     where
@@ -121,18 +123,18 @@ module _ (plan : PlanView) (owner : Owner) where
 
   -- the coils that are held now, turned off now, are all, turned off at the start
   pub record IsReleasing (start now : CoreView) : Type 0 where
-    pub left : after (release_coils plan owner) now ≡ after (release_coils plan owner) start
+    pub left : after all_off now ≡ after all_off start
     pub all : length now.machine.coils ≡ length plan.coils
 
   module _ (start now : CoreView) (h : IsReleasing start now) where
     pub releasing-end : None ≡ answer_release owner now.machine.moment now.machine.coils → (last : CoreView)
         → last ≡ after (λ s. set_coils (after_release owner s.moment s.coils) s) now
-        → last ≡ after (release_coils plan owner) start
+        → last ≡ after all_off start
     releasing-end none last last_is =
         by (next_held owner now.machine.coils) refl none
       where
         by : (o : Option CoilId) → o ≡ next_held owner now.machine.coils → None ≡ option_map Disable o
-            → last ≡ after (release_coils plan owner) start
+            → last ≡ after all_off start
         by None e n =
             last_is
             ∙ ap (λ (o : Option CoilId). after (set_coils (put_off_now o)) now) (sym e)
@@ -176,7 +178,7 @@ module _ (plan : PlanView) (owner : Owner) where
         pub releasing-next : IsReleasing start written
         releasing-next = record {
           left =
-              ap (after (release_coils plan owner)) gone-is
+              ap (after all_off) gone-is
               ∙ ap (λ (t : Machine). record now { machine = t })
               (sym (released-first now.machine h.all next.coil next.first))
               ∙ h.left;
@@ -184,18 +186,19 @@ module _ (plan : PlanView) (owner : Owner) where
               ∙ length-set now.machine.coils next.coil.0 (disable_coil (coil_at now.machine.coils next.coil)) ∙ h.all;
         }
 
-        module _ (room : IsWithin start.room (release_coils plan owner start.machine)) where
+        one-more : length gone.lines ≡ length now.machine.lines + 1
+        one-more = length-append now.machine.lines
+            (record { moment = now.machine.moment; owner = owner; happening = lines.Coil (Disable next.coil) } ∷ [])
+
+        module _ (room : IsWithin start.room (all_off start.machine)) where
           room-next : length now.machine.lines < now.room
           room-next =
-              let same : IsWithin now.room (release_coils plan owner now.machine) =
+              let same : IsWithin now.room (all_off now.machine) =
               subst (λ (v : CoreView). IsWithin v.room v.machine) (sym h.left) room in
               let fits = same.lines in
               let grown = (release-grows gone).lines in
               let one = ap (λ (t : Machine). length t.lines) (released-first now.machine h.all next.coil next.first) in
-              let last = length-append now.machine.lines
-              (record { moment = now.machine.moment; owner = owner; happening = lines.Coil (Disable next.coil) }
-              ∷ []) in
-              omega (arith, fits, grown, one, last)
+              omega (arith, fits, grown, one, one-more)
 
           pub releasing-room : length released.machine.lines < released.room
           releasing-room = subst (λ (v : CoreView). length v.machine.lines < v.room) (sym released_is) room-next
@@ -203,11 +206,8 @@ module _ (plan : PlanView) (owner : Owner) where
           pub releasing-smaller : written.room - length written.machine.lines < now.room - length now.machine.lines
           releasing-smaller =
               let fits = room-next in
-              let last = length-append now.machine.lines
-              (record { moment = now.machine.moment; owner = owner; happening = lines.Coil (Disable next.coil) }
-              ∷ []) in
               subst (λ (v : CoreView). v.room - length v.machine.lines < now.room - length now.machine.lines)
-              (sym gone-is) (omega (arith, fits, last))
+              (sym gone-is) (omega (arith, fits, one-more))
 
 -- ---- a mode stops
 

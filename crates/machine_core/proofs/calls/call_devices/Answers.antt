@@ -22,15 +22,13 @@ call_device-requires-clause-room g c =
     let owner = owners.Mode c.args.mode in
     let i = c.loop-row.row-index in
     let rows = c.rows_of_mode-rows.result.now in
-    let is : rows ≡ rows_of plan owner = c.rows_of_mode-rows.ensures.rows
+    let is = c.rows_of_mode-rows.ensures.rows
     ∙ ap (λ (p : PlanView). rows_of p owner) c.plan.ensures in
-    let first : drop i (rows_of plan owner) ≡ get_or rows i none ∷ drop (i + 1) (rows_of plan owner) =
-    subst (λ (rs : List RowId). drop i rs ≡ get_or rows i none ∷ drop (i + 1) rs) is
+    let first = subst (λ (rs : List RowId). drop i rs ≡ get_or rows i none ∷ drop (i + 1) rs) is
     (drop_more rows i none c.loop-row-test.true) in
     room-first (λ (p : PlanView). call_device p call)
     (λ (p : PlanView) (r : RowId) (s : Machine). (goes-call p call r s).grows) c.loop-row.core
-    (after (call_devices plan call c.args.mode) c.args.core.now)
-    (get_or rows i none) (drop (i + 1) (rows_of plan owner)) (drop i (rows_of plan owner)) first c.loop-row.invariant.0
+    _ _ _ _ first c.loop-row.invariant.0
     c.requires.room
 
 pub loop-row-preserved : goal.loop-row-preserved
@@ -41,15 +39,12 @@ loop-row-preserved g c =
     let owner = owners.Mode c.args.mode in
     let i = c.loop-row.row-index in
     let rows = c.rows_of_mode-rows.result.now in
-    let is : rows ≡ rows_of plan owner = c.rows_of_mode-rows.ensures.rows
+    let is = c.rows_of_mode-rows.ensures.rows
     ∙ ap (λ (p : PlanView). rows_of p owner) c.plan.ensures in
-    let first : drop i (rows_of plan owner) ≡ get_or rows i none ∷ drop (i + 1) (rows_of plan owner) =
-    subst (λ (rs : List RowId). drop i rs ≡ get_or rows i none ∷ drop (i + 1) rs) is
+    let first = subst (λ (rs : List RowId). drop i rs ≡ get_or rows i none ∷ drop (i + 1) rs) is
     (drop_more rows i none c.loop-row-test.true) in (
       all_do-first (λ (p : PlanView). call_device p call) c.loop-row.core c.call_device.new.core
-          (after (call_devices plan call c.args.mode) c.args.core.now)
-          (get_or rows i none) (drop (i + 1) (rows_of plan owner)) (drop i (rows_of plan owner)) first
-          c.loop-row.invariant.0 c.call_device.ensures,
+          _ _ _ _ first c.loop-row.invariant.0 c.call_device.ensures,
       call-calls call (get_or rows i none) c.loop-row.core c.call_device.new.core c.call_device.ensures
           c.loop-row.invariant.1,
     )

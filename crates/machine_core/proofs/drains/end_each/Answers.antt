@@ -23,16 +23,13 @@ call_device-requires-clause-room g c =
     let same = ap (λ (p : PlanView). length p.rows) c.plan-plan.ensures in
     let there : i < length plan.rows = omega
     (arith, same, c.loop-number-test.true, ap (λ rows. length rows) c.rows-number-end.ensures.rows) in
-    let row_is : c.row.result ≡ row_at plan (record { 0 = i }) = c.row.ensures.row
+    let row_is = c.row.ensures.row
     ∙ ap (λ (p : PlanView). row_at p (record { 0 = i })) c.plan-plan.ensures in
-    let meant : multiplies plan (record { 0 = i }) ≡ true =
-    ap (λ (row : DeviceRow). is_multiball row.settings) (sym row_is) ∙ sym c.is_multiball.ensures
+    let meant = ap (λ (row : DeviceRow). is_multiball row.settings) (sym row_is) ∙ sym c.is_multiball.ensures
     ∙ c.if-is_multiball.true in
     room-first (λ (p : PlanView). call_device p call)
     (λ (p : PlanView) (r : RowId) (s : Machine). (goes-call p call r s).grows) c.loop-number.core
-    (after (all_do (call_device plan call) (multiball_rows plan)) c.args.core.now)
-    (record { 0 = i }) (multiballs_from plan (i + 1)) (multiballs_from plan i)
-    (row-first plan (multiplies plan) i there meant) c.loop-number.invariant.0 c.requires.room
+    _ _ _ _ (row-first plan (multiplies plan) i there meant) c.loop-number.invariant.0 c.requires.room
 
 pub loop-number-preserved : goal.loop-number-preserved
 loop-number-preserved g c =
@@ -40,19 +37,17 @@ loop-number-preserved g c =
     let i = c.loop-number.number in
     let call = calls.Act End in
     let all = after (all_do (call_device plan call) (multiball_rows plan)) c.args.core.now in
-    let left = multiballs_from plan i in
     let rest = multiballs_from plan (i + 1) in
     let same = ap (λ (p : PlanView). length p.rows) c.plan-plan.ensures in
     let there : i < length plan.rows = omega
     (arith, same, c.loop-number-test.true, ap (λ rows. length rows) c.rows-number-end.ensures.rows) in
-    let row_is : c.row.result ≡ row_at plan (record { 0 = i }) = c.row.ensures.row
+    let row_is = c.row.ensures.row
     ∙ ap (λ (p : PlanView). row_at p (record { 0 = i })) c.plan-plan.ensures in
-    let is : multiplies plan (record { 0 = i }) ≡ c.is_multiball.result =
-    ap (λ (row : DeviceRow). is_multiball row.settings) (sym row_is) ∙ sym c.is_multiball.ensures in
+    let is = ap (λ (row : DeviceRow). is_multiball row.settings) (sym row_is) ∙ sym c.is_multiball.ensures in
     elim c.if-is_multiball.branch [
       | then-is_multiball w ↦ (
-        all_do-first (λ (p : PlanView). call_device p call) c.loop-number.core c.if-is_multiball.core all
-            (record { 0 = i }) rest left (row-first plan (multiplies plan) i there (is ∙ w.if-is_multiball.true))
+        all_do-first (λ (p : PlanView). call_device p call) c.loop-number.core c.if-is_multiball.core
+            _ _ _ _ (row-first plan (multiplies plan) i there (is ∙ w.if-is_multiball.true))
             c.loop-number.invariant.0
             (w.core-is ∙ w.call_device.ensures),
         call-calls call (record { 0 = i }) c.loop-number.core c.if-is_multiball.core (w.core-is ∙ w.call_device.ensures)

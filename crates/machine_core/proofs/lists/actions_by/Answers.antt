@@ -21,9 +21,7 @@ run_by-requires-clause-room g c =
     let run = λ (p : PlanView) (a : Action). do_action_by p (g.T.Tells.tell p) owner a in
     room-first run (λ (p : PlanView) (a : Action) (s : Machine).
     (goes-action_by p (g.T.Tells.tell p) (c.requires.goes p) owner a s).grows) c.loop-action.core
-    (after (all_do (do_action_by c.args.core.now.plan (g.T.Tells.tell c.args.core.now.plan) owner) actions)
-    c.args.core.now)
-    (get_or actions i none) (drop (i + 1) actions) (drop i actions) (drop_more actions i none c.loop-action-test.true)
+    _ _ _ _ (drop_more actions i none c.loop-action-test.true)
     c.loop-action.invariant.0 c.requires.room
 
 pub loop-action-preserved : goal.loop-action-preserved
@@ -35,9 +33,7 @@ loop-action-preserved g c =
     let i = c.loop-action.action-index in
     let a = get_or actions i none in (
       all_do-first (λ (p : PlanView). do_action_by p (g.T.Tells.tell p) owner) core c.run_by.new.core
-          (after (all_do (do_action_by c.args.core.now.plan (g.T.Tells.tell c.args.core.now.plan) owner) actions)
-          c.args.core.now) a (drop (i + 1) actions) (drop i actions)
-          (drop_more actions i none c.loop-action-test.true) c.loop-action.invariant.0 c.run_by.ensures,
+          _ _ _ _ (drop_more actions i none c.loop-action-test.true) c.loop-action.invariant.0 c.run_by.ensures,
       subst CanCall (sym c.run_by.ensures)
           (goes-can core (do_action_by core.plan (g.T.Tells.tell core.plan) owner a)
           (goes-action_by core.plan (g.T.Tells.tell core.plan) (c.requires.goes core.plan) owner a core.machine)

@@ -28,12 +28,11 @@ actions_by-requires-clause-room g c =
     let k = get_or lists i 0 in
     let core = c.loop-list.core in
     let plan = c.plan-plan.result.now in
-    let is : plan ≡ core.plan = c.plan-plan.ensures ∙ sym (ap (λ (v : CoreView). v.plan) c.loop-list.invariant.0) in
-    let list_is : c.list.result.now ≡ actions_at core.plan (list_of_row core.plan r k) = c.list.ensures.actions
-    ∙ ap (actions_at plan) c.list_of_row.ensures.list ∙ ap (λ (p : PlanView). actions_at p (list_of_row p r k)) is
-    in
-    let owner_is : c.row-owner.result.owner ≡ (row_at core.plan r).owner =
-    ap (λ (row : DeviceRow). row.owner) c.row-owner.ensures.row ∙ ap (λ (p : PlanView). (row_at p r).owner) is in
+    let is = c.plan-plan.ensures ∙ sym (ap (λ (v : CoreView). v.plan) c.loop-list.invariant.0) in
+    let list_is = c.list.ensures.actions ∙ ap (actions_at plan) c.list_of_row.ensures.list
+    ∙ ap (λ (p : PlanView). actions_at p (list_of_row p r k)) is in
+    let owner_is = ap (λ (row : DeviceRow). row.owner) c.row-owner.ensures.row
+    ∙ ap (λ (p : PlanView). (row_at p r).owner) is in
     let run = λ (p : PlanView) (n : ℕ). do_list_by p (g.T.Tells.tell p) (row_at p r).owner (list_of_row p r n) in
     subst (λ (actions : List Action). IsWithin core.room
     (all_do (do_action_by core.plan (g.T.Tells.tell core.plan) c.row-owner.result.owner) actions core.machine))
@@ -42,10 +41,8 @@ actions_by-requires-clause-room g c =
     (all_do (do_action_by core.plan (g.T.Tells.tell core.plan) o) (actions_at core.plan (list_of_row core.plan r k))
     core.machine)) (sym owner_is)
     (room-first run (λ (p : PlanView) (n : ℕ) (s : Machine).
-    (goes-list_by p (g.T.Tells.tell p) (c.requires.goes p) r n s).grows) core
-    (after (do_answer_by c.args.core.now.plan (g.T.Tells.tell c.args.core.now.plan) r lists) c.args.core.now)
-    k (drop (i + 1) lists) (drop i lists) (drop_more lists i 0 c.loop-list-test.true) c.loop-list.invariant.0
-    c.requires.room))
+    (goes-list_by p (g.T.Tells.tell p) (c.requires.goes p) r n s).grows) core _ _ _ _
+    (drop_more lists i 0 c.loop-list-test.true) c.loop-list.invariant.0 c.requires.room))
 
 pub loop-list-preserved : goal.loop-list-preserved
 loop-list-preserved g c =
@@ -55,20 +52,17 @@ loop-list-preserved g c =
     let k = get_or lists i 0 in
     let core = c.loop-list.core in
     let plan = c.plan-plan.result.now in
-    let is : plan ≡ core.plan = c.plan-plan.ensures ∙ sym (ap (λ (v : CoreView). v.plan) c.loop-list.invariant.0) in
-    let list_is : c.list.result.now ≡ actions_at core.plan (list_of_row core.plan r k) = c.list.ensures.actions
-    ∙ ap (actions_at plan) c.list_of_row.ensures.list ∙ ap (λ (p : PlanView). actions_at p (list_of_row p r k)) is
-    in
-    let owner_is : c.row-owner.result.owner ≡ (row_at core.plan r).owner =
-    ap (λ (row : DeviceRow). row.owner) c.row-owner.ensures.row ∙ ap (λ (p : PlanView). (row_at p r).owner) is in
+    let is = c.plan-plan.ensures ∙ sym (ap (λ (v : CoreView). v.plan) c.loop-list.invariant.0) in
+    let list_is = c.list.ensures.actions ∙ ap (actions_at plan) c.list_of_row.ensures.list
+    ∙ ap (λ (p : PlanView). actions_at p (list_of_row p r k)) is in
+    let owner_is = ap (λ (row : DeviceRow). row.owner) c.row-owner.ensures.row
+    ∙ ap (λ (p : PlanView). (row_at p r).owner) is in
     let run = λ (p : PlanView) (n : ℕ). do_list_by p (g.T.Tells.tell p) (row_at p r).owner (list_of_row p r n) in
     let done : c.actions_by.new.core ≡ after (run core.plan k) core =
     c.actions_by.ensures ∙ (λ j. after (all_do (do_action_by core.plan (g.T.Tells.tell core.plan) (owner_is j))
     (list_is j)) core) in (
-      all_do-first run core c.actions_by.new.core
-          (after (do_answer_by c.args.core.now.plan (g.T.Tells.tell c.args.core.now.plan) r lists) c.args.core.now)
-          k (drop (i + 1) lists) (drop i lists) (drop_more lists i 0 c.loop-list-test.true) c.loop-list.invariant.0
-          done,
+      all_do-first run core c.actions_by.new.core _ _ _ _ (drop_more lists i 0 c.loop-list-test.true)
+          c.loop-list.invariant.0 done,
       subst CanCall (sym done) (goes-can core (run core.plan k)
           (goes-list_by core.plan (g.T.Tells.tell core.plan) (c.requires.goes core.plan) r k core.machine)
           c.loop-list.invariant.1),

@@ -30,8 +30,7 @@ call_device-requires-clause-room g c =
     (room-first (λ (p : PlanView). tell_listener p active)
     (λ (p : PlanView) (x : Listener) (s : Machine).
     (goes-call p (calls.Act (act_of_listener active x)) x.row s).grows) core
-    (after (all_do (tell_listener c.args.core.now.plan active) listeners) c.args.core.now) l (drop (i + 1) listeners)
-    (drop i listeners) (drop_more listeners i none c.loop-listener-test.true) c.loop-listener.invariant.0
+    _ _ _ _ (drop_more listeners i none c.loop-listener-test.true) c.loop-listener.invariant.0
     c.requires.room)
 
 pub loop-listener-preserved : goal.loop-listener-preserved
@@ -45,8 +44,7 @@ loop-listener-preserved g c =
     let done : c.call_device.new.core ≡ after (tell_listener core.plan active l) core = c.call_device.ensures
     ∙ ap (λ (a : Act). after (call_device core.plan (calls.Act a) l.row) core) c.act.ensures in (
       all_do-first (λ (p : PlanView). tell_listener p active) core c.call_device.new.core
-          (after (all_do (tell_listener c.args.core.now.plan active) listeners) c.args.core.now)
-          l (drop (i + 1) listeners) (drop i listeners) (drop_more listeners i none c.loop-listener-test.true)
+          _ _ _ _ (drop_more listeners i none c.loop-listener-test.true)
           c.loop-listener.invariant.0 done,
       call-calls (calls.Act (act_of_listener active l)) l.row core c.call_device.new.core done
           c.loop-listener.invariant.1,

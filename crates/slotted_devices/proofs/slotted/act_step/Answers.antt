@@ -12,9 +12,7 @@ returns-in-Some-clause-slots g c =
     slice_get-get_or c.args.slots.now c.in-Some.i c.index-slots-i.result c.if-i-slots.true
     ∙ ap Some (sym c.index-slots-i.is) in
     (seen-step g.K.SlotKind.slot_view (λ slot. m.step c.args.act c.args.now (current m c.args.world slot))
-    c.args.slots.now
-    (slot_in_use m.persist c.args.world) c.in-Some.i c.index-slots-i.result c.step-lists.new.slot
-    c.step-lists.result.items at here
+    c.args.slots.now c.step-lists.new.slot c.step-lists.result.items at here
     (c.step-lists.ensures.slot ∙ ap (λ slot. (m.step c.args.act c.args.now slot).0) c.current-slot.ensures)
     (c.step-lists.ensures.outcome ∙ ap (λ slot. (m.step c.args.act c.args.now slot).1) c.current-slot.ensures)).0
 
@@ -27,8 +25,6 @@ returns-in-Some-clause-outcome g c =
     slice_get-get_or c.args.slots.now c.in-Some.i c.index-slots-i.result c.if-i-slots.true
     ∙ ap Some (sym c.index-slots-i.is) in
     (seen-step g.K.SlotKind.slot_view (λ slot. m.step c.args.act c.args.now (current m c.args.world slot))
-    c.args.slots.now
-    (slot_in_use m.persist c.args.world) c.in-Some.i c.index-slots-i.result c.step-lists.new.slot
-    c.step-lists.result.items at here
+    c.args.slots.now c.step-lists.new.slot c.step-lists.result.items at here
     (c.step-lists.ensures.slot ∙ ap (λ slot. (m.step c.args.act c.args.now slot).0) c.current-slot.ensures)
     (c.step-lists.ensures.outcome ∙ ap (λ slot. (m.step c.args.act c.args.now slot).1) c.current-slot.ensures)).1

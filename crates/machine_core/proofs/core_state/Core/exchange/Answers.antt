@@ -21,9 +21,9 @@ returns-clause-row g c =
     let plan = c.self.inside.plan.now in
     let device = c.args.device in
     let put = c.put_in_place-former in
-    let same_row : row device ≡ row_at plan c.args.row = c.requires.row
+    let same_row = c.requires.row
     ∙ ap (λ (v : CoreView). row_at v.plan c.args.row) (sym c.self.view_is) in
-    let same_state : state device ≡ device_state (map state items) c.args.row = c.requires.state
+    let same_state = c.requires.state
     ∙ ap (λ (v : CoreView). device_at v.machine c.args.row) (sym c.self.view_is) in
     c.stop_one.ensures.row
     ∙ old-row row state plan items c.args.row put.result device c.self.invariant.rows_are put.ensures.takes same_row
@@ -38,9 +38,9 @@ returns-clause-state g c =
     let plan = c.self.inside.plan.now in
     let device = c.args.device in
     let put = c.put_in_place-former in
-    let same_row : row device ≡ row_at plan c.args.row = c.requires.row
+    let same_row = c.requires.row
     ∙ ap (λ (v : CoreView). row_at v.plan c.args.row) (sym c.self.view_is) in
-    let same_state : state device ≡ device_state (map state items) c.args.row = c.requires.state
+    let same_state = c.requires.state
     ∙ ap (λ (v : CoreView). device_at v.machine c.args.row) (sym c.self.view_is) in
     let world : World =
     record {
